@@ -1,0 +1,4 @@
+# The gate.
+.PHONY: test
+test:
+	@.ci/run

@@ -1,0 +1,4 @@
+pub mod Choice
+pub mod Sweep
+pub mod Negs
+pub mod Lists
