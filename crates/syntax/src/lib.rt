@@ -1,0 +1,7 @@
+//! The syntax floor, ISO 9735 version 4 as document 01 reads it: bytes, segments and their parts.
+
+pub mod bytes;
+pub mod limits;
+pub mod segment;
+pub mod parts;
+pub mod values;
