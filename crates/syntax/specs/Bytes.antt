@@ -4,7 +4,7 @@ use Prim.Native.Nat.{ℕ}
 use mathlib.Core.Bool.{Bool, true, false, not}
 use mathlib.Core.List.{List, [], _∷_}
 use lib.Dec.{leb, eqb}
-use Rattle.laws.specs.Choice.{both, among}
+use Rattle.laws.specs.Choice.{both, either, among}
 
 -- "Service characters: `:` component, `+` element, `*` repetition, `?` release, `'` terminator."
 abbrev pub componentMark : ℕ
@@ -57,3 +57,7 @@ unfoldable pub plainText : ℕ → Bool
 plainText b =
     both (permittedOf b)
     (not (among b (componentMark ∷ elementMark ∷ repetitionMark ∷ releaseMark ∷ terminator ∷ [])))
+
+-- a service character that parts one piece of a segment from the next
+unfoldable pub isMark : ℕ → Bool
+isMark b = either (eqb b elementMark) (either (eqb b repetitionMark) (eqb b componentMark))

@@ -5,3 +5,6 @@ pub mod Masks
 pub mod Runs
 pub mod Counts
 pub mod Limits
+pub mod Tags
+pub mod Onward
+pub mod Scan

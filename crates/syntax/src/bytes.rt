@@ -3,7 +3,7 @@
 ghost use mathlib.Core.Path.{_≡_};
 ghost use Prim.Native.Nat.{_+_};
 ghost use lib.ListN.{drop};
-ghost use Rattle.syntax.specs.Bytes.{permittedOf, plainText};
+ghost use Rattle.syntax.specs.Bytes.{permittedOf, plainText, isMark};
 ghost use Rattle.syntax.specs.Runs.{textRun};
 ghost use Rattle.syntax.specs.Masks.{inMask};
 
@@ -54,4 +54,17 @@ pub fn text_end(s: &[u8], from: usize) -> usize
         i += 1;
     }
     i
+}
+
+/// Whether a byte is `+`, `*` or `:`.
+pub fn is_mark(b: u8) -> bool
+    ensures { λ r. ⌜ r ≡ isMark b ⌝ }
+{
+    if b == b'+' {
+        return true;
+    }
+    if b == b'*' {
+        return true;
+    }
+    b == b':'
 }

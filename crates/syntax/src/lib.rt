@@ -2,6 +2,6 @@
 
 pub mod bytes;
 pub mod limits;
-pub mod segment;
 pub mod parts;
+pub mod segment;
 pub mod values;

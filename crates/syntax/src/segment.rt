@@ -1,7 +1,16 @@
-//! The segment that starts at an offset: its end, or what is wrong with it.
+//! The segment that starts at an offset: its end, or what is wrong with it; and its tag.
 
+use crate::bytes::is_mark;
+use crate::bytes::permitted;
+use crate::bytes::text_end;
+use crate::limits::Counts;
 ghost use mathlib.Core.Path.{_≡_};
-ghost use Rattle.syntax.specs.Segment.{segmentAt};
+ghost use mathlib.Core.Bool.{not};
+ghost use Prim.Native.Nat.{_<_};
+ghost use lib.ListN.{drop};
+ghost use Rattle.laws.specs.Choice.{pick, both};
+ghost use Rattle.syntax.specs.Segment.{capital, segmentAt, tagNumber};
+ghost use Rattle.syntax.specs.Tags.{tagCloses, tagAhead};
 
 /// What stands at an offset.
 pub enum Scanned {
@@ -13,4 +22,115 @@ pub enum Scanned {
     Unended,
     /// 6: the tag or a limit.
     Malformed,
+}
+
+fn is_capital(b: u8) -> bool
+    ensures { λ r. ⌜ r ≡ capital b ⌝ }
+{
+    if b < b'A' {
+        return false;
+    }
+    b <= b'Z'
+}
+
+// Whether four bytes are three capital letters and `+` or the terminator.
+fn is_tag(a: u8, b: u8, c: u8, d: u8) -> bool
+    ensures { λ r. ⌜ r ≡ both (capital a) (both (capital b) (both (capital c) (tagCloses d))) ⌝ }
+{
+    if !is_capital(a) {
+        return false;
+    }
+    if !is_capital(b) {
+        return false;
+    }
+    if !is_capital(c) {
+        return false;
+    }
+    if d == b'+' {
+        return true;
+    }
+    d == b'\''
+}
+
+// Whether a segment at an offset begins with a tag.
+fn is_tagged(s: &[u8], at: usize) -> bool
+    ensures { λ r. ⌜ r ≡ tagAhead (drop at (now (s .entry))) ⌝ }
+{
+    if s.len() < 4 {
+        return false;
+    }
+    if s.len() - 4 < at {
+        return false;
+    }
+    is_tag(s[at], s[at + 1], s[at + 2], s[at + 3])
+}
+
+/// The segment that starts at an offset: one pass over its bytes, a run of plain text at a time.
+pub fn read_segment(s: &[u8], at: usize) -> Scanned
+    ensures { λ r. ⌜ r ≡ segmentAt (now (s .entry)) at ⌝ }
+{
+    let tagged = is_tagged(s, at);
+    let mut i = at;
+    let mut counts = Counts::none();
+    while i < s.len() {
+        let j = text_end(s, i);
+        if s.len() <= j {
+            return Scanned::Unended;
+        }
+        let b = s[j];
+        counts = counts.text(j - i);
+        if b == b'\'' {
+            return ended(tagged, counts.over, j);
+        }
+        if b == b'?' {
+            let k = j + 1;
+            if s.len() <= k {
+                return Scanned::Unended;
+            }
+            if !permitted(s[k]) {
+                return Scanned::NotPermitted(k);
+            }
+            counts = counts.text(1);
+            i = k + 1;
+        } else {
+            if !is_mark(b) {
+                return Scanned::NotPermitted(j);
+            }
+            counts = counts.mark(b);
+            i = j + 1;
+        }
+    }
+    Scanned::Unended
+}
+
+// At the terminator.
+fn ended(tagged: bool, over: bool, end: usize) -> Scanned
+    ensures { λ r. ⌜ r ≡ pick (both tagged (not over)) (Scanned.End end) Scanned.Malformed ⌝ }
+{
+    if !tagged {
+        return Scanned::Malformed;
+    }
+    if over {
+        return Scanned::Malformed;
+    }
+    Scanned::End(end)
+}
+
+/// The three bytes at an offset as one number, 0 where there are fewer.
+pub fn tag_at(s: &[u8], at: usize) -> u32
+    ensures { λ r. ⌜ r ≡ tagNumber (drop at (now (s .entry))) ⌝ }
+{
+    if s.len() < 3 {
+        return 0;
+    }
+    if s.len() - 3 < at {
+        return 0;
+    }
+    wide(s[at]) * 65536 + wide(s[at + 1]) * 256 + wide(s[at + 2])
+}
+
+fn wide(b: u8) -> u32
+    ensures { λ r. ⌜ (r ≡ b) × (r < 256) ⌝ }
+{
+    b as u32
 }

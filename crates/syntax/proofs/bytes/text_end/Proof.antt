@@ -32,7 +32,7 @@ returns c =
     let b = c .before .before .before in
     let v = b .before .loop .inv in
     let e = run-ends (now (b .before .before .before .args .s)) (b .before .loop .i) (b .loop-test .taken)
-        (sym (c .before .is-text .ensures) ∙ not-true _ (c .if1 .taken)) in
+    (sym (c .before .is-text .ensures) ∙ not-true _ (c .if1 .taken)) in
     omega arith
 
 add-i : tie.Need-add-i Inv-loop μ-loop
