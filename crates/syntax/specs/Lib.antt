@@ -10,3 +10,4 @@ pub mod Onward
 pub mod Scan
 pub mod Pieces
 pub mod Located
+pub mod Values
