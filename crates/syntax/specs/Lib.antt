@@ -1,5 +1,5 @@
 pub mod Bytes
-pub mod Parts
+pub mod Pieces
 pub mod Segment
 pub mod Masks
 pub mod Runs
@@ -8,6 +8,3 @@ pub mod Limits
 pub mod Tags
 pub mod Onward
 pub mod Scan
-pub mod Pieces
-pub mod Located
-pub mod Values

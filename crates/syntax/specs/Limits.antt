@@ -11,7 +11,7 @@ use borrow.Author.Tests.{le-leb, lt-leb}
 use lib.ListN.{length}
 use Rattle.laws.specs.Choice.{pick, both, all, both-false, both-true}
 use Rattle.syntax.specs.Bytes.{componentMark, elementMark, repetitionMark, plainOn, plain}
-use Rattle.syntax.specs.Parts.{first, later}
+use Rattle.syntax.specs.Pieces.{first, later}
 use Rattle.syntax.specs.Segment.{componentFits, occurrenceFits, elementFits, withinLimits}
 
 -- y goes on an occurrence that has c `:` and whose last component has n characters

@@ -1,159 +1,48 @@
--- The pieces of a text and where they stand in the input.
+-- The parts of a segment: elements, occurrences, components (document 01, "Bytes and segments"; ISO 9735-1).
 -- Assumes nothing.
-use mathlib.Core.Path.{_≡_, refl, sym, ap, _∙_}
+use Prim.Native.Nat.{ℕ, zero, suc}
 use mathlib.Core.Bool.{Bool, true, false}
 use mathlib.Core.List.{List, [], _∷_}
-use Prim.Native.Nat.{ℕ, zero, suc, _+_, _-_, _≤_, _<_, min}
-use mathlib.Core.Logic.{_⊎_, inl, inr, ⊎-elim}
-use native.Mathlib.Omega.{arith}
-use native.Mathlib.Decide.{decLt}
-use native.Mathlib.Nat.{not-suc-le-zero}
-use native.Mathlib.Numerals.{add-one}
-use borrow.Author.Tests.{eqb-true, eq-eqb, ne-eqb, lt-ltb, le-ltb}
-use lib.Dec.{eqb, ltb}
-use lib.ListN.{length, getD, take, drop, length-take, length-drop}
-use lib.Seq.{drop-drop, take-take}
-use Rattle.laws.specs.Choice.{pick, both, both-false, choose}
-use Rattle.laws.specs.Lists.{between, between-cons, drop-take}
-use Rattle.syntax.specs.declared.parts.Part.{Part}
-use Rattle.syntax.specs.Bytes.{stands, releases}
-use Rattle.syntax.specs.Parts.{first, later, pieces, absent, bytesOf, spanOf}
+use lib.ListN.{getD}
+use Rattle.laws.specs.Choice.{pick}
+use Rattle.syntax.specs.Bytes.{componentMark, elementMark, repetitionMark, releases, stands}
 
--- the first piece is what a text begins with
-pub first-take : (c : ℕ) (r : Bool) (l : List ℕ) → first c r l ≡ take (length (first c r l)) l
-unfolding first
-first-take c r [] = refl
-first-take c r (b ∷ l) =
-    choose (stands c r b) (λ q. rw q) (λ q. rw q (ap (λ (x : List ℕ). b ∷ x) (first-take c (releases r b) l)))
+-- the bytes before the first that stands as c, or all; r says whether the first byte is released
+unfoldable pub first : ℕ → Bool → List ℕ → List ℕ
+first c r [] = []
+first c r (b ∷ l) = pick (stands c r b) [] (b ∷ first c (releases r b) l)
 
-pub first-length : (c : ℕ) (r : Bool) (l : List ℕ) → length (first c r l) ≤ length l
-unfolding first
-first-length c r [] = omega arith
-first-length c r (b ∷ l) =
-    choose (stands c r b) (λ q. rw q (omega arith)) (λ q. rw q (let h = first-length c (releases r b) l in omega arith))
+abbrev pub join : Bool → List ℕ → List (List ℕ) → List (List ℕ)
+join true p ps = p ∷ ps
+join false p ps = ps
 
--- and the others are the pieces of what follows it
-after-mark : (c b : ℕ) (r : Bool) → eqb c 63 ≡ false → stands c r b ≡ true → releases r b ≡ false
-after-mark c b true n q = refl
-after-mark c b false n q = rw (eqb-true b c q) n
+-- what follows each byte that stands as c, up to the next
+unfoldable pub later : ℕ → Bool → List ℕ → List (List ℕ)
+later c r [] = []
+later c r (b ∷ l) = join (stands c r b) (first c false l) (later c (releases r b) l)
 
-pub later-split : (c : ℕ) (r : Bool) (l : List ℕ) → eqb c 63 ≡ false → length (first c r l) < length l
-    → later c r l ≡ pieces c (drop (length (first c r l) + 1) l)
-unfolding first later
-later-split c r [] n h = absurd (not-suc-le-zero h)
-later-split c r (b ∷ l) n h =
-    choose (stands c r b) (λ q. rw (q, after-mark c b r n q))
-    (λ q. let g = rw q at h in
-    rw (q, add-one) (rw add-one at (later-split c (releases r b) l n (omega arith))))
+-- a text cut at each byte that stands as c: one piece more than there are such bytes
+abbrev pub pieces : ℕ → List ℕ → List (List ℕ)
+pieces c l = first c false l ∷ later c false l
 
-pub later-none : (c : ℕ) (r : Bool) (l : List ℕ) → length l ≤ length (first c r l) → later c r l ≡ []
-unfolding first later
-later-none c r [] h = refl
-later-none c r (b ∷ l) h =
-    choose (stands c r b) (λ q. let g = rw q at h in absurd (omega arith))
-    (λ q. let g = rw q at h in rw q (later-none c (releases r b) l (omega arith)))
+-- "A segment is a tag .., then elements, then the terminator." g is the segment without its terminator.
+abbrev pub tagOf : List ℕ → List ℕ
+tagOf g = first elementMark false g
 
--- parts of a part
-pub length-part : (s : List ℕ) (a b : ℕ) → length (between s a b) ≡ min (b - a) (length s - a)
-length-part s a b = simp (length-take, length-drop)
+abbrev pub elements : List ℕ → List (List ℕ)
+elements g = later elementMark false g
 
-pub drop-between : (s : List ℕ) (a b k : ℕ) → drop k (between s a b) ≡ between s (a + k) b
-drop-between s a b k =
-    let e : b - a - k ≡ b - (a + k) = omega arith in
-    drop-take k (b - a) (drop a s) ∙ rw (drop-drop, e)
+abbrev pub occurrences : List ℕ → List (List ℕ)
+occurrences element = pieces repetitionMark element
 
-pub take-between : (s : List ℕ) (a b k : ℕ) → a + k ≤ b → take k (between s a b) ≡ between s a (a + k)
-take-between s a b k h =
-    let e : a + k - a ≡ k = omega arith in
-    rw e (take-take k (b - a) (drop a s) (omega arith))
+abbrev pub components : List ℕ → List (List ℕ)
+components occurrence = pieces componentMark occurrence
 
--- where the first piece of a part ends
-abbrev pub endOf : List ℕ → ℕ → ℕ → ℕ → ℕ
-endOf s a b c = a + length (first c false (between s a b))
+-- the n-th, counted from 1 as the paper counts; what is not there is empty
+abbrev pub nth : List (List ℕ) → ℕ → List ℕ
+nth ps zero = []
+nth ps (suc n) = getD ps n []
 
-module _ (s : List ℕ) (a b c : ℕ) (n : eqb c 63 ≡ false) where
-  -- the others are the pieces of what follows, where the first ends before the part does
-  later-at : endOf s a b c < b → endOf s a b c < length s → later c false (between s a b) ≡ pieces c (between s (endOf s a b c + 1) b)
-  later-at h g =
-      let m = length (first c false (between s a b)) in
-      let e : a + (m + 1) ≡ a + m + 1 = omega arith in
-      let l = length-part s a b in
-      later-split c false (between s a b) n (omega arith) ∙ ap (pieces c) (drop-between s a b (m + 1) ∙ ap (λ (x : ℕ). between s x b) e)
-
-  -- and there are none where it does not
-  later-gone : (b ≤ endOf s a b c) ⊎ (length s ≤ endOf s a b c) → later c false (between s a b) ≡ []
-  later-gone h =
-      let l = length-part s a b in
-      later-none c false (between s a b) (⊎-elim (λ g. omega arith) (λ g. omega arith) h)
-
-  pub later-cases : ((later c false (between s a b) ≡ pieces c (between s (endOf s a b c + 1) b)) × (endOf s a b c < b)) ⊎ (later c false (between s a b) ≡ [])
-  later-cases =
-      elim (decLt (endOf s a b c) b) [
-        | yes h ↦ elim (decLt (endOf s a b c) (length s)) [
-          | yes g ↦ inl (later-at h g, h)
-          | no g ↦ inr (later-gone (inr (omega arith)))
-        ]
-        | no h ↦ inr (later-gone (inl (omega arith)))
-      ]
-
-  span-next : (k : ℕ) → endOf s a b c < b → endOf s a b c < length s
-      → spanOf a (pieces c (between s a b)) (suc k) ≡ spanOf (endOf s a b c + 1) (pieces c (between s (endOf s a b c + 1) b)) k
-  unfolding spanOf
-  span-next k h g = ap (λ (ps : List (List ℕ)). spanOf (endOf s a b c + 1) ps k) (later-at h g)
-
-  span-none : (k : ℕ) → (b ≤ endOf s a b c) ⊎ (length s ≤ endOf s a b c) → spanOf a (pieces c (between s a b)) (suc k) ≡ absent
-  unfolding spanOf
-  span-none k h = ap (λ (ps : List (List ℕ)). spanOf (endOf s a b c + 1) ps k) (later-gone h)
-
-  -- the same where e is the place at which the first piece was found to end
-  module _ (k e : ℕ) (q : e ≡ endOf s a b c) where
-    pub span-step : 0 < k → e < b → e < length s
-        → spanOf a (pieces c (between s a b)) k ≡ spanOf (e + 1) (pieces c (between s (e + 1) b)) (k - 1)
-    span-step z h g =
-        let o : k ≡ suc (k - 1) = omega arith in
-        ap (spanOf a (pieces c (between s a b))) o ∙ rw q (span-next (k - 1) (rw q at h) (rw q at g))
-
-    pub span-stop : 0 < k → (b ≤ e) ⊎ (length s ≤ e) → spanOf a (pieces c (between s a b)) k ≡ absent
-    span-stop z h =
-        let o : k ≡ suc (k - 1) = omega arith in
-        ap (spanOf a (pieces c (between s a b))) o ∙ span-none (k - 1) (rw q at h)
-
-    pub span-last : k ≤ 0 → record { from = a; to = e } ≡ spanOf a (pieces c (between s a b)) k
-    unfolding spanOf
-    span-last z =
-        let o : k ≡ 0 = omega arith in
-        rw (o, q)
-
-  -- more than one piece
-  pub several : ltb 1 (length (pieces c (between s a b))) ≡ both (ltb (endOf s a b c) b) (ltb (endOf s a b c) (length s))
-  several =
-      elim (decLt (endOf s a b c) b) [
-        | yes h ↦ elim (decLt (endOf s a b c) (length s)) [
-          | yes g ↦ rw (later-at h g, lt-ltb _ b h, lt-ltb _ (length s) g)
-              (lt-ltb 1 (suc (suc (length (later c false (between s (endOf s a b c + 1) b))))) (omega arith))
-          | no g ↦ rw (later-gone (inr (omega arith)), le-ltb (endOf s a b c) (length s) (omega arith)) (sym (both-false (ltb (endOf s a b c) b)))
-        ]
-        | no h ↦ rw (later-gone (inl (omega arith)), le-ltb (endOf s a b c) b (omega arith))
-      ]
-
--- one byte of a piece at an index of the input
-module _ (s : List ℕ) (i b c : ℕ) where
-  pub piece-past : (r : Bool) → (b ≤ i) ⊎ (length s ≤ i) → length (first c r (between s i b)) ≡ 0
-  piece-past r h =
-      let l = length-part s i b in
-      let f = first-length c r (between s i b) in
-      ⊎-elim (λ g. omega arith) (λ g. omega arith) h
-
-  module _ (h : i < b) (g : i < length s) where
-    pub piece-ends : getD s i 0 ≡ c → length (first c false (between s i b)) ≡ 0
-    unfolding first
-    piece-ends e = rw (between-cons s i b 0 h g, eq-eqb (getD s i 0) c e)
-
-    pub piece-released : i + length (first c true (between s i b)) ≡ i + 1 + length (first c false (between s (i + 1) b))
-    unfolding first
-    piece-released = rw (between-cons s i b 0 h g) (omega arith)
-
-    pub piece-goes : (getD s i 0 ≡ c → ⊥)
-        → i + length (first c false (between s i b)) ≡ i + 1 + length (first c (eqb (getD s i 0) 63) (between s (i + 1) b))
-    unfolding first
-    piece-goes e = rw (between-cons s i b 0 h g, ne-eqb (getD s i 0) c e) (omega arith)
+-- element e, occurrence o, component c as written. "An empty part is read as absent."
+unfoldable pub partOf : List ℕ → ℕ → ℕ → ℕ → List ℕ
+partOf g e o c = nth (components (nth (occurrences (nth (elements g) e)) o)) c

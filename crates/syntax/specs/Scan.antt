@@ -16,7 +16,7 @@ use Rattle.syntax.specs.declared.limits.Counts.{Counts}
 use Rattle.syntax.specs.declared.segment.Scanned.{Scanned}
 use Rattle.syntax.specs.declared.segment.Scanned.the-variants.{End, NotPermitted, Unended, Malformed}
 use Rattle.syntax.specs.Bytes.{permittedOf, plainText, plainOn, isMark}
-use Rattle.syntax.specs.Parts.{first, later, tagOf}
+use Rattle.syntax.specs.Pieces.{first, later, tagOf}
 use Rattle.syntax.specs.Segment.{capital, threeCapitals, tagged, withinLimits, wellFormed, elementFits, bodyAt, scanOf, segmentAt}
 use Rattle.syntax.specs.Counts.{none, passedOf, textOf, elementOf, occurrenceOf, componentOf, markOf}
 use Rattle.syntax.specs.Limits.{segmentLeft, elementLeft, occurrenceLeft}

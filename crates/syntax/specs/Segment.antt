@@ -9,7 +9,7 @@ use Rattle.laws.specs.Choice.{pick, both, all}
 use Rattle.syntax.specs.declared.segment.Scanned.{Scanned}
 use Rattle.syntax.specs.declared.segment.Scanned.the-variants.{End, NotPermitted, Unended, Malformed}
 use Rattle.syntax.specs.Bytes.{terminator, permittedOf, plain}
-use Rattle.syntax.specs.Parts.{first, tagOf, elements, occurrences, components}
+use Rattle.syntax.specs.Pieces.{first, tagOf, elements, occurrences, components}
 
 -- the bytes of the segment that starts at an offset: up to the first unreleased terminator, or to the input's end
 abbrev pub bodyAt : List ℕ → ℕ → List ℕ

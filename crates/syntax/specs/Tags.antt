@@ -11,7 +11,7 @@ use mathlib.Core.Logic.{_⊎_, inl, inr, ⊎-elim}
 use lib.ListN.{length, drop, getD, length-drop}
 use Rattle.laws.specs.Choice.{pick, both, either, both-parts, either-parts, choose, both-false, either-true, both-assoc₃}
 use Rattle.syntax.specs.Bytes.{elementMark, releaseMark, terminator, stands, releases}
-use Rattle.syntax.specs.Parts.{first, tagOf}
+use Rattle.syntax.specs.Pieces.{first, tagOf}
 use Rattle.syntax.specs.Segment.{capital, threeCapitals, tagged, tagNumber}
 use Rattle.laws.specs.Lists.{drop-here}
 

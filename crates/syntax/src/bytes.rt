@@ -36,14 +36,14 @@ pub fn permitted(b: u8) -> bool
 }
 
 /// Whether a byte is permitted and no service character.
-pub fn is_text(b: u8) -> bool
+pub(crate) fn is_text(b: u8) -> bool
     ensures { λ r. ⌜ r ≡ plainText b ⌝ }
 {
     in_mask(TEXT_LOW, PERMITTED_HIGH, b)
 }
 
 /// The index of the first byte from `from` on that is no plain text, or the input's length.
-pub fn text_end(s: &[u8], from: usize) -> usize
+pub(crate) fn text_end(s: &[u8], from: usize) -> usize
     ensures { λ r. ⌜ r ≡ from + textRun (drop from (now (s .entry))) ⌝ }
 {
     let mut i = from;
@@ -57,7 +57,7 @@ pub fn text_end(s: &[u8], from: usize) -> usize
 }
 
 /// Whether a byte is `+`, `*` or `:`.
-pub fn is_mark(b: u8) -> bool
+pub(crate) fn is_mark(b: u8) -> bool
     ensures { λ r. ⌜ r ≡ isMark b ⌝ }
 {
     if b == b'+' {

@@ -1,7 +1,5 @@
-//! The syntax floor, ISO 9735 version 4 as document 01 reads it: bytes, segments and their parts.
+//! The syntax floor, ISO 9735 version 4 as document 01 reads it: bytes and segments.
 
 pub mod bytes;
-pub mod limits;
-pub mod parts;
+mod limits;
 pub mod segment;
-pub mod values;

@@ -7,7 +7,7 @@ use borrow.Author.Needs.{needs}
 use borrow.Author.Tests.{eq-eqb, ne-eqb, not-true, not-false}
 use denote.Ref.{now}
 use lib.ListN.{length, getD, drop}
-use Rattle.syntax.specs.Parts.{first}
+use Rattle.syntax.specs.Pieces.{first}
 use Rattle.syntax.specs.Segment.{segmentAt}
 use Rattle.syntax.specs.Counts.{none, textOf, markOf}
 use Rattle.syntax.specs.Onward.{onward, Within}

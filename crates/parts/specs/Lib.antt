@@ -1,0 +1,4 @@
+pub mod Places
+pub mod Cuts
+pub mod Located
+pub mod Values
