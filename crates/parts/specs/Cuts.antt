@@ -17,23 +17,11 @@ use Rattle.laws.specs.Choice.{pick, both, both-false, choose}
 use Rattle.laws.specs.Lists.{between, between-cons, drop-take}
 use Rattle.parts.specs.declared.locate.Part.{Part}
 use Rattle.syntax.specs.Bytes.{stands, releases}
+use Rattle.syntax.specs.Firsts.{first-length}
 use Rattle.syntax.specs.Pieces.{first, later, pieces}
 use Rattle.parts.specs.Places.{absent, bytesOf, spanOf}
 
--- the first piece is what a text begins with
-pub first-take : (c : ℕ) (r : Bool) (l : List ℕ) → first c r l ≡ take (length (first c r l)) l
-unfolding first
-first-take c r [] = refl
-first-take c r (b ∷ l) =
-    choose (stands c r b) (λ q. rw q) (λ q. rw q (ap (λ (x : List ℕ). b ∷ x) (first-take c (releases r b) l)))
-
-pub first-length : (c : ℕ) (r : Bool) (l : List ℕ) → length (first c r l) ≤ length l
-unfolding first
-first-length c r [] = omega arith
-first-length c r (b ∷ l) =
-    choose (stands c r b) (λ q. rw q (omega arith)) (λ q. rw q (let h = first-length c (releases r b) l in omega arith))
-
--- and the others are the pieces of what follows it
+-- the pieces after the first are those of what follows it
 after-mark : (c b : ℕ) (r : Bool) → eqb c 63 ≡ false → stands c r b ≡ true → releases r b ≡ false
 after-mark c b true n q = refl
 after-mark c b false n q = rw (eqb-true b c q) n

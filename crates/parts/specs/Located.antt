@@ -14,9 +14,10 @@ use lib.Seq.{take-take}
 use Rattle.laws.specs.Choice.{both}
 use Rattle.laws.specs.Lists.{between, between-none}
 use Rattle.parts.specs.declared.locate.Part.{Part}
+use Rattle.syntax.specs.Firsts.{first-take, first-length}
 use Rattle.syntax.specs.Pieces.{first, later, pieces, nth, elements, occurrences, components, partOf}
 use Rattle.parts.specs.Places.{absent, bytesOf, spanOf, pieceAt, countedAt, elementAt, occurrenceAt, componentAt, partAt, repeats}
-use Rattle.parts.specs.Cuts.{first-take, first-length, later-split, later-none, length-part, drop-between, take-between, endOf, later-cases, several}
+use Rattle.parts.specs.Cuts.{later-split, later-none, length-part, drop-between, take-between, endOf, later-cases, several}
 
 -- a part lies inside another, or is absent
 unfoldable pub Inside : Part → Part → Type 0

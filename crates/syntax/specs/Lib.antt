@@ -8,3 +8,5 @@ pub mod Limits
 pub mod Tags
 pub mod Onward
 pub mod Scan
+pub mod Firsts
+pub mod Ends

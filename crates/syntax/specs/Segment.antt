@@ -6,6 +6,7 @@ use mathlib.Core.List.{List, [], _∷_}
 use lib.Dec.{leb, ltb}
 use lib.ListN.{length, getD, drop}
 use Rattle.laws.specs.Choice.{pick, both, all}
+use Rattle.syntax.specs.declared.segment.Refusal.{Refusal}
 use Rattle.syntax.specs.declared.segment.Scanned.{Scanned}
 use Rattle.syntax.specs.declared.segment.Scanned.the-variants.{End, NotPermitted, Unended, Malformed}
 use Rattle.syntax.specs.Bytes.{terminator, permittedOf, plain}
@@ -60,6 +61,13 @@ scanOf n at g =
 -- the segment that starts at an offset of the input s
 abbrev pub segmentAt : List ℕ → ℕ → Scanned
 segmentAt s at = scanOf (length s) at (bodyAt s at)
+
+-- "What each number means": 4 at that byte, 5 and 6 at the segment's first byte; 0 where it is whole
+abbrev pub refusalOf : ℕ → Scanned → Refusal
+refusalOf at (End e) = record { number = 0; position = 0 }
+refusalOf at (NotPermitted i) = record { number = 4; position = i }
+refusalOf at Unended = record { number = 5; position = at }
+refusalOf at Malformed = record { number = 6; position = at }
 
 -- the tag's three bytes as one number
 abbrev pub tagNumber : List ℕ → ℕ

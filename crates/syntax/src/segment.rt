@@ -9,7 +9,7 @@ ghost use mathlib.Core.Bool.{not};
 ghost use Prim.Native.Nat.{_<_};
 ghost use lib.ListN.{drop};
 ghost use Rattle.laws.specs.Choice.{pick, both};
-ghost use Rattle.syntax.specs.Segment.{capital, segmentAt, tagNumber};
+ghost use Rattle.syntax.specs.Segment.{capital, segmentAt, refusalOf, tagNumber};
 ghost use Rattle.syntax.specs.Tags.{tagCloses, tagAhead};
 
 /// What stands at an offset.
@@ -22,6 +22,38 @@ pub enum Scanned {
     Unended,
     /// 6: the tag or a limit.
     Malformed,
+}
+
+/// What document 01 answers: a number of its table, and a position in the input.
+pub struct Refusal {
+    pub number: u8,
+    pub position: usize,
+}
+
+impl Scanned {
+    /// Number and position of what was found at an offset; number 0 is no refusal.
+    pub fn refusal(self, at: usize) -> Refusal
+        ensures { λ r. ⌜ r ≡ refusalOf at self ⌝ }
+    {
+        match self {
+            Scanned::End(_) => Refusal {
+                number: 0,
+                position: 0,
+            },
+            Scanned::NotPermitted(i) => Refusal {
+                number: 4,
+                position: i,
+            },
+            Scanned::Unended => Refusal {
+                number: 5,
+                position: at,
+            },
+            Scanned::Malformed => Refusal {
+                number: 6,
+                position: at,
+            },
+        }
+    }
 }
 
 fn is_capital(b: u8) -> bool
