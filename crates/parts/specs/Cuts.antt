@@ -15,7 +15,7 @@ use lib.ListN.{length, getD, take, drop, length-take, length-drop}
 use lib.Seq.{drop-drop, take-take}
 use Rattle.laws.specs.Choice.{pick, both, both-false, choose}
 use Rattle.laws.specs.Lists.{between, between-cons, drop-take}
-use Rattle.parts.specs.declared.locate.Part.{Part}
+use Rattle.parts.specs.declared.Part.{Part}
 use Rattle.syntax.specs.Bytes.{stands, releases}
 use Rattle.syntax.specs.Firsts.{first-length}
 use Rattle.syntax.specs.Pieces.{first, later, pieces}

@@ -13,7 +13,7 @@ use lib.ListN.{length, getD, take, drop, length-take, length-drop}
 use lib.Seq.{take-take}
 use Rattle.laws.specs.Choice.{both}
 use Rattle.laws.specs.Lists.{between, between-none}
-use Rattle.parts.specs.declared.locate.Part.{Part}
+use Rattle.parts.specs.declared.Part.{Part}
 use Rattle.syntax.specs.Firsts.{first-take, first-length}
 use Rattle.syntax.specs.Pieces.{first, later, pieces, nth, elements, occurrences, components, partOf}
 use Rattle.parts.specs.Places.{absent, bytesOf, spanOf, pieceAt, countedAt, elementAt, occurrenceAt, componentAt, partAt, repeats}

@@ -8,7 +8,7 @@ use lib.ListN.{length}
 use Rattle.laws.specs.Lists.{between}
 use Rattle.syntax.specs.Bytes.{componentMark, elementMark, repetitionMark}
 use Rattle.syntax.specs.Pieces.{pieces, elements, occurrences, nth}
-use Rattle.parts.specs.declared.locate.Part.{Part}
+use Rattle.parts.specs.declared.Part.{Part}
 
 -- Where a part stands: from one index up to and without another. Absent where there is none.
 abbrev pub absent : Part

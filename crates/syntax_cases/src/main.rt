@@ -3,14 +3,10 @@
 //! In a text `~` and two hexadecimal digits stand for a byte.
 
 use libc::STDOUT_FILENO;
-use parts::locate::Part;
-use parts::locate::bytes_of;
-use parts::locate::is_repeated;
-use parts::locate::part_at;
-use parts::values::plain_length;
-use parts::values::same;
+use parts::{Part, bytes_of, is_repeated, part_at};
 use syntax::segment::Scanned;
 use syntax::segment::read_segment;
+use values::{plain_length, same};
 ghost use mathlib.Core.Path.{_≡_};
 ghost use Prim.Native.Nat.{_<_, _≤_};
 ghost use lib.ListN.{length};
