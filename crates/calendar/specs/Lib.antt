@@ -1,0 +1,13 @@
+pub mod Days
+pub mod Bits
+pub mod Laws
+pub mod Written
+pub mod Week
+pub mod WeekLaws
+pub mod Steps
+pub mod Check
+pub mod Form
+pub mod Same
+pub mod Good
+pub mod Parts
+pub mod Cases

@@ -1,0 +1,170 @@
+-- The written forms put into the lent bytes part by part, and what the writers answer.
+-- Assumes nothing.
+use mathlib.Core.Path.{_≡_, refl, sym, ap, _∙_}
+use mathlib.Core.Bool.{Bool, true, false}
+use mathlib.Core.List.{List, [], _∷_, _++_}
+use Prim.Native.Nat.{ℕ, _+_, _-_, _<_, _≤_}
+use native.Mathlib.Omega.{arith}
+use lib.ListN.{length, length-append}
+use borrow.Author.Tests.{le-leb, lt-leb}
+use Rattle.laws.specs.Choice.{pick}
+use Rattle.dates.specs.Dates.{number}
+use Rattle.dates.specs.Laws.{number-below}
+use Rattle.dates.specs.Text.{dateText, putAt}
+use Rattle.dates.specs.Put.{put-put, put-no-room}
+use Rattle.dates.specs.Again.{length-text}
+use Rattle.dates.specs.declared.Date.{Date}
+use Rattle.calendar.specs.Written.{anyDay, dayCount, goodCalendar, checkedOf, start, dayCharacters, dayStringText, textAnswer, dayStringAnswer, dayStringBytes, named, allOn, weekdayForm, digitsFrom, namedText, weekdayAnswer, weekdayBytes}
+use Rattle.calendar.specs.Days.{hasBit}
+use Rattle.calendar.specs.Week.{weekOf}
+use Rattle.calendar.specs.WeekLaws.{week-named, on-same, digits-same}
+use Rattle.calendar.specs.Good.{good-facts}
+use Rattle.calendar.specs.Steps.{any-starts, length-characters}
+use Rattle.calendar.specs.declared.Written.{Written}
+use Rattle.calendar.specs.declared.Written.the-variants.{Bytes, BadCalendar, NoWeekdayForm, NoRoom}
+use Rattle.calendar.specs.declared.Checked.the-variants.{Period, Bad}
+
+-- a part put behind what stands at the front
+pub behind : (o s t : List ℕ) {p q u : List ℕ} (j : ℕ) → p ≡ putAt o 0 s → q ≡ putAt p j u → u ≡ t → j ≡ length s
+    → length s + length t ≤ length o → q ≡ putAt o 0 (s ++ t)
+behind o s t {p} {q} {u} j ep eq eu e h =
+    eq ∙ ap (λ (l : List ℕ). putAt l j u) ep ∙ ap (putAt (putAt o 0 s) j) eu ∙ put-put o 0 s j t (omega arith) (omega arith)
+
+pub length-start : (first last : Date) → length (start first last) ≡ 29
+unfolding start
+length-start first last = simp (length-append, length-text)
+
+pub start-refused : (first last : Date) (o : List ℕ) → length o < 29 → o ≡ putAt o 0 (start first last)
+start-refused first last o h = sym (put-no-room o 0 (start first last) (rw length-start (omega arith)))
+
+pub start-put : (first last : Date) (o : List ℕ) {p q r s f t : List ℕ} → 29 ≤ length o
+    → p ≡ putAt o 0 (80 ∷ 79 ∷ 80 ∷ 43 ∷ 50 ∷ 55 ∷ 51 ∷ 58 ∷ []) → f ≡ dateText first → q ≡ putAt p 8 f
+    → r ≡ putAt q 18 (47 ∷ []) → t ≡ dateText last → s ≡ putAt r 19 t → s ≡ putAt o 0 (start first last)
+unfolding start
+start-put first last o h e₁ f e₂ e₃ t e₄ =
+    let a = behind o (80 ∷ 79 ∷ 80 ∷ 43 ∷ 50 ∷ 55 ∷ 51 ∷ 58 ∷ []) (dateText first) 8 e₁ e₂ f refl (rw length-text (omega arith)) in
+    let b = behind o ((80 ∷ 79 ∷ 80 ∷ 43 ∷ 50 ∷ 55 ∷ 51 ∷ 58 ∷ []) ++ dateText first) (47 ∷ []) 18 a e₃ refl (simp length-text) (simp length-text (omega arith)) in
+    behind o ((80 ∷ 79 ∷ 80 ∷ 43 ∷ 50 ∷ 55 ∷ 51 ∷ 58 ∷ []) ++ dateText first ++ (47 ∷ [])) (dateText last) 19 b e₄ t (simp (length-append, length-text)) (simp (length-append, length-text) (omega arith))
+
+-- a text that fits, and one that does not
+pub text-fits : (text o : List ℕ) (m : ℕ) → length text ≡ m → m ≤ length o → Bytes m ≡ textAnswer text o
+unfolding textAnswer
+text-fits text o m e h = rw (e, le-leb m (length o) h)
+
+pub text-refused : (text o : List ℕ) → length o < length text → (NoRoom ≡ textAnswer text o) × (o ≡ putAt o 0 text)
+unfolding textAnswer
+text-refused text o h = (rw (lt-leb (length text) (length o) h), sym (put-no-room o 0 text (omega arith)))
+
+module _ (c : List ℕ) (first last : Date) (n : ℕ) (o : List ℕ) where
+  length-day-string : length (dayStringText c first last n) ≡ 32 + n
+  unfolding dayStringText
+  length-day-string = simp (length-append, length-start, length-characters) (omega arith)
+
+  pub characters-refused : length o < 32 + n → (NoRoom ≡ textAnswer (dayStringText c first last n) o) × (o ≡ putAt o 0 (dayStringText c first last n))
+  characters-refused h = text-refused (dayStringText c first last n) o (rw length-day-string h)
+
+  pub characters-put : {p q r s : List ℕ} → 32 + n ≤ length o → p ≡ putAt o 0 (start first last) → q ≡ putAt p 29 (58 ∷ 58 ∷ [])
+      → r ≡ putAt q 31 (dayCharacters c 0 n) → s ≡ putAt r (31 + n) (39 ∷ [])
+      → (Bytes (32 + n) ≡ textAnswer (dayStringText c first last n) o) × (s ≡ putAt o 0 (dayStringText c first last n))
+  unfolding dayStringText
+  characters-put h e₁ e₂ e₃ e₄ =
+      let a = behind o (start first last) (58 ∷ 58 ∷ []) 29 e₁ e₂ refl (simp length-start) (simp length-start (omega arith)) in
+      let b = behind o (start first last ++ (58 ∷ 58 ∷ [])) (dayCharacters c 0 n) 31 a e₃ refl (simp (length-append, length-start)) (simp (length-append, length-start, length-characters) (omega arith)) in (
+        text-fits (dayStringText c first last n) o (32 + n) length-day-string h,
+        behind o (start first last ++ (58 ∷ 58 ∷ []) ++ dayCharacters c 0 n) (39 ∷ []) (31 + n) b e₄ refl (simp (length-append, length-start, length-characters)) (simp (length-append, length-start, length-characters) (omega arith)),
+      )
+
+-- what the tests of a calendar tell
+period : (p : Bool) (f n : ℕ) {g m : ℕ} → pick p (Period f n) Bad ≡ Period g m → (p ≡ true) × (f ≡ g) × (n ≡ m)
+period true f n e = (refl, cc, cc)
+period false f n e = let z : _≡_ {A = ℕ} 0 1 = cc in absurd (omega arith)
+
+no-period : (p : Bool) (f n : ℕ) → pick p (Period f n) Bad ≡ Bad → p ≡ false
+no-period true f n e = let z : _≡_ {A = ℕ} 0 1 = cc in absurd (omega arith)
+no-period false f n e = refl
+
+pub checked-good : (c : List ℕ) (first last : Date) {f n : ℕ} → checkedOf c first last ≡ Period f n
+    → (goodCalendar c first last ≡ true) × (number first ≡ f) × (dayCount first last ≡ n)
+unfolding checkedOf
+checked-good c first last e = period (goodCalendar c first last) (number first) (dayCount first last) e
+
+pub checked-bad : (c : List ℕ) (first last : Date) → checkedOf c first last ≡ Bad → goodCalendar c first last ≡ false
+unfolding checkedOf
+checked-bad c first last e = no-period (goodCalendar c first last) (number first) (dayCount first last) e
+
+module _ (c : List ℕ) (first last : Date) (o : List ℕ) where
+  pub day-string-bad : checkedOf c first last ≡ Bad → (BadCalendar ≡ dayStringAnswer c first last o) × (o ≡ dayStringBytes c first last o)
+  unfolding dayStringAnswer dayStringBytes
+  day-string-bad e = let g = checked-bad c first last e in (rw g, rw g)
+
+  pub day-string-good : {f n : ℕ} {r : Written} {p : List ℕ} → checkedOf c first last ≡ Period f n
+      → (r ≡ textAnswer (dayStringText c first last n) o) × (p ≡ putAt o 0 (dayStringText c first last n))
+      → (r ≡ dayStringAnswer c first last o) × (p ≡ dayStringBytes c first last o)
+  unfolding dayStringAnswer dayStringBytes
+  day-string-good e w =
+      let g = checked-good c first last e in
+      (rw (g .0, g .2) (w .0), rw (g .0, g .2) (w .1))
+
+-- the weekday form
+module _ (first last : Date) (w o : List ℕ) where
+  length-named : length (namedText first last w) ≡ 31 + length w
+  unfolding namedText
+  length-named = simp (length-append, length-start) (omega arith)
+
+  pub named-refused : length o < 31 + length w → (NoRoom ≡ textAnswer (namedText first last w) o) × (o ≡ putAt o 0 (namedText first last w))
+  named-refused h = text-refused (namedText first last w) o (rw length-named h)
+
+  pub named-put : {p q r s : List ℕ} → 31 + length w ≤ length o → p ≡ putAt o 0 (start first last) → q ≡ putAt p 29 (43 ∷ [])
+      → r ≡ putAt q 30 w → s ≡ putAt r (30 + length w) (39 ∷ [])
+      → (Bytes (31 + length w) ≡ textAnswer (namedText first last w) o) × (s ≡ putAt o 0 (namedText first last w))
+  unfolding namedText
+  named-put h e₁ e₂ e₃ e₄ =
+      let a = behind o (start first last) (43 ∷ []) 29 e₁ e₂ refl (simp length-start) (simp length-start (omega arith)) in
+      let b = behind o (start first last ++ (43 ∷ [])) w 30 a e₃ refl (simp (length-append, length-start)) (simp (length-append, length-start) (omega arith)) in (
+        text-fits (namedText first last w) o (31 + length w) length-named h,
+        behind o (start first last ++ (43 ∷ []) ++ w) (39 ∷ []) (30 + length w) b e₄ refl (simp (length-append, length-start)) (simp (length-append, length-start) (omega arith)),
+      )
+
+-- a good calendar's numbers are small
+module _ (c : List ℕ) (first last : Date) {f n : ℕ} (e : checkedOf c first last ≡ Period f n) where
+  pub checked-small : f + n ≤ 65536
+  checked-small =
+      let g = checked-good c first last e in
+      let h = good-facts c first last (g .0) in
+      omega (arith, number-below first (h .first-date), g .1, g .2)
+
+  module _ (o : List ℕ) where
+    pub no-day : anyDay c 0 (n - 0) ≡ false → (NoWeekdayForm ≡ weekdayAnswer c first last o) × (o ≡ weekdayBytes c first last o)
+    unfolding weekdayAnswer weekdayBytes weekdayForm
+    no-day h =
+        let g = checked-good c first last e in
+        let a : anyDay c 0 n ≡ false = sym (any-starts c n) ∙ h in
+        (rw (g .0, g .2, g .1, a), rw (g .0, g .2, g .1, a))
+
+    module _ {x : ℕ} (h : anyDay c 0 (n - 0) ≡ true) (k : x ≡ weekOf c f n) where
+      all-same : allOn (hasBit x) c f 0 n ≡ allOn (named c f n) c f 0 n
+      all-same = on-same (hasBit x) (named c f n) (λ w l. ap (λ (y : ℕ). hasBit y w) k ∙ week-named c f n w l) c f 0 n
+
+      pub not-whole : allOn (hasBit x) c f 0 n ≡ false → (NoWeekdayForm ≡ weekdayAnswer c first last o) × (o ≡ weekdayBytes c first last o)
+      unfolding weekdayAnswer weekdayBytes weekdayForm
+      not-whole m =
+          let g = checked-good c first last e in
+          let a : anyDay c 0 n ≡ true = sym (any-starts c n) ∙ h in
+          let b : allOn (named c f n) c f 0 n ≡ false = sym all-same ∙ m in
+          (rw (g .0, g .2, g .1, a, b), rw (g .0, g .2, g .1, a, b))
+
+      pub weekdays-good : {r : Written} {p w : List ℕ} → allOn (hasBit x) c f 0 n ≡ true → w ≡ digitsFrom (hasBit x) 1 7
+          → (r ≡ textAnswer (namedText first last w) o) × (p ≡ putAt o 0 (namedText first last w))
+          → (r ≡ weekdayAnswer c first last o) × (p ≡ weekdayBytes c first last o)
+      unfolding weekdayAnswer weekdayBytes weekdayForm
+      weekdays-good {r} {p} {w} m d z =
+          let g = checked-good c first last e in
+          let a : anyDay c 0 n ≡ true = sym (any-starts c n) ∙ h in
+          let b : allOn (named c f n) c f 0 n ≡ true = sym all-same ∙ m in
+          let q : w ≡ digitsFrom (named c f n) 1 7 = d ∙ digits-same (hasBit x) (named c f n) (λ v l. ap (λ (y : ℕ). hasBit y v) k ∙ week-named c f n v l) 1 7 (omega arith) in
+          (rw (g .0, g .2, g .1, a, b) (rw q at (z .0)), rw (g .0, g .2, g .1, a, b) (rw q at (z .1)))
+
+pub weekdays-bad : (c : List ℕ) (first last : Date) (o : List ℕ) → checkedOf c first last ≡ Bad
+    → (BadCalendar ≡ weekdayAnswer c first last o) × (o ≡ weekdayBytes c first last o)
+unfolding weekdayAnswer weekdayBytes
+weekdays-bad c first last o e = let g = checked-bad c first last e in (rw g, rw g)

@@ -1,0 +1,10 @@
+pub mod Days
+pub mod Dates
+pub mod Facts
+pub mod Laws
+pub mod Text
+pub mod Put
+pub mod Again
+pub mod Read
+pub mod Starts
+pub mod Cases

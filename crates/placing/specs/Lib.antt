@@ -1,0 +1,14 @@
+pub mod Table
+pub mod Place
+pub mod Rule
+pub mod Reading
+pub mod Tags
+pub mod Skdupd
+pub mod Tsdupd
+pub mod Cases
+pub mod Walks
+pub mod Laws
+pub mod WellFormed
+pub mod Formed
+pub mod Message
+pub mod Envelope
