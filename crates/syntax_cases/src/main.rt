@@ -3,10 +3,14 @@
 //! In a text `~` and two hexadecimal digits stand for a byte.
 
 use libc::STDOUT_FILENO;
-use parts::{Part, bytes_of, is_repeated, part_at};
+use parts::Part;
+use parts::bytes_of;
+use parts::is_repeated;
+use parts::part_at;
 use syntax::segment::Scanned;
 use syntax::segment::read_segment;
-use values::{plain_length, same};
+use values::plain_length;
+use values::same;
 ghost use mathlib.Core.Path.{_≡_};
 ghost use Prim.Native.Nat.{_<_, _≤_};
 ghost use lib.ListN.{length};
