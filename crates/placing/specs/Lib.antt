@@ -12,3 +12,4 @@ pub mod WellFormed
 pub mod Formed
 pub mod Message
 pub mod Envelope
+pub mod End
