@@ -21,7 +21,7 @@ pub record HasForm (c : List ℕ) (f n : ℕ) : Type 0 where
   pub some : (k : ℕ) × (k < n) × (day c k ≡ true)
   pub whole : (j k : ℕ) → j < n → k < n → weekdayOf (f + j) ≡ weekdayOf (f + k) → day c j ≡ true → day c k ≡ true
 
-never : {A : Type 0} → false ≡ true → A
+pub never : {A : Type 0} → false ≡ true → A
 never e = let z : _≡_ {A = ℕ} 0 1 = cc in absurd (omega arith)
 
 either-true : (a b : Bool) → either a b ≡ true → (a ≡ true) ⊎ (b ≡ true)
@@ -37,7 +37,7 @@ both-true true b e = (refl, e)
 both-true false b e = never e
 
 -- of any day
-any-some : (c : List ℕ) (k n : ℕ) → anyDay c k n ≡ true → (i : ℕ) × (i < n) × (day c (k + i) ≡ true)
+pub any-some : (c : List ℕ) (k n : ℕ) → anyDay c k n ≡ true → (i : ℕ) × (i < n) × (day c (k + i) ≡ true)
 unfolding anyDay
 any-some c k zero e = never e
 any-some c k (suc n) e =

@@ -37,7 +37,7 @@ neither : (a b : Bool) → either a b ≡ false → (a ≡ false) × (b ≡ fals
 neither true b e = let z : _≡_ {A = ℕ} 0 1 = cc in absurd (omega arith)
 neither false b e = (refl, e)
 
-any-none : (c : List ℕ) (k n i : ℕ) → i < n → anyDay c k n ≡ false → day c (k + i) ≡ false
+pub any-none : (c : List ℕ) (k n i : ℕ) → i < n → anyDay c k n ≡ false → day c (k + i) ≡ false
 unfolding anyDay
 any-none c k zero i h e = absurd (not-suc-le-zero h)
 any-none c k (suc n) zero h e = subst (λ (x : ℕ). day c x ≡ false) (omega arith) (neither (day c k) (anyDay c (k + 1) n) e .0)

@@ -9,5 +9,6 @@ pub mod Check
 pub mod Form
 pub mod Same
 pub mod Good
+pub mod Empty
 pub mod Parts
 pub mod Cases

@@ -1,28 +1,28 @@
 -- The written forms put into the lent bytes part by part, and what the writers answer.
 -- Assumes nothing.
 use mathlib.Core.Path.{_≡_, refl, sym, ap, _∙_}
-use mathlib.Core.Bool.{Bool, true, false}
+use mathlib.Core.Bool.{true, false}
 use mathlib.Core.List.{List, [], _∷_, _++_}
-use Prim.Native.Nat.{ℕ, _+_, _-_, _<_, _≤_}
+use Prim.Native.Nat.{ℕ, _+_, _<_, _≤_}
 use native.Mathlib.Omega.{arith}
 use lib.ListN.{length, length-append}
 use borrow.Author.Tests.{le-leb, lt-leb}
-use Rattle.laws.specs.Choice.{pick}
-use Rattle.dates.specs.Dates.{number}
 use Rattle.dates.specs.Laws.{number-below}
 use Rattle.dates.specs.Text.{dateText, putAt}
 use Rattle.dates.specs.Put.{put-put, put-no-room}
 use Rattle.dates.specs.Again.{length-text}
 use Rattle.dates.specs.declared.Date.{Date}
-use Rattle.calendar.specs.Written.{anyDay, dayCount, goodCalendar, checkedOf, start, dayCharacters, dayStringText, textAnswer, dayStringAnswer, dayStringBytes, named, allOn, weekdayForm, digitsFrom, namedText, weekdayAnswer, weekdayBytes}
+use Rattle.calendar.specs.Written.{anyDay, checkedOf, start, dayCharacters, dayStringText, textAnswer, dayStringAnswer, dayStringBytes, named, allOn, weekdayForm, digitsFrom, namedText, weekdayAnswer, weekdayBytes}
 use Rattle.calendar.specs.Days.{hasBit}
 use Rattle.calendar.specs.Week.{weekOf}
 use Rattle.calendar.specs.WeekLaws.{week-named, on-same, digits-same}
+use Rattle.calendar.specs.Check.{checked-good, checked-bad}
 use Rattle.calendar.specs.Good.{good-facts}
-use Rattle.calendar.specs.Steps.{any-starts, length-characters}
+use Rattle.calendar.specs.Empty.{week-none, week-some}
+use Rattle.calendar.specs.Steps.{length-characters}
 use Rattle.calendar.specs.declared.Written.{Written}
 use Rattle.calendar.specs.declared.Written.the-variants.{Bytes, BadCalendar, NoWeekdayForm, NoRoom}
-use Rattle.calendar.specs.declared.Checked.the-variants.{Period, Bad}
+use Rattle.calendar.specs.declared.Span.the-variants.{Days, Bad}
 
 -- a part put behind what stands at the front
 pub behind : (o s t : List ℕ) {p q u : List ℕ} (j : ℕ) → p ≡ putAt o 0 s → q ≡ putAt p j u → u ≡ t → j ≡ length s
@@ -74,30 +74,12 @@ module _ (c : List ℕ) (first last : Date) (n : ℕ) (o : List ℕ) where
         behind o (start first last ++ (58 ∷ 58 ∷ []) ++ dayCharacters c 0 n) (39 ∷ []) (31 + n) b e₄ refl (simp (length-append, length-start, length-characters)) (simp (length-append, length-start, length-characters) (omega arith)),
       )
 
--- what the tests of a calendar tell
-period : (p : Bool) (f n : ℕ) {g m : ℕ} → pick p (Period f n) Bad ≡ Period g m → (p ≡ true) × (f ≡ g) × (n ≡ m)
-period true f n e = (refl, cc, cc)
-period false f n e = let z : _≡_ {A = ℕ} 0 1 = cc in absurd (omega arith)
-
-no-period : (p : Bool) (f n : ℕ) → pick p (Period f n) Bad ≡ Bad → p ≡ false
-no-period true f n e = let z : _≡_ {A = ℕ} 0 1 = cc in absurd (omega arith)
-no-period false f n e = refl
-
-pub checked-good : (c : List ℕ) (first last : Date) {f n : ℕ} → checkedOf c first last ≡ Period f n
-    → (goodCalendar c first last ≡ true) × (number first ≡ f) × (dayCount first last ≡ n)
-unfolding checkedOf
-checked-good c first last e = period (goodCalendar c first last) (number first) (dayCount first last) e
-
-pub checked-bad : (c : List ℕ) (first last : Date) → checkedOf c first last ≡ Bad → goodCalendar c first last ≡ false
-unfolding checkedOf
-checked-bad c first last e = no-period (goodCalendar c first last) (number first) (dayCount first last) e
-
 module _ (c : List ℕ) (first last : Date) (o : List ℕ) where
   pub day-string-bad : checkedOf c first last ≡ Bad → (BadCalendar ≡ dayStringAnswer c first last o) × (o ≡ dayStringBytes c first last o)
   unfolding dayStringAnswer dayStringBytes
   day-string-bad e = let g = checked-bad c first last e in (rw g, rw g)
 
-  pub day-string-good : {f n : ℕ} {r : Written} {p : List ℕ} → checkedOf c first last ≡ Period f n
+  pub day-string-good : {f n : ℕ} {r : Written} {p : List ℕ} → checkedOf c first last ≡ Days f n
       → (r ≡ textAnswer (dayStringText c first last n) o) × (p ≡ putAt o 0 (dayStringText c first last n))
       → (r ≡ dayStringAnswer c first last o) × (p ≡ dayStringBytes c first last o)
   unfolding dayStringAnswer dayStringBytes
@@ -126,7 +108,7 @@ module _ (first last : Date) (w o : List ℕ) where
       )
 
 -- a good calendar's numbers are small
-module _ (c : List ℕ) (first last : Date) {f n : ℕ} (e : checkedOf c first last ≡ Period f n) where
+module _ (c : List ℕ) (first last : Date) {f n : ℕ} (e : checkedOf c first last ≡ Days f n) where
   pub checked-small : f + n ≤ 65536
   checked-small =
       let g = checked-good c first last e in
@@ -134,35 +116,37 @@ module _ (c : List ℕ) (first last : Date) {f n : ℕ} (e : checkedOf c first l
       omega (arith, number-below first (h .first-date), g .1, g .2)
 
   module _ (o : List ℕ) where
-    pub no-day : anyDay c 0 (n - 0) ≡ false → (NoWeekdayForm ≡ weekdayAnswer c first last o) × (o ≡ weekdayBytes c first last o)
-    unfolding weekdayAnswer weekdayBytes weekdayForm
-    no-day h =
-        let g = checked-good c first last e in
-        let a : anyDay c 0 n ≡ false = sym (any-starts c n) ∙ h in
-        (rw (g .0, g .2, g .1, a), rw (g .0, g .2, g .1, a))
+    module _ {x : ℕ} (k : x ≡ weekOf c f n) where
+      pub no-day : x ≡ 0 → (NoWeekdayForm ≡ weekdayAnswer c first last o) × (o ≡ weekdayBytes c first last o)
+      unfolding weekdayAnswer weekdayBytes weekdayForm
+      no-day h =
+          let g = checked-good c first last e in
+          let a : anyDay c 0 n ≡ false = week-none c f n (sym k ∙ h) in
+          (rw (g .0, g .2, g .1, a), rw (g .0, g .2, g .1, a))
 
-    module _ {x : ℕ} (h : anyDay c 0 (n - 0) ≡ true) (k : x ≡ weekOf c f n) where
       all-same : allOn (hasBit x) c f 0 n ≡ allOn (named c f n) c f 0 n
       all-same = on-same (hasBit x) (named c f n) (λ w l. ap (λ (y : ℕ). hasBit y w) k ∙ week-named c f n w l) c f 0 n
 
-      pub not-whole : allOn (hasBit x) c f 0 n ≡ false → (NoWeekdayForm ≡ weekdayAnswer c first last o) × (o ≡ weekdayBytes c first last o)
-      unfolding weekdayAnswer weekdayBytes weekdayForm
-      not-whole m =
-          let g = checked-good c first last e in
-          let a : anyDay c 0 n ≡ true = sym (any-starts c n) ∙ h in
-          let b : allOn (named c f n) c f 0 n ≡ false = sym all-same ∙ m in
-          (rw (g .0, g .2, g .1, a, b), rw (g .0, g .2, g .1, a, b))
+      module _ (h : x ≡ 0 → ⊥) where
+        selected : anyDay c 0 n ≡ true
+        selected = week-some c f n (λ q. h (k ∙ q))
 
-      pub weekdays-good : {r : Written} {p w : List ℕ} → allOn (hasBit x) c f 0 n ≡ true → w ≡ digitsFrom (hasBit x) 1 7
-          → (r ≡ textAnswer (namedText first last w) o) × (p ≡ putAt o 0 (namedText first last w))
-          → (r ≡ weekdayAnswer c first last o) × (p ≡ weekdayBytes c first last o)
-      unfolding weekdayAnswer weekdayBytes weekdayForm
-      weekdays-good {r} {p} {w} m d z =
-          let g = checked-good c first last e in
-          let a : anyDay c 0 n ≡ true = sym (any-starts c n) ∙ h in
-          let b : allOn (named c f n) c f 0 n ≡ true = sym all-same ∙ m in
-          let q : w ≡ digitsFrom (named c f n) 1 7 = d ∙ digits-same (hasBit x) (named c f n) (λ v l. ap (λ (y : ℕ). hasBit y v) k ∙ week-named c f n v l) 1 7 (omega arith) in
-          (rw (g .0, g .2, g .1, a, b) (rw q at (z .0)), rw (g .0, g .2, g .1, a, b) (rw q at (z .1)))
+        pub not-whole : allOn (hasBit x) c f 0 n ≡ false → (NoWeekdayForm ≡ weekdayAnswer c first last o) × (o ≡ weekdayBytes c first last o)
+        unfolding weekdayAnswer weekdayBytes weekdayForm
+        not-whole m =
+            let g = checked-good c first last e in
+            let b : allOn (named c f n) c f 0 n ≡ false = sym all-same ∙ m in
+            (rw (g .0, g .2, g .1, selected, b), rw (g .0, g .2, g .1, selected, b))
+
+        pub weekdays-good : {r : Written} {p w : List ℕ} → allOn (hasBit x) c f 0 n ≡ true → w ≡ digitsFrom (hasBit x) 1 7
+            → (r ≡ textAnswer (namedText first last w) o) × (p ≡ putAt o 0 (namedText first last w))
+            → (r ≡ weekdayAnswer c first last o) × (p ≡ weekdayBytes c first last o)
+        unfolding weekdayAnswer weekdayBytes weekdayForm
+        weekdays-good {r} {p} {w} m d z =
+            let g = checked-good c first last e in
+            let b : allOn (named c f n) c f 0 n ≡ true = sym all-same ∙ m in
+            let q : w ≡ digitsFrom (named c f n) 1 7 = d ∙ digits-same (hasBit x) (named c f n) (λ v l. ap (λ (y : ℕ). hasBit y v) k ∙ week-named c f n v l) 1 7 (omega arith) in
+            (rw (g .0, g .2, g .1, selected, b) (rw q at (z .0)), rw (g .0, g .2, g .1, selected, b) (rw q at (z .1)))
 
 pub weekdays-bad : (c : List ℕ) (first last : Date) (o : List ℕ) → checkedOf c first last ≡ Bad
     → (BadCalendar ≡ weekdayAnswer c first last o) × (o ≡ weekdayBytes c first last o)

@@ -31,9 +31,6 @@ any-end c k to h =
     let e : to - k ≡ zero = omega arith in
     rw e
 
-pub any-starts : (c : List ℕ) (n : ℕ) → anyDay c 0 (n - 0) ≡ anyDay c 0 n
-any-starts c n = ap (anyDay c 0) (omega arith)
-
 pub length-characters : (c : List ℕ) (k n : ℕ) → length (dayCharacters c k n) ≡ n
 unfolding dayCharacters
 length-characters c k zero = refl

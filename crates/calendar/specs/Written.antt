@@ -13,8 +13,8 @@ use Rattle.dates.specs.declared.Date.{Date}
 use Rattle.calendar.specs.Days.{day}
 use Rattle.calendar.specs.declared.Written.{Written}
 use Rattle.calendar.specs.declared.Written.the-variants.{Bytes, BadCalendar, NoWeekdayForm, NoRoom}
-use Rattle.calendar.specs.declared.Checked.{Checked}
-use Rattle.calendar.specs.declared.Checked.the-variants.{Period, Bad}
+use Rattle.calendar.specs.declared.Span.{Span}
+use Rattle.calendar.specs.declared.Span.the-variants.{Days, Bad}
 
 -- "What each number means": the number of each answer
 unfoldable pub paperNumber : Written → ℕ
@@ -37,21 +37,27 @@ unfoldable pub goodPeriod : Date → Date → Bool
 goodPeriod first last =
     both (valid first) (both (valid last) (both (leb (number first) (number last)) (leb (dayCount first last) 512)))
 
--- else 19: "calendar to write has bad dates, bad length or a bit past its last day"
+-- the number of the first day and how many days there are, where the period is good
+unfoldable pub spanOf : Date → Date → Span
+spanOf first last = pick (goodPeriod first last) (Days (number first) (dayCount first last)) Bad
+
+-- what can be written: 64 bytes, a good period, no day past the last. Anything else is 19, "calendar to write has bad dates, bad length
+-- or a bit past its last day"
 unfoldable pub goodCalendar : List ℕ → Date → Date → Bool
 goodCalendar c first last =
     both (eqb (length c) 64)
     (both (goodPeriod first last) (not (anyDay c (dayCount first last) (512 - dayCount first last))))
 
-unfoldable pub checkedOf : List ℕ → Date → Date → Checked
-checkedOf c first last = pick (goodCalendar c first last) (Period (number first) (dayCount first last)) Bad
+-- its period, where it can
+unfoldable pub checkedOf : List ℕ → Date → Date → Span
+checkedOf c first last = pick (goodCalendar c first last) (Days (number first) (dayCount first last)) Bad
 
 -- POP+273:first/last, which both forms begin with
 unfoldable pub start : Date → Date → List ℕ
 start first last =
     (80 ∷ 79 ∷ 80 ∷ 43 ∷ 50 ∷ 55 ∷ 51 ∷ 58 ∷ []) ++ dateText first ++ (47 ∷ []) ++ dateText last
 
--- "a string of `0` and `1`, exactly one character for each day": those of the n days from day k on
+-- "a string of `0` and `1`, exactly one character for each day": that of day k, and those of the n days from day k on
 unfoldable pub dayCharacter : List ℕ → ℕ → ℕ
 dayCharacter c k = pick (day c k) 49 48
 
@@ -82,7 +88,7 @@ unfoldable pub named : List ℕ → ℕ → ℕ → ℕ → Bool
 named c f zero w = false
 named c f (suc n) w = either (both (day c n) (eqb (weekdayOf (f + n)) w)) (named c f n w)
 
--- whether each of the m days from day k on is selected whose weekday passes a test
+-- whether each of the m days from day k on is selected whose weekday passes a test; f is the number of the first date
 unfoldable pub allOn : (ℕ → Bool) → List ℕ → ℕ → ℕ → ℕ → Bool
 allOn t c f k zero = true
 allOn t c f k (suc m) = both (either (not (t (weekdayOf (f + k)))) (day c k)) (allOn t c f (k + 1) m)

@@ -2,13 +2,13 @@
 use dates::Date;
 use dates::Number;
 ghost use mathlib.Core.Path.{_≡_};
+ghost use mathlib.Core.Bool.{not};
 ghost use Prim.Native.Nat.{_+_, _-_, _≤_, _%_, min};
 ghost use lib.ListN.{take, length};
+ghost use Rattle.laws.specs.Choice.{pick, either};
 ghost use Rattle.dates.specs.Text.{putAt};
 ghost use Rattle.calendar.specs.Days.{hasBit, withBit, day, withDay, join};
-ghost use mathlib.Core.Bool.{not};
-ghost use Rattle.laws.specs.Choice.{pick, either};
-ghost use Rattle.calendar.specs.Written.{anyDay, checkedOf, start, dayCharacter, dayCharacters, dayStringText, textAnswer, dayStringAnswer, dayStringBytes, allOn, digitsFrom, namedText, weekdayAnswer, weekdayBytes};
+ghost use Rattle.calendar.specs.Written.{anyDay, spanOf, checkedOf, start, dayCharacter, dayCharacters, dayStringText, textAnswer, dayStringAnswer, dayStringBytes, allOn, digitsFrom, namedText, weekdayAnswer, weekdayBytes};
 ghost use Rattle.calendar.specs.Week.{mark, weekOf};
 
 // What came of writing a calendar.
@@ -19,9 +19,9 @@ pub enum Written {
     NoRoom,
 }
 
-// A calendar's period, once it is good: the number of its first day, and how many days it has.
-enum Checked {
-    Period(usize, usize),
+// A period: the number of its first day, and how many days it has; or none.
+pub enum Span {
+    Days(usize, usize),
     Bad,
 }
 
@@ -98,29 +98,39 @@ fn any_day(days: &[u8], from: usize, to: usize) -> bool
     false
 }
 
+// The period from a first to a last date, both counted: 1 to 512 days.
+pub fn days_between(first: Date, last: Date) -> Span
+    ensures { λ r. ⌜ r ≡ spanOf first last ⌝ }
+{
+    let Number::Day(from) = first.day_number() else {
+        return Span::Bad;
+    };
+    let Number::Day(to) = last.day_number() else {
+        return Span::Bad;
+    };
+    if to < from {
+        return Span::Bad;
+    }
+    if 512 <= to - from {
+        return Span::Bad;
+    }
+    Span::Days(from, to - from + 1)
+}
+
 // Whether a calendar can be written, and what its period is.
-fn check(days: &[u8], first: Date, last: Date) -> Checked
+fn check(days: &[u8], first: Date, last: Date) -> Span
     ensures { λ r. ⌜ r ≡ checkedOf (now (days .entry)) first last ⌝ }
 {
     if days.len() != 64 {
-        return Checked::Bad;
+        return Span::Bad;
     }
-    let Number::Day(from) = first.day_number() else {
-        return Checked::Bad;
+    let Span::Days(from, n) = days_between(first, last) else {
+        return Span::Bad;
     };
-    let Number::Day(to) = last.day_number() else {
-        return Checked::Bad;
-    };
-    if to < from {
-        return Checked::Bad;
+    if any_day(days, n, 512) {
+        return Span::Bad;
     }
-    if 512 <= to - from {
-        return Checked::Bad;
-    }
-    if any_day(days, to - from + 1, 512) {
-        return Checked::Bad;
-    }
-    Checked::Period(from, to - from + 1)
+    Span::Days(from, n)
 }
 
 fn day_character(days: &[u8], k: usize) -> u8
@@ -182,7 +192,7 @@ fn write_characters(days: &[u8], first: Date, last: Date, n: usize, out: &mut [u
 pub fn write_day_string(days: &[u8], first: Date, last: Date, out: &mut [u8]) -> Written
     ensures { λ r. ⌜ (r ≡ dayStringAnswer (now (days .entry)) first last (now (out .entry))) × (now (out .exit) ≡ dayStringBytes (now (days .entry)) first last (now (out .entry))) ⌝ }
 {
-    let Checked::Period(_, n) = check(days, first, last) else {
+    let Span::Days(_, n) = check(days, first, last) else {
         return Written::BadCalendar;
     };
     write_characters(days, first, last, n, out)
@@ -282,13 +292,13 @@ fn write_named(first: Date, last: Date, weekdays: &[u8], out: &mut [u8]) -> Writ
 pub fn write_weekdays(days: &[u8], first: Date, last: Date, out: &mut [u8]) -> Written
     ensures { λ r. ⌜ (r ≡ weekdayAnswer (now (days .entry)) first last (now (out .entry))) × (now (out .exit) ≡ weekdayBytes (now (days .entry)) first last (now (out .entry))) ⌝ }
 {
-    let Checked::Period(from, n) = check(days, first, last) else {
+    let Span::Days(from, n) = check(days, first, last) else {
         return Written::BadCalendar;
     };
-    if !any_day(days, 0, n) {
+    let week = weekdays_of(days, from, n);
+    if week == 0 {
         return Written::NoWeekdayForm;
     }
-    let week = weekdays_of(days, from, n);
     if !all_on(days, from, n, week) {
         return Written::NoWeekdayForm;
     }

@@ -42,6 +42,10 @@ unfoldable pub dateOf : ℕ → Date
 dateOf zero = date 1990 1 1
 dateOf (suc n) = nextDay (dateOf n)
 
+-- the date that a day number has, where it has one: those of 1990-01-01 to 2099-12-31 are the first 40,177 numbers
+unfoldable pub dated : ℕ → Made
+dated n = pick (ltb n 40177) (Valid (dateOf n)) NoDate
+
 -- the one stands before the other: by the year, then the month, then the day
 abbrev pub Earlier : Date → Date → Type 0
 Earlier a b =

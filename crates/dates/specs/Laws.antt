@@ -17,7 +17,7 @@ use Rattle.dates.specs.declared.Date.{Date}
 use Rattle.dates.specs.declared.Number.the-variants.{Day, NoDay}
 
 -- the sums rise
-months-rise : (y n k : ℕ) → n ≤ k → monthDays y n ≤ monthDays y k
+pub months-rise : (y n k : ℕ) → n ≤ k → monthDays y n ≤ monthDays y k
 unfolding monthDays
 months-rise y n zero h = let e : n ≡ zero = omega arith in rw e (omega arith)
 months-rise y n (suc k) h =
@@ -26,7 +26,7 @@ months-rise y n (suc k) h =
       | no l ↦ let r = months-rise y n k (omega arith) in omega arith
     ]
 
-years-rise : (n k : ℕ) → n ≤ k → yearDays n ≤ yearDays k
+pub years-rise : (n k : ℕ) → n ≤ k → yearDays n ≤ yearDays k
 unfolding yearDays
 years-rise n zero h = let e : n ≡ zero = omega arith in rw e (omega arith)
 years-rise n (suc k) h =
@@ -36,12 +36,12 @@ years-rise n (suc k) h =
     ]
 
 -- one month more, one year more
-month-more : (y m : ℕ) → 1 ≤ m → monthDays y m ≡ monthDays y (m - 1) + monthLength y m
+pub month-more : (y m : ℕ) → 1 ≤ m → monthDays y m ≡ monthDays y (m - 1) + monthLength y m
 unfolding monthDays
 month-more y zero h = absurd (omega arith)
 month-more y (suc n) h = let e : suc n - 1 ≡ n = omega arith in rw e
 
-year-more : (y : ℕ) → 1990 ≤ y → yearDays (y - 1990 + 1) ≡ yearDays (y - 1990) + monthDays y 12
+pub year-more : (y : ℕ) → 1990 ≤ y → yearDays (y - 1990 + 1) ≡ yearDays (y - 1990) + monthDays y 12
 unfolding yearDays
 year-more y h =
     let e : y - 1990 + 1 ≡ suc (y - 1990) = omega arith in
@@ -153,7 +153,7 @@ last-december : monthLength 2099 12 ≡ 31
 unfolding monthLength
 last-december = refl
 
-all-days : yearDays 110 ≡ 40177
+pub all-days : yearDays 110 ≡ 40177
 unfolding yearDays monthDays monthLength leapYear
 all-days = refl
 

@@ -2,6 +2,7 @@ pub mod Days
 pub mod Dates
 pub mod Facts
 pub mod Laws
+pub mod Back
 pub mod Text
 pub mod Put
 pub mod Again

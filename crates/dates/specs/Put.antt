@@ -21,6 +21,12 @@ pub put-no-room : (o : List ℕ) (at : ℕ) (s : List ℕ) → length o < at + l
 unfolding putAt
 put-no-room o at s h = rw (lt-leb _ _ h)
 
+-- at offset 0 they stand over the front, and the bytes past them are as they were
+pub put-front : (o s : List ℕ) → length s ≤ length o → putAt o 0 s ≡ s ++ drop (length s) o
+put-front o s h =
+    let e : 0 + length s ≡ length s = omega arith in
+    put-room o 0 s (omega arith) ∙ rw (e, take-length s)
+
 pub length-put : (o : List ℕ) (at : ℕ) (s : List ℕ) → length (putAt o at s) ≡ length o
 length-put o at s =
     elim (decLt (length o) (at + length s)) [

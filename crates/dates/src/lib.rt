@@ -1,12 +1,12 @@
 // Dates of the Gregorian calendar from 1990-01-01 to 2099-12-31: made, numbered, read and written.
 ghost use mathlib.Core.Path.{_≡_};
-ghost use Prim.Native.Nat.{_≤_};
-ghost use Prim.Native.Nat.{_+_, _%_};
+ghost use Prim.Native.Nat.{_+_, _%_, _≤_, _<_};
 ghost use lib.Dec.{leb};
 ghost use lib.ListN.{getD, length};
-ghost use Rattle.dates.specs.Days.{leapYear, monthLength, isDate, dayNumber, weekdayOf};
-ghost use Rattle.dates.specs.Dates.{madeOf, numberOf};
+ghost use Rattle.dates.specs.Days.{leapYear, monthLength, isDate, monthDays, dayNumber, weekdayOf};
+ghost use Rattle.dates.specs.Dates.{date, madeOf, numberOf, dated};
 ghost use Rattle.dates.specs.Text.{twoDigits, digitsAt, fourDigits, dateAt, dateText, putAt, writeAnswer, writeBytes};
+ghost use Rattle.dates.specs.Back.{InYear, InMonth};
 ghost use Rattle.dates.specs.Starts.{monthStarts};
 
 pub struct Date {
@@ -27,8 +27,14 @@ pub enum Number {
     NoDay,
 }
 
+// A count of whole years or months, and the days left after them.
+struct Part {
+    whole: u32,
+    left: usize,
+}
+
 // Two bytes read as digits.
-pub enum Digits {
+enum Digits {
     Value(u32),
     NoDigits,
 }
@@ -115,11 +121,64 @@ fn counted(year: u32, month: u32, day: u32) -> usize
     if leap_year(year) { before + 1 } else { before }
 }
 
+fn year_length(year: u32) -> usize
+    ensures { λ r. ⌜ r ≡ monthDays year 12 ⌝ }
+{
+    if leap_year(year) { 366 } else { 365 }
+}
+
+// The year of a day number, and how many days of that year stand before it.
+fn year_of(number: usize) -> Part
+    requires { ⌜ number < 40177 ⌝ }
+    ensures { λ r. ⌜ InYear (r .whole) (r .left) number ⌝ }
+{
+    let mut year = 1990u32;
+    let mut left = number;
+    loop {
+        let length = year_length(year);
+        if left < length {
+            return Part { whole: year, left };
+        }
+        left -= length;
+        year += 1;
+    }
+}
+
+// The month of a day of a year, and how many days of that month stand before it.
+fn month_of(year: u32, day: usize) -> Part
+    requires { ⌜ day < monthDays year 12 ⌝ }
+    ensures { λ r. ⌜ InMonth year (r .whole) (r .left) day ⌝ }
+{
+    let mut month = 1u32;
+    let mut left = day;
+    loop {
+        let length = month_length(year, month) as usize;
+        if left < length {
+            return Part { whole: month, left };
+        }
+        left -= length;
+        month += 1;
+    }
+}
+
 // Monday is 1 and Sunday 7.
 pub fn weekday(number: usize) -> u8
     ensures { λ r. ⌜ r ≡ weekdayOf number ⌝ }
 {
     (number % 7) as u8 + 1
+}
+
+// These two hold the constants to document 01's dates.
+fn first() -> Date
+    ensures { λ r. ⌜ r ≡ date 1990 1 1 ⌝ }
+{
+    Date::FIRST
+}
+
+fn last() -> Date
+    ensures { λ r. ⌜ r ≡ date 2099 12 31 ⌝ }
+{
+    Date::LAST
 }
 
 impl Date {
@@ -158,6 +217,18 @@ impl Date {
             return Number::Day(counted(year, month, day));
         }
         Number::NoDay
+    }
+
+    // The date of a day number.
+    pub fn from_number(number: usize) -> Made
+        ensures { λ r. ⌜ r ≡ dated number ⌝ }
+    {
+        if 40177 <= number {
+            return Made::NoDate;
+        }
+        let year = year_of(number);
+        let month = month_of(year.whole, year.left);
+        Date::new(year.whole, month.whole, month.left as u32 + 1)
     }
 
     // The ten bytes yyyy-mm-dd.

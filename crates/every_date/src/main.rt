@@ -34,7 +34,7 @@ fn line_of(date: [u8; 10], number: usize, weekday: u8) -> [u8; 19] {
     ]
 }
 
-// Whether the line reads as a date, and that date makes the line again.
+// Whether the line reads as a date, and that date's number, turned into a date, makes the line again.
 fn holds(line: &[u8]) -> bool {
     let Made::Valid(date) = dates::read_date(line, 0) else {
         return false;
@@ -42,7 +42,10 @@ fn holds(line: &[u8]) -> bool {
     let Number::Day(number) = date.day_number() else {
         return false;
     };
-    let made = line_of(date.text(), number, dates::weekday(number));
+    let Made::Valid(again) = Date::from_number(number) else {
+        return false;
+    };
+    let made = line_of(again.text(), number, dates::weekday(number));
     check::same(line, &made)
 }
 
@@ -153,6 +156,14 @@ fn short() -> u64 {
     }
 }
 
+// The number after the last date's has no date.
+fn past_last() -> u64 {
+    match Date::from_number(40177) {
+        Made::Valid(_) => 0,
+        Made::NoDate => 1,
+    }
+}
+
 fn number_of(made: Made) -> u64 {
     match made {
         Made::Valid(date) => match date.day_number() {
@@ -167,6 +178,7 @@ fn main() {
     every_date();
     no_dates();
     print(b"refused for its length: ", 3, short());
+    print(b"refused past the last: ", 1, past_last());
     io::write_all(STDOUT_FILENO, b"first and last: ");
     io::print_decimal(STDOUT_FILENO, number_of(Made::Valid(Date::FIRST)));
     io::write_all(STDOUT_FILENO, b" ");

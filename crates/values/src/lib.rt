@@ -24,7 +24,7 @@ pub enum Copied {
 }
 
 /// The byte after release at an index that is not released itself.
-fn next_byte(part: &[u8], i: usize) -> Next
+pub fn next_byte(part: &[u8], i: usize) -> Next
     ensures { λ r. ⌜ r ≡ nextAt (now (part .entry)) i ⌝ }
 {
     if part.len() <= i {

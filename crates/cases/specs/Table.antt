@@ -1,0 +1,62 @@
+-- What a row of the table of cases says, and the test of a row. Document 01, "Cases (P: to be proved)".
+-- Assumes nothing.
+use Prim.Native.Nat.{ℕ, suc, _+_}
+use Prim.Native.String.{String}
+use mathlib.Core.Bool.{Bool, true, false}
+use mathlib.Core.List.{List, [], _∷_}
+use lib.Dec.{eqb}
+use lib.ListN.{length}
+use Rattle.cases.specs.Text.{bytes}
+use Rattle.laws.specs.Choice.{both, among}
+use Rattle.laws.specs.Sweep.{same, below}
+use Rattle.syntax.specs.Segment.{bodyAt, segmentAt}
+use Rattle.syntax.specs.declared.segment.Scanned.{Scanned}
+use Rattle.syntax.specs.declared.segment.Scanned.the-variants.{End, NotPermitted, Unended, Malformed}
+use Rattle.dates.specs.Dates.{number}
+use Rattle.dates.specs.declared.Date.{Date}
+use Rattle.period.specs.Period.{periodOf, paperNumber, runsIn}
+use Rattle.period.specs.declared.Period.{Period}
+use Rattle.period.specs.declared.Period.the-variants.{Good, Wrong}
+
+-- which days of a period run
+pub data Days : Type 0 where
+  every : Days
+  only : List Date → Days
+
+-- what is to come of a case: a refusal with the paper's number; or a period from a first date to a last, with so many days, and those of them that run
+pub data Outcome : Type 0 where
+  refused : ℕ → Outcome
+  period : Date → Date → ℕ → Days → Outcome
+
+-- a POP as it is written, with its terminator, and what is to come of it. The cases of the register will be rows of other kinds.
+pub data Case : Type 0 where
+  pop : String → Outcome → Case
+
+abbrev numbers : List Date → List ℕ
+numbers [] = []
+numbers (d ∷ l) = number d ∷ numbers l
+
+-- whether a day is to run
+unfoldable pub expected : Days → ℕ → Bool
+expected every n = true
+expected (only l) n = among n (numbers l)
+
+-- the text is one whole segment
+abbrev whole : ℕ → Scanned → Bool
+whole n (End e) = eqb (suc e) n
+whole n (NotPermitted i) = false
+whole n Unended = false
+whole n Malformed = false
+
+unfoldable pub comesOf : List ℕ → Period → Outcome → Bool
+comesOf g p (refused x) = eqb (paperNumber p) x
+comesOf g (Wrong x) (period first last n days) = false
+comesOf g (Good f m form) (period first last n days) =
+    both (eqb f (number first))
+    (both (eqb (f + m) (suc (number last)))
+    (both (eqb m n) (below (λ k. same (runsIn g (Good f m form) k) (expected days (f + k))) m)))
+
+unfoldable pub holds : Case → Bool
+holds (pop text outcome) =
+    both (whole (length (bytes text)) (segmentAt (bytes text) 0))
+    (comesOf (bodyAt (bytes text) 0) (periodOf (bodyAt (bytes text) 0)) outcome)

@@ -1,0 +1,10 @@
+-- A text as the bytes of its characters.
+-- Assumes nothing.
+use Prim.Native.Nat.{ℕ}
+use Prim.Native.Char.{code}
+use Prim.Native.String.{String, [], _∷_}
+use mathlib.Core.List.{List, [] as []ᴸ, _∷_ as _∷ᴸ_}
+
+unfoldable pub bytes : String → List ℕ
+bytes [] = []ᴸ
+bytes (c ∷ s) = code c ∷ᴸ bytes s

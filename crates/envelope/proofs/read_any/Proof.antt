@@ -1,0 +1,123 @@
+-- `envelope::read_any` meets its contract.
+-- Assumes nothing.
+use mathlib.Core.Path.{_≡_, sym, ap, _∙_}
+use mathlib.Core.Bool.{true}
+use mathlib.Core.List.{List, [], _∷_}
+use Prim.Native.Nat.{ℕ}
+use borrow.Author.Tests.{not-true, not-false}
+use denote.Ref.{now}
+use lib.Dec.{leb}
+use Rattle.laws.specs.Choice.{all}
+use Rattle.parts.specs.declared.Part.{Part}
+use Rattle.envelope.specs.Envelope.{present, placeOf, directory, typed, typeOf, versionOf, releaseOf, subFunctionOf, agencyOf, referenceOf}
+use Rattle.envelope.specs.Laws.{place-absent, place-present, uih-absent, uih-missing, uih-unknown, uih-typed}
+use borrow.Author.Needs.{needs}
+use Rattle.envelope.proofs.read_any.Statement.{statement}
+use Rattle.envelope.proofs.read_any.Tie as tie
+
+-- what the test of the reference's place says of the segment
+module _ (d : tie.After-is-absent) where
+  abbrev segment : List ℕ
+  segment = now (d .before .before .before .args .segment)
+
+  found : leb (placeOf segment 2 1 .to) (placeOf segment 2 1 .from) ≡ d .is-absent .result
+  found = sym (d .is-absent .ensures ∙ ap (λ (x : Part). leb (x .to) (x .from)) (d .before .place .ensures))
+
+-- what the tests of S306 say of it
+module _ (k : tie.After-is-complete) where
+  abbrev start : tie.Else1
+  start = k .before .before .before .before .before
+
+  abbrev own : List ℕ
+  own = segment (start .before)
+
+  reference : present (referenceOf own) ≡ true
+  reference = place-present own 2 1 (found (start .before) ∙ start .if1 .left)
+
+  identifier : all present (typeOf own ∷ versionOf own ∷ releaseOf own ∷ agencyOf own ∷ []) ≡ k .is-complete .result
+  identifier =
+      let v = k .before in
+      sym (rw (v .before .before .before .value .ensures, v .before .before .value2 .ensures, v .before .value3 .ensures, v .value4 .ensures) at (k .is-complete .ensures))
+
+module _ (t : tie.After-is-directory) where
+  abbrev whole : List ℕ
+  whole = own (t .before .before .before)
+
+  codes : directory (versionOf whole) (releaseOf whole) (subFunctionOf whole) (agencyOf whole) ≡ t .is-directory .result
+  codes =
+      let v = t .before .before .before .before in
+      sym (rw (v .before .before .value2 .ensures, v .before .value3 .ensures, t .before .value5 .ensures, v .value4 .ensures) at (t .is-directory .ensures))
+
+place-requires : tie.Need-place-requires
+place-requires c κs = search needs
+
+is-absent-requires : tie.Need-is-absent-requires
+is-absent-requires c κs = search needs
+
+returns : tie.Need-returns
+returns c =
+    let d = c .before in
+    uih-absent (segment d) (place-absent (segment d) 2 1 (found d ∙ c .if1 .taken))
+
+value-requires : tie.Need-value-requires
+value-requires c κs = search needs
+
+value-requires-2 : tie.Need-value-requires-2
+value-requires-2 c κs = search needs
+
+value-requires-3 : tie.Need-value-requires-3
+value-requires-3 c κs = search needs
+
+value-requires-4 : tie.Need-value-requires-4
+value-requires-4 c κs = search needs
+
+is-complete-requires : tie.Need-is-complete-requires
+is-complete-requires c κs = search needs
+
+returns-2 : tie.Need-returns-2
+returns-2 c =
+    let k = c .before in
+    uih-missing (own k) (reference k) (identifier k ∙ not-true (k .is-complete .result) (c .if2 .taken))
+
+value-requires-5 : tie.Need-value-requires-5
+value-requires-5 c κs = search needs
+
+is-directory-requires : tie.Need-is-directory-requires
+is-directory-requires c κs = search needs
+
+returns-3 : tie.Need-returns-3
+returns-3 c =
+    let t = c .before in
+    let k = t .before .before .before in
+    uih-unknown (own k) (reference k) (identifier k ∙ not-false (k .is-complete .result) (t .before .before .if2 .left)) (codes t ∙ not-true (t .is-directory .result) (c .if3 .taken))
+
+message-requires : tie.Need-message-requires
+message-requires c κs = search needs
+
+returns-4 : tie.Need-returns-4
+returns-4 c =
+    let t = c .before .before in
+    let k = t .before .before .before in
+    c .message .ensures
+    ∙ ap (λ (x : List ℕ). typed x (start k .before .before .place .result)) (k .before .before .before .before .value .ensures)
+    ∙ ap (typed (typeOf (own k))) (start k .before .before .place .ensures)
+    ∙ uih-typed (own k) (reference k) (identifier k ∙ not-false (k .is-complete .result) (t .before .before .if2 .left)) (codes t ∙ not-false (t .is-directory .result) (c .before .if3 .left))
+
+pub read-any-spec : {M : Type 1} → statement M
+read-any-spec =
+    tie.close
+    (tie.spec
+    place-requires
+    is-absent-requires
+    returns
+    value-requires
+    value-requires-2
+    value-requires-3
+    value-requires-4
+    is-complete-requires
+    returns-2
+    value-requires-5
+    is-directory-requires
+    returns-3
+    message-requires
+    returns-4)

@@ -1,0 +1,133 @@
+-- The contents of the four service segments (document 01, "Bytes and segments").
+-- Each definition takes the segment's own bytes g, from its tag up to and without its terminator.
+-- Assumes nothing.
+use Prim.Native.Nat.{ℕ}
+use mathlib.Core.Bool.{Bool, true, false, not}
+use mathlib.Core.List.{List, [], _∷_}
+use lib.ListN.{length}
+use Rattle.laws.specs.Choice.{pick, both, all}
+use Rattle.syntax.specs.Bytes.{plain}
+use Rattle.syntax.specs.Pieces.{partOf}
+use Rattle.parts.specs.declared.Part.{Part}
+use Rattle.parts.specs.Places.{partAt}
+use Rattle.values.specs.Values.{sameText}
+use Rattle.envelope.specs.declared.Opened.{Opened}
+use Rattle.envelope.specs.declared.Opened.the-variants.{Dialogue, Wrong}
+use Rattle.envelope.specs.declared.Headed.{Headed}
+use Rattle.envelope.specs.declared.Headed.the-variants.{Message, Missing, Unknown}
+use Rattle.envelope.specs.Decimal.{decimalOf}
+
+-- "An empty part is read as absent."
+abbrev pub present : List ℕ → Bool
+present [] = false
+present (b ∷ l) = true
+
+-- ".. compared after release": whether a part as written says the text
+abbrev pub says : List ℕ → List ℕ → Bool
+says part text = sameText (plain part) text
+
+-- "`UNOB:4` is the first two components, S306 the first five, each other the first component, of the first occurrence of its
+-- element, compared after release; the rest is not read."
+abbrev pub valueOf : List ℕ → ℕ → ℕ → List ℕ
+valueOf g e c = partOf g e 1 c
+
+-- where that component stands in the segment
+abbrev pub placeOf : List ℕ → ℕ → ℕ → Part
+placeOf g e c = partAt g (record { from = 0; to = length g }) e 1 c
+
+-- the texts that the segments name
+abbrev pub UNOB : List ℕ
+UNOB = 85 ∷ 78 ∷ 79 ∷ 66 ∷ []
+
+abbrev pub version4 : List ℕ
+version4 = 52 ∷ []
+
+abbrev pub SKDUPD : List ℕ
+SKDUPD = 83 ∷ 75 ∷ 68 ∷ 85 ∷ 80 ∷ 68 ∷ []
+
+abbrev pub TSDUPD : List ℕ
+TSDUPD = 84 ∷ 83 ∷ 68 ∷ 85 ∷ 80 ∷ 68 ∷ []
+
+abbrev pub versionD : List ℕ
+versionD = 68 ∷ []
+
+abbrev pub release04A : List ℕ
+release04A = 48 ∷ 52 ∷ 65 ∷ []
+
+abbrev pub agencyUN : List ℕ
+agencyUN = 85 ∷ 78 ∷ []
+
+-- "UIB begins `UNOB:4`", and "the dialogue reference of UIB" is its second element: 7 where one of the three is not there
+unfoldable pub uibOf : List ℕ → Opened
+uibOf g =
+    pick (both (says (valueOf g 1 1) UNOB) (both (says (valueOf g 1 2) version4) (present (valueOf g 2 1))))
+    (Dialogue (placeOf g 2 1))
+    Wrong
+
+-- "UIH names in S306, as ISO 9735-3 orders it, the type, `D`, `04A`, an empty 0113 and `UN`; then the reference 0340."
+-- Document 000, UIH: 0065, 0052, 0054, 0113 and 0051 of S306, then 0340.
+abbrev pub typeOf : List ℕ → List ℕ
+typeOf g = valueOf g 1 1
+
+abbrev pub versionOf : List ℕ → List ℕ
+versionOf g = valueOf g 1 2
+
+abbrev pub releaseOf : List ℕ → List ℕ
+releaseOf g = valueOf g 1 3
+
+abbrev pub subFunctionOf : List ℕ → List ℕ
+subFunctionOf g = valueOf g 1 4
+
+abbrev pub agencyOf : List ℕ → List ℕ
+agencyOf g = valueOf g 1 5
+
+abbrev pub referenceOf : List ℕ → List ℕ
+referenceOf g = valueOf g 2 1
+
+-- "All but 0113 must be present (an absent one is 7; ..)"
+abbrev pub complete : List ℕ → List ℕ → List ℕ → List ℕ → List ℕ → Bool
+complete type version release agency reference = all present (type ∷ version ∷ release ∷ agency ∷ reference ∷ [])
+
+-- "(..; in S306 another than these is 8)": the parts of S306 after the type
+abbrev pub directory : List ℕ → List ℕ → List ℕ → List ℕ → Bool
+directory version release subFunction agency =
+    both (says version versionD) (both (says release release04A) (both (not (present subFunction)) (says agency agencyUN)))
+
+-- the type: 0 is SKDUPD, 1 is TSDUPD; with it goes the place of 0340
+abbrev pub typed : List ℕ → Part → Headed
+typed type reference = pick (says type SKDUPD) (Message 0 reference) (pick (says type TSDUPD) (Message 1 reference) Unknown)
+
+-- an absent part is 7 also where another part is wrong; then what is not known is 8
+unfoldable pub uihOf : List ℕ → Headed
+uihOf g =
+    pick (complete (typeOf g) (versionOf g) (releaseOf g) (agencyOf g) (referenceOf g))
+    (pick (directory (versionOf g) (releaseOf g) (subFunctionOf g) (agencyOf g)) (typed (typeOf g) (placeOf g 2 1)) Unknown)
+    Missing
+
+-- A trailer repeats a reference, as it was written, in its first element and gives a count in its second.
+unfoldable pub trailerOf : List ℕ → List ℕ → ℕ → Bool
+trailerOf g reference count =
+    both (both (present (valueOf g 1 1)) (says (valueOf g 1 1) (plain reference)))
+    (both (present (valueOf g 2 1)) (says (valueOf g 2 1) (decimalOf count)))
+
+-- "UIT repeats 0340 and gives the number of segments, UIH and UIT included."
+abbrev pub uitOf : List ℕ → List ℕ → ℕ → Bool
+uitOf g reference segments = trailerOf g reference segments
+
+-- "UIZ gives the dialogue reference of UIB and the number of messages."
+abbrev pub uizOf : List ℕ → List ℕ → ℕ → Bool
+uizOf g dialogue messages = trailerOf g dialogue messages
+
+-- "What each number means": 7 envelope contents, 8 type or directory not known; 0 where the segment is good
+abbrev pub openedNumber : Opened → ℕ
+openedNumber (Dialogue p) = 0
+openedNumber Wrong = 7
+
+abbrev pub headedNumber : Headed → ℕ
+headedNumber (Message t p) = 0
+headedNumber Missing = 7
+headedNumber Unknown = 8
+
+abbrev pub trailerNumber : Bool → ℕ
+trailerNumber true = 0
+trailerNumber false = 7

@@ -1,0 +1,5 @@
+pub mod Decimal
+pub mod Envelope
+pub mod Laws
+pub mod Written
+pub mod Cases

@@ -1,0 +1,118 @@
+-- A UIH as it is mostly written, known by its first bytes.
+-- Assumes nothing.
+use Prim.Native.Nat.{ℕ, _+_, _≤_, _<_}
+use mathlib.Core.Path.{_≡_, refl, sym, ap, subst, _∙_}
+use mathlib.Core.Bool.{Bool, true, false}
+use mathlib.Core.List.{List, [], _∷_, _++_}
+use native.Mathlib.Omega.{arith}
+use borrow.Author.Tests.{eqb-true, eq-eqb, ne-eqb}
+use lib.Dec.{eqb, leb}
+use lib.ListN.{length, drop, getD}
+use Rattle.laws.specs.Choice.{pick, both, both-false, both-parts, false≢true, choose}
+use Rattle.laws.specs.Lists.{drop-here, drop-past}
+use Rattle.syntax.specs.Bytes.{plainOn}
+use Rattle.syntax.specs.Pieces.{first, later, partOf}
+use Rattle.values.specs.Values.{sameText}
+use Rattle.parts.specs.declared.Part.{Part}
+use Rattle.parts.specs.Places.{partAt, elementAt, occurrenceAt, componentAt, spanOf}
+use Rattle.envelope.specs.declared.Headed.{Headed}
+use Rattle.envelope.specs.Laws.{whole-bytes, between-end, present-place}
+use Rattle.envelope.specs.declared.Headed.the-variants.{Message, Missing}
+use Rattle.envelope.specs.Envelope.{present, placeOf, referenceOf, uihOf}
+
+-- whether a text begins with another
+unfoldable pub beginsWith : List ℕ → List ℕ → Bool
+beginsWith g [] = true
+beginsWith [] (t ∷ text) = false
+beginsWith (b ∷ g) (t ∷ text) = both (eqb b t) (beginsWith g text)
+
+pub begins-short : (g text : List ℕ) → length g < length text → beginsWith g text ≡ false
+unfolding beginsWith
+begins-short g [] h = absurd (omega arith)
+begins-short [] (t ∷ text) h = refl
+begins-short (b ∷ g) (t ∷ text) h = rw (begins-short g text (omega arith)) (both-false (eqb b t))
+
+module _ (g text : List ℕ) (i : ℕ) where
+  pub begins-past : length text ≤ i → beginsWith (drop i g) (drop i text) ≡ true
+  unfolding beginsWith
+  begins-past h = rw (drop-past text i h)
+
+  module _ (h : i < length g) (k : i < length text) where
+    pub begins-not : (getD g i 0 ≡ getD text i 0 → ⊥) → beginsWith (drop i g) (drop i text) ≡ false
+    unfolding beginsWith
+    begins-not n = rw (drop-here g i h, drop-here text i k, ne-eqb (getD g i 0) (getD text i 0) n)
+
+    pub begins-goes : getD g i 0 ≡ getD text i 0 → beginsWith (drop i g) (drop i text) ≡ beginsWith (drop (i + 1) g) (drop (i + 1) text)
+    unfolding beginsWith
+    begins-goes e = rw (drop-here g i h, drop-here text i k, eq-eqb (getD g i 0) (getD text i 0) e)
+
+begins-split : (g text : List ℕ) → beginsWith g text ≡ true → g ≡ text ++ drop (length text) g
+unfolding beginsWith
+begins-split g [] q = refl
+begins-split [] (t ∷ text) q = absurd (false≢true q)
+begins-split (b ∷ g) (t ∷ text) q =
+    let w = both-parts (eqb b t) (beginsWith g text) q in
+    rw (eqb-true b t (w .0)) (ap (λ (x : List ℕ). t ∷ x) (begins-split g text (w .1)))
+
+-- `UIH+SKDUPD:D:04A::UN+` and `UIH+TSDUPD:D:04A::UN+`
+abbrev pub headSKDUPD : List ℕ
+headSKDUPD = 85 ∷ 73 ∷ 72 ∷ 43 ∷ 83 ∷ 75 ∷ 68 ∷ 85 ∷ 80 ∷ 68 ∷ 58 ∷ 68 ∷ 58 ∷ 48 ∷ 52 ∷ 65 ∷ 58 ∷ 58 ∷ 85 ∷ 78 ∷ 43 ∷ []
+
+abbrev pub headTSDUPD : List ℕ
+headTSDUPD = 85 ∷ 73 ∷ 72 ∷ 43 ∷ 84 ∷ 83 ∷ 68 ∷ 85 ∷ 80 ∷ 68 ∷ 58 ∷ 68 ∷ 58 ∷ 48 ∷ 52 ∷ 65 ∷ 58 ∷ 58 ∷ 85 ∷ 78 ∷ 43 ∷ []
+
+-- From the `+` at index 20 on, 0340 is the first element: its place is found without passing what is known.
+unfoldable pub besides : List ℕ → Part
+besides g = partAt g (record { from = 20; to = length g }) 1 1 1
+
+-- a UIH of which all but 0340 is known to be good
+abbrev pub writtenOf : ℕ → List ℕ → Headed
+writtenOf type g = pick (leb (besides g .to) (besides g .from)) Missing (Message type (besides g))
+
+module _ (type : ℕ) (g : List ℕ) (p : Part) (e : p ≡ besides g) where
+  pub written-absent : leb (p .to) (p .from) ≡ true → Missing ≡ writtenOf type g
+  written-absent q = rw (sym (ap (λ (x : Part). leb (x .to) (x .from)) e) ∙ q)
+
+  pub written-good : leb (p .to) (p .from) ≡ false → Message type p ≡ writtenOf type g
+  written-good q = rw (sym (ap (λ (x : Part). leb (x .to) (x .from)) e) ∙ q) (ap (Message type) e)
+
+-- what a text must be for that: where the element of 0340 stands behind it, and that nothing but 0340 can be wrong
+record Known (type : ℕ) (text : List ℕ) : Type 0 where
+  pub element : (rest : List ℕ) → elementAt (text ++ rest) (record { from = 20; to = length (text ++ rest) }) 1 ≡ elementAt (text ++ rest) (record { from = 0; to = length (text ++ rest) }) 2
+  pub good : (rest : List ℕ) → uihOf (text ++ rest) ≡ pick (both (present (referenceOf (text ++ rest))) true) (Message type (placeOf (text ++ rest) 2 1)) Missing
+
+skdupd : Known 0 headSKDUPD
+unfolding uihOf partOf first later plainOn sameText elementAt spanOf
+skdupd =
+    record {
+      element = λ rest. rw (between-end (headSKDUPD ++ rest) 20, whole-bytes (headSKDUPD ++ rest));
+      good = λ rest. refl;
+    }
+
+tsdupd : Known 1 headTSDUPD
+unfolding uihOf partOf first later plainOn sameText elementAt spanOf
+tsdupd =
+    record {
+      element = λ rest. rw (between-end (headTSDUPD ++ rest) 20, whole-bytes (headTSDUPD ++ rest));
+      good = λ rest. refl;
+    }
+
+module _ (type : ℕ) (text : List ℕ) (k : Known type text) where
+  behind : (rest : List ℕ) → besides (text ++ rest) ≡ placeOf (text ++ rest) 2 1
+  unfolding besides
+  behind rest = ap (λ (x : Part). componentAt (text ++ rest) (occurrenceAt (text ++ rest) x 1) 1) (k .element rest)
+
+  written-rest : (rest : List ℕ) → writtenOf type (text ++ rest) ≡ uihOf (text ++ rest)
+  written-rest rest =
+      let p = placeOf (text ++ rest) 2 1 in
+      rw (behind rest, k .good rest, present-place (text ++ rest) 2 1)
+      (choose (leb (placeOf (text ++ rest) 2 1 .to) (placeOf (text ++ rest) 2 1 .from)) (λ q. rw q) (λ q. rw q))
+
+  written : (g : List ℕ) → beginsWith g text ≡ true → writtenOf type g ≡ uihOf g
+  written g q = subst (λ (x : List ℕ). writtenOf type x ≡ uihOf x) (sym (begins-split g text q)) (written-rest (drop (length text) g))
+
+pub skdupd-head : (g : List ℕ) → beginsWith g headSKDUPD ≡ true → writtenOf 0 g ≡ uihOf g
+skdupd-head g q = written 0 headSKDUPD skdupd g q
+
+pub tsdupd-head : (g : List ℕ) → beginsWith g headTSDUPD ≡ true → writtenOf 1 g ≡ uihOf g
+tsdupd-head g q = written 1 headTSDUPD tsdupd g q

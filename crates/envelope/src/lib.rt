@@ -1,0 +1,250 @@
+//! The contents of the four service segments: UIB, UIH, UIT, UIZ.
+//! Each function takes a segment's own bytes, from its tag up to and without its terminator.
+
+use parts::Part;
+ghost use mathlib.Core.Path.{_≡_};
+ghost use Prim.Native.Nat.{_%_, _≤_};
+ghost use lib.ListN.{length, drop};
+ghost use mathlib.Core.List.{[], _∷_};
+ghost use Rattle.laws.specs.Choice.{all};
+ghost use Rattle.syntax.specs.Bytes.{plain};
+ghost use Rattle.values.specs.Values.{sameText};
+ghost use Rattle.envelope.specs.Decimal.{decimalOf, digitOf};
+ghost use Rattle.envelope.specs.Envelope.{present, valueOf, placeOf, directory, typed, uibOf, uihOf, trailerOf, uitOf, uizOf};
+ghost use Rattle.envelope.specs.Written.{beginsWith, writtenOf};
+
+/// What a UIB says.
+pub enum Opened {
+    /// Where its dialogue reference stands in the segment.
+    Dialogue(Part),
+    /// 7: another beginning than `UNOB:4`, or no dialogue reference.
+    Wrong,
+}
+
+/// What a UIH says.
+pub enum Headed {
+    /// The type, 0 for SKDUPD and 1 for TSDUPD, and where the reference 0340 stands in the segment.
+    Message(u8, Part),
+    /// 7: a part that must be present is absent.
+    Missing,
+    /// 8: another type or directory.
+    Unknown,
+}
+
+// The byte of a digit.
+fn digit(n: usize) -> u8
+    ensures { λ r. ⌜ r ≡ digitOf (n % 10) ⌝ }
+{
+    (n % 10) as u8 + 48
+}
+
+// Whether a part says the digits that stand from an index on.
+fn says_from(part: &[u8], digits: &[u8], from: usize) -> bool
+    requires { ⌜ from ≤ length (now digits) ⌝ }
+    ensures { λ r. ⌜ r ≡ sameText (plain (now (part .entry))) (drop from (now (digits .entry))) ⌝ }
+{
+    values::equals(part, &digits[from..])
+}
+
+/// Whether a part says a number in decimal digits, with no leading zero.
+pub fn is_decimal(part: &[u8], n: usize) -> bool
+    ensures { λ r. ⌜ r ≡ sameText (plain (now (part .entry))) (decimalOf n) ⌝ }
+{
+    let mut digits = [0u8; 20];
+    let mut from: usize = 20;
+    let mut left = n;
+    while 0 < from {
+        from -= 1;
+        digits[from] = digit(left);
+        if left < 10 {
+            return says_from(part, &digits, from);
+        }
+        left /= 10;
+    }
+    values::equals(part, &digits)
+}
+
+// Where component c of element e stands, in its first occurrence.
+fn place(segment: &[u8], e: usize, c: usize) -> Part
+    ensures { λ r. ⌜ r ≡ placeOf (now (segment .entry)) e c ⌝ }
+{
+    let whole = Part {
+        from: 0,
+        to: segment.len(),
+    };
+    parts::part_at(segment, whole, e, 1, c)
+}
+
+// Component c of element e, in its first occurrence, as written.
+fn value(segment: &[u8], e: usize, c: usize) -> &[u8]
+    ensures { λ r. ⌜ now r ≡ valueOf (now (segment .entry)) e c ⌝ }
+{
+    parts::bytes_of(segment, place(segment, e, c))
+}
+
+/// Whether a UIB begins `UNOB:4` and where its dialogue reference stands.
+pub fn read_uib(segment: &[u8]) -> Opened
+    ensures { λ r. ⌜ r ≡ uibOf (now (segment .entry)) ⌝ }
+{
+    if !values::equals(value(segment, 1, 1), b"UNOB") {
+        return Opened::Wrong;
+    }
+    if !values::equals(value(segment, 1, 2), b"4") {
+        return Opened::Wrong;
+    }
+    let dialogue = place(segment, 2, 1);
+    if dialogue.is_absent() {
+        return Opened::Wrong;
+    }
+    Opened::Dialogue(dialogue)
+}
+
+// Whether a part has a byte.
+fn is_present(part: &[u8]) -> bool
+    ensures { λ r. ⌜ r ≡ present (now (part .entry)) ⌝ }
+{
+    0 < part.len()
+}
+
+// Whether a segment begins with the given bytes.
+fn begins(segment: &[u8], text: &[u8]) -> bool
+    ensures { λ r. ⌜ r ≡ beginsWith (now (segment .entry)) (now (text .entry)) ⌝ }
+{
+    if segment.len() < text.len() {
+        return false;
+    }
+    let mut i = 0;
+    while i < text.len() {
+        if segment[i] != text[i] {
+            return false;
+        }
+        i += 1;
+    }
+    true
+}
+
+// Whether the parts of S306 that must be present are.
+fn is_complete(message_type: &[u8], version: &[u8], release: &[u8], agency: &[u8]) -> bool
+    ensures { λ r. ⌜ r ≡ all present (now («message_type» .entry) ∷ now (version .entry) ∷ now (release .entry) ∷ now (agency .entry) ∷ []) ⌝ }
+{
+    if !is_present(message_type) {
+        return false;
+    }
+    if !is_present(version) {
+        return false;
+    }
+    if !is_present(release) {
+        return false;
+    }
+    is_present(agency)
+}
+
+// Whether the parts of S306 after the type are those of directory D.04A.
+fn is_directory(version: &[u8], release: &[u8], sub_function: &[u8], agency: &[u8]) -> bool
+    ensures { λ r. ⌜ r ≡ directory (now (version .entry)) (now (release .entry)) (now («sub_function» .entry)) (now (agency .entry)) ⌝ }
+{
+    if !values::equals(version, b"D") {
+        return false;
+    }
+    if !values::equals(release, b"04A") {
+        return false;
+    }
+    if is_present(sub_function) {
+        return false;
+    }
+    values::equals(agency, b"UN")
+}
+
+// The message of a type whose reference stands at a place.
+fn message(message_type: &[u8], reference: Part) -> Headed
+    ensures { λ r. ⌜ r ≡ typed (now («message_type» .entry)) reference ⌝ }
+{
+    if values::equals(message_type, b"SKDUPD") {
+        return Headed::Message(0, reference);
+    }
+    if values::equals(message_type, b"TSDUPD") {
+        return Headed::Message(1, reference);
+    }
+    Headed::Unknown
+}
+
+// A UIH that begins as most are written: only its reference may be missing.
+fn read_written(segment: &[u8], kind: u8) -> Headed
+    ensures { λ r. ⌜ r ≡ writtenOf kind (now (segment .entry)) ⌝ }
+{
+    let rest = Part {
+        from: 20,
+        to: segment.len(),
+    };
+    let reference = parts::part_at(segment, rest, 1, 1, 1);
+    if reference.is_absent() {
+        return Headed::Missing;
+    }
+    Headed::Message(kind, reference)
+}
+
+// A UIH written in any way, part by part.
+fn read_any(segment: &[u8]) -> Headed
+    ensures { λ r. ⌜ r ≡ uihOf (now (segment .entry)) ⌝ }
+{
+    let reference = place(segment, 2, 1);
+    if reference.is_absent() {
+        return Headed::Missing;
+    }
+    let message_type = value(segment, 1, 1);
+    let version = value(segment, 1, 2);
+    let release = value(segment, 1, 3);
+    let agency = value(segment, 1, 5);
+    if !is_complete(message_type, version, release, agency) {
+        return Headed::Missing;
+    }
+    if !is_directory(version, release, value(segment, 1, 4), agency) {
+        return Headed::Unknown;
+    }
+    message(message_type, reference)
+}
+
+/// The type and the reference of a message, or what is wrong with its UIH.
+pub fn read_uih(segment: &[u8]) -> Headed
+    ensures { λ r. ⌜ r ≡ uihOf (now (segment .entry)) ⌝ }
+{
+    if begins(segment, b"UIH+SKDUPD:D:04A::UN+") {
+        return read_written(segment, 0);
+    }
+    if begins(segment, b"UIH+TSDUPD:D:04A::UN+") {
+        return read_written(segment, 1);
+    }
+    read_any(segment)
+}
+
+// Whether a trailer repeats a reference, given as it was written, and gives a count.
+fn check_trailer(segment: &[u8], reference: &[u8], count: usize) -> bool
+    ensures { λ r. ⌜ r ≡ trailerOf (now (segment .entry)) (now (reference .entry)) count ⌝ }
+{
+    let repeated = value(segment, 1, 1);
+    if !is_present(repeated) {
+        return false;
+    }
+    if !values::same(repeated, reference) {
+        return false;
+    }
+    let counted = value(segment, 2, 1);
+    if !is_present(counted) {
+        return false;
+    }
+    is_decimal(counted, count)
+}
+
+/// Whether a UIT repeats the 0340 of its UIH and gives the number of the message's segments.
+pub fn check_uit(segment: &[u8], reference: &[u8], segments: usize) -> bool
+    ensures { λ r. ⌜ r ≡ uitOf (now (segment .entry)) (now (reference .entry)) segments ⌝ }
+{
+    check_trailer(segment, reference, segments)
+}
+
+/// Whether a UIZ gives the dialogue reference of the UIB and the number of messages.
+pub fn check_uiz(segment: &[u8], dialogue: &[u8], messages: usize) -> bool
+    ensures { λ r. ⌜ r ≡ uizOf (now (segment .entry)) (now (dialogue .entry)) messages ⌝ }
+{
+    check_trailer(segment, dialogue, messages)
+}

@@ -1,0 +1,100 @@
+-- The steps of a reading, as the loop takes them, and the rows as numbers.
+-- Assumes nothing.
+use mathlib.Core.Path.{_≡_, refl, sym, ap, _∙_}
+use mathlib.Core.Bool.{Bool, true, false}
+use mathlib.Core.List.{List, [], _∷_, _++_, append-assoc, append-nil}
+use Prim.Native.Nat.{ℕ, zero, suc, _+_, _-_, _*_, _≤_, _<_}
+use native.Mathlib.Omega.{arith}
+use lib.Dec.{eqb, ltb}
+use borrow.Author.Tests.{lt-ltb, le-ltb}
+use lib.ListN.{length, take, drop, set, getD, length-set}
+use lib.Seq.{take-suc-set}
+use native.Mathlib.Numerals.{add-one}
+use native.Mathlib.Nat.{sub-zero}
+use Rattle.laws.specs.Choice.{pick}
+use Rattle.laws.specs.Lists.{over, onto, onto-start, onto-step, onto-done, drop-here}
+use Rattle.syntax.specs.declared.segment.Refusal.{Refusal}
+use Rattle.syntax.specs.declared.segment.Scanned.{Scanned}
+use Rattle.syntax.specs.Segment.{segmentAt}
+use Rattle.interchange.specs.declared.state.Phase.{Phase}
+use Rattle.interchange.specs.declared.state.State.{State}
+use Rattle.interchange.specs.declared.state.Row.{Row}
+use Rattle.interchange.specs.Reader.{Outcome, stop, isClosed, afterScan, readOn, numbers, rowNumbers}
+
+-- f is enough where it passes the bytes that are left
+module _ (f : ℕ) (s : List ℕ) (st : State) (at : ℕ) where
+  one-more : length s < at + f → at ≤ length s → f ≡ suc (f - 1)
+  one-more g h = omega arith
+
+  pub read-past : at < length s → length s < at + f → isClosed (st .phase) ≡ true → readOn f s st at ≡ stop 7 at
+  unfolding readOn
+  read-past h g c = ap (λ (x : ℕ). readOn x s st at) (one-more g (omega arith)) ∙ rw (lt-ltb at (length s) h, c)
+
+  pub read-on : at < length s → length s < at + f → isClosed (st .phase) ≡ false
+      → readOn f s st at ≡ afterScan (readOn (f - 1) s) s st at (segmentAt s at)
+  unfolding readOn
+  read-on h g c = ap (λ (x : ℕ). readOn x s st at) (one-more g (omega arith)) ∙ rw (lt-ltb at (length s) h, c)
+
+  pub read-accepted : length s ≤ at → at ≤ length s → length s < at + f → isClosed (st .phase) ≡ true → readOn f s st at ≡ stop 0 0
+  unfolding readOn
+  read-accepted h k g c = ap (λ (x : ℕ). readOn x s st at) (one-more g k) ∙ rw (le-ltb at (length s) h, c)
+
+  pub read-stops : length s ≤ at → at ≤ length s → length s < at + f → isClosed (st .phase) ≡ false → readOn f s st at ≡ stop 7 (length s)
+  unfolding readOn
+  read-stops h k g c = ap (λ (x : ℕ). readOn x s st at) (one-more g k) ∙ rw (le-ltb at (length s) h, c)
+
+-- a row put behind those that stand
+unfoldable pub putRow : List ℕ → ℕ → Row → List ℕ
+putRow l i r = set (set (set l i (r .offset)) (i + 1) (r .group)) (i + 2) (r .tag)
+
+pub length-putRow : (l : List ℕ) (i : ℕ) (r : Row) → length (putRow l i r) ≡ length l
+unfolding putRow
+length-putRow l i r = simp length-set
+
+pub take-putRow : (l : List ℕ) (i : ℕ) (r : Row) → i + 2 < length l → take (i + 3) (putRow l i r) ≡ take i l ++ rowNumbers r
+unfolding putRow
+take-putRow l i r h =
+    let a = r .offset in
+    let b = r .group in
+    let c = r .tag in
+    let l₁ = set l i a in
+    let l₂ = set l₁ (i + 1) b in
+    let e₁ = length-set l i a in
+    let e₂ = length-set l₁ (i + 1) b in
+    let s₃ : i + 3 ≡ suc (i + 2) = omega arith in
+    let s₂ : i + 2 ≡ suc (i + 1) = omega arith in
+    let t₃ : take (i + 3) (set l₂ (i + 2) c) ≡ take (i + 2) l₂ ++ (c ∷ []) =
+    ap (λ (x : ℕ). take x (set l₂ (i + 2) c)) s₃ ∙ take-suc-set l₂ (i + 2) c (omega arith) in
+    let t₂ : take (i + 2) l₂ ≡ take (i + 1) l₁ ++ (b ∷ []) =
+    ap (λ (x : ℕ). take x l₂) s₂ ∙ take-suc-set l₁ (i + 1) b (omega arith) in
+    let t₁ : take (i + 1) l₁ ≡ take i l ++ (a ∷ []) =
+    ap (λ (x : ℕ). take x l₁) (add-one i) ∙ take-suc-set l i a (omega arith) in
+    t₃ ∙ rw (t₂, t₁) (simp append-assoc)
+
+-- the rows so far, and those still to come
+pub rows-step : (l : List ℕ) (i : ℕ) (r : Row) (rest : List Row) → i + 2 < length l
+    → take (i + 3) (putRow l i r) ++ numbers rest ≡ take i l ++ numbers (r ∷ rest)
+unfolding numbers
+rows-step l i r rest h = rw (take-putRow l i r h) (append-assoc (take i l) (rowNumbers r) (numbers rest))
+
+pub length-numbers : (l : List Row) → length (numbers l) ≡ 3 * length l
+unfolding numbers
+length-numbers [] = refl
+length-numbers (r ∷ l) = let h = length-numbers l in omega arith
+
+-- a copy in place: what is copied, then what is still to be
+module _ (from : List ℕ) (n : ℕ) where
+  pub copy-start : (to : List ℕ) → onto to 0 (take (n - 0) (drop 0 from)) ≡ over (take n from) to
+  copy-start to = rw sub-zero (onto-start to (take n from))
+
+  pub copy-step : (to : List ℕ) (i : ℕ) → i < n → i < length from → i < length to
+      → onto (set to i (getD from i 0)) (i + 1) (take (n - (i + 1)) (drop (i + 1) from)) ≡ onto to i (take (n - i) (drop i from))
+  copy-step to i h g k =
+      let e : n - i ≡ suc (n - (i + 1)) = omega arith in
+      onto-step to i (getD from i 0) (take (n - (i + 1)) (drop (i + 1) from)) k
+      ∙ ap (onto to i) (sym (ap (λ (x : List ℕ). take (n - i) x) (drop-here from i g) ∙ rw e))
+
+  pub copy-done : (to : List ℕ) (i : ℕ) → n ≤ i → onto to i (take (n - i) (drop i from)) ≡ to
+  copy-done to i h =
+      let e : n - i ≡ 0 = omega arith in
+      rw e (onto-done to i)

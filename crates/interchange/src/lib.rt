@@ -1,0 +1,5 @@
+//! The whole reader: the envelope, one segment's step, and the fold over an interchange.
+
+mod rows;
+pub mod state;
+pub mod step;

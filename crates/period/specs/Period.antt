@@ -1,0 +1,136 @@
+-- A POP in group 4 of SKDUPD: the days on which a service runs. Document 01, "Calendars"; number 10.
+-- g is the segment without its terminator. "Element repetition in these is wrong; 2379, 4405 and further parts are not read."
+-- Assumes nothing.
+use Prim.Native.Nat.{ℕ, _+_}
+use mathlib.Core.Bool.{Bool, true, false, not}
+use mathlib.Core.List.{List, [], _∷_}
+use lib.Dec.{eqb, leb, ltb}
+use lib.ListN.{length, getD}
+use Rattle.laws.specs.Choice.{pick, both, either, all, among}
+use Rattle.syntax.specs.Bytes.{plain}
+use Rattle.syntax.specs.Pieces.{partOf}
+use Rattle.parts.specs.Places.{repeats}
+use Rattle.values.specs.Values.{sameText}
+use Rattle.dates.specs.Days.{weekdayOf}
+use Rattle.dates.specs.Dates.{number}
+use Rattle.dates.specs.Text.{dateAt}
+use Rattle.dates.specs.declared.Date.{Date}
+use Rattle.dates.specs.declared.Made.{Made}
+use Rattle.dates.specs.declared.Made.the-variants.{Valid, NoDate}
+use Rattle.calendar.specs.Written.{dayCount, goodPeriod}
+use Rattle.period.specs.declared.Form.{Form}
+use Rattle.period.specs.declared.Form.the-variants.{Every, ByString, ByWeekdays}
+use Rattle.period.specs.declared.Fault.{Fault}
+use Rattle.period.specs.declared.Fault.the-variants.{BadDates, BadDayString, BadWeekdays, BothForms, NeitherForm, BadRest}
+use Rattle.period.specs.declared.Period.{Period}
+use Rattle.period.specs.declared.Period.the-variants.{Good, Wrong}
+use Rattle.period.specs.declared.Span.{Span}
+use Rattle.period.specs.declared.Span.the-variants.{Days, NoSpan}
+use Rattle.period.specs.declared.Formed.{Formed}
+use Rattle.period.specs.declared.Formed.the-variants.{Told, Faulty}
+
+-- The parts that are read, each the first occurrence and after release: the qualifier, `first/last`, 4440 and 2160.
+abbrev pub qualifier : List ℕ → List ℕ
+qualifier g = plain (partOf g 1 1 1)
+
+abbrev pub firstLast : List ℕ → List ℕ
+firstLast g = plain (partOf g 1 1 2)
+
+abbrev pub dayText : List ℕ → List ℕ
+dayText g = plain (partOf g 1 1 4)
+
+abbrev pub weekText : List ℕ → List ℕ
+weekText g = plain (partOf g 2 1 1)
+
+-- "An empty part is read as absent."
+abbrev pub present : List ℕ → Bool
+present [] = false
+present (b ∷ l) = true
+
+-- "`first/last`, both counted, 1 to 512 days": the number of the first day, and how many days there are
+unfoldable pub spanBetween : Date → Date → Span
+spanBetween first last = pick (goodPeriod first last) (Days (number first) (dayCount first last)) NoSpan
+
+abbrev pub spanOf : Made → Made → Span
+spanOf (Valid first) (Valid last) = spanBetween first last
+spanOf (Valid first) NoDate = NoSpan
+spanOf NoDate last = NoSpan
+
+-- ten bytes, a `/`, ten bytes
+unfoldable pub spanIn : List ℕ → Span
+spanIn t = pick (both (eqb (length t) 21) (eqb (getD t 10 0) 47)) (spanOf (dateAt t 0) (dateAt t 11)) NoSpan
+
+-- "a string of `0` and `1`, exactly one character for each day"
+abbrev pub zeroOrOne : ℕ → Bool
+zeroOrOne b = either (eqb b 48) (eqb b 49)
+
+unfoldable pub dayString : ℕ → List ℕ → Bool
+dayString n t = both (eqb (length t) n) (all zeroOrOne t)
+
+abbrev pub fitsDays : ℕ → List ℕ → Bool
+fitsDays n t = either (not (present t)) (dayString n t)
+
+-- "a string of weekdays, Monday 1 to Sunday 7, strictly rising": each after the one before it, the first after `0`
+unfoldable pub rising : ℕ → List ℕ → Bool
+rising before [] = true
+rising before (b ∷ l) = both (both (ltb before b) (leb b 55)) (rising b l)
+
+-- "Giving neither means every day."
+abbrev pub formWithout : List ℕ → Form
+formWithout weekdays = pick (present weekdays) ByWeekdays Every
+
+abbrev pub formOf : List ℕ → List ℕ → Form
+formOf days weekdays = pick (present days) ByString (formWithout weekdays)
+
+-- each part by itself, then "Giving both is wrong."
+unfoldable pub formedOf : ℕ → List ℕ → List ℕ → Formed
+formedOf n days weekdays =
+    pick (fitsDays n days)
+    (pick (rising 48 weekdays)
+    (pick (both (present days) (present weekdays)) (Faulty BothForms) (Told (formOf days weekdays)))
+    (Faulty BadWeekdays))
+    (Faulty BadDayString)
+
+-- "qualifier 273", and no element repetition in the two elements
+unfoldable pub restGood : List ℕ → Bool
+restGood g = both (sameText (qualifier g) (50 ∷ 55 ∷ 51 ∷ [])) (both (not (repeats g 1)) (not (repeats g 2)))
+
+-- each part is judged by itself, and the lowest fault named
+abbrev pub periodBy : Formed → Bool → ℕ → ℕ → Period
+periodBy (Faulty x) rest f n = Wrong x
+periodBy (Told form) rest f n = pick rest (Good f n form) (Wrong BadRest)
+
+abbrev pub periodOn : Span → List ℕ → Period
+periodOn NoSpan g = Wrong BadDates
+periodOn (Days f n) g = periodBy (formedOf n (dayText g) (weekText g)) (restGood g) f n
+
+unfoldable pub periodOf : List ℕ → Period
+periodOf g = periodOn (spanIn (firstLast g)) g
+
+-- the part's number: dates 1, day string 2, weekdays 3, both 4, neither 5, anything else 6
+unfoldable pub faultNumber : Fault → ℕ
+faultNumber BadDates = 1
+faultNumber BadDayString = 2
+faultNumber BadWeekdays = 3
+faultNumber BothForms = 4
+faultNumber NeitherForm = 5
+faultNumber BadRest = 6
+
+-- "What each number means": 10, POP contents, whichever part is wrong
+abbrev pub paperNumber : Period → ℕ
+paperNumber (Good f n form) = 0
+paperNumber (Wrong x) = 10
+
+-- whether the day k days after the first runs, f the number of the first
+unfoldable pub runsBy : List ℕ → Form → ℕ → ℕ → Bool
+runsBy g Every f k = true
+runsBy g ByString f k = eqb (getD (dayText g) k 0) 49
+runsBy g ByWeekdays f k = among (48 + weekdayOf (f + k)) (weekText g)
+
+-- past the last day none runs, nor does any day of a wrong period
+unfoldable pub runsIn : List ℕ → Period → ℕ → Bool
+runsIn g (Good f n form) k = both (ltb k n) (runsBy g form f k)
+runsIn g (Wrong x) k = false
+
+abbrev pub runs : List ℕ → ℕ → Bool
+runs g k = runsIn g (periodOf g) k

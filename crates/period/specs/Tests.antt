@@ -1,0 +1,218 @@
+-- The tests of a period, in the order of the code.
+-- Assumes nothing.
+use mathlib.Core.Path.{_≡_, ap, _∙_}
+use mathlib.Core.Bool.{Bool, true, false, not}
+use mathlib.Core.List.{List, [], _∷_}
+use Prim.Native.Nat.{ℕ, _+_, _-_, _%_, _<_, _≤_}
+use native.Mathlib.Omega.{arith}
+use lib.Dec.{eqb, ltb}
+use lib.ListN.{length, getD, take, drop, length-append}
+use lib.Seq.{take-at}
+use native.Mathlib.Decide.{decLt}
+use Rattle.laws.specs.Lists.{over}
+use Rattle.values.specs.declared.Copied.the-variants.{Bytes, NoRoom}
+use borrow.Author.Tests.{eq-eqb, ne-eqb, le-leb, lt-leb, lt-ltb, le-ltb}
+use Rattle.laws.specs.Choice.{pick, among}
+use Rattle.parts.specs.Places.{repeats}
+use Rattle.dates.specs.Days.{weekdayOf}
+use Rattle.dates.specs.Dates.{valid, number}
+use Rattle.dates.specs.Text.{dateAt}
+use Rattle.dates.specs.declared.Date.{Date}
+use Rattle.dates.specs.declared.Made.the-variants.{Valid, NoDate}
+use Rattle.calendar.specs.Written.{goodPeriod}
+use Rattle.values.specs.Values.{sameText, copiedOf}
+use Rattle.period.specs.declared.Form.{Form}
+use Rattle.period.specs.declared.Form.the-variants.{Every, ByString, ByWeekdays}
+use Rattle.period.specs.declared.Fault.the-variants.{BadDates, BadDayString, BadWeekdays, BothForms, BadRest}
+use Rattle.period.specs.declared.Span.the-variants.{Days, NoSpan}
+use Rattle.period.specs.declared.Formed.the-variants.{Told, Faulty}
+use Rattle.period.specs.declared.Fault.{Fault}
+use Rattle.period.specs.declared.Period.{Period}
+use Rattle.period.specs.declared.Period.the-variants.{Good, Wrong}
+use Rattle.period.specs.Period.{qualifier, firstLast, dayText, weekText, present, spanBetween, spanIn, dayString, fitsDays, rising, formWithout, formedOf, restGood, periodOf, runsBy, runsIn}
+
+-- the two dates
+module _ (first last : Date) where
+  pub first-not : valid first ≡ false → NoSpan ≡ spanBetween first last
+  unfolding spanBetween goodPeriod
+  first-not v = rw v
+
+  pub last-not : valid first ≡ true → valid last ≡ false → NoSpan ≡ spanBetween first last
+  unfolding spanBetween goodPeriod
+  last-not v w = rw (v, w)
+
+  module _ {f t : ℕ} (p : (valid first ≡ true) × (number first ≡ f)) (q : (valid last ≡ true) × (number last ≡ t)) where
+    pub out-of-order : t < f → NoSpan ≡ spanBetween first last
+    unfolding spanBetween goodPeriod
+    out-of-order l = rw (p .0, q .0, p .1, q .1, lt-leb f t l)
+
+    module _ (l : f ≤ t) where
+      pub too-many : 512 ≤ t - f → NoSpan ≡ spanBetween first last
+      unfolding spanBetween goodPeriod
+      too-many m = rw (p .0, q .0, p .1, q .1, le-leb f t l, lt-leb (t - f + 1) 512 (omega arith))
+
+      pub some-days : t - f < 512 → Days f (t - f + 1) ≡ spanBetween first last
+      unfolding spanBetween goodPeriod
+      some-days m = rw (p .0, q .0, p .1, q .1, le-leb f t l, le-leb (t - f + 1) 512 (omega arith))
+
+-- the text of the two dates
+module _ (t : List ℕ) where
+  pub not-long : (length t ≡ 21 → ⊥) → NoSpan ≡ spanIn t
+  unfolding spanIn
+  not-long h = rw (ne-eqb (length t) 21 h)
+
+  module _ (h : length t ≡ 21) where
+    pub no-stroke : (getD t 10 0 ≡ 47 → ⊥) → NoSpan ≡ spanIn t
+    unfolding spanIn
+    no-stroke e = rw (eq-eqb (length t) 21 h, ne-eqb (getD t 10 0) 47 e)
+
+    module _ (e : getD t 10 0 ≡ 47) where
+      pub no-first : dateAt t 0 ≡ NoDate → NoSpan ≡ spanIn t
+      unfolding spanIn
+      no-first a = rw (eq-eqb (length t) 21 h, eq-eqb (getD t 10 0) 47 e, a)
+
+      pub no-last : {a : Date} → dateAt t 0 ≡ Valid a → dateAt t 11 ≡ NoDate → NoSpan ≡ spanIn t
+      unfolding spanIn
+      no-last p q = rw (eq-eqb (length t) 21 h, eq-eqb (getD t 10 0) 47 e, p, q)
+
+      pub two-dates : {a b : Date} → dateAt t 0 ≡ Valid a → dateAt t 11 ≡ Valid b → spanBetween a b ≡ spanIn t
+      unfolding spanIn
+      two-dates p q = rw (eq-eqb (length t) 21 h, eq-eqb (getD t 10 0) 47 e, p, q)
+
+-- the forms
+module _ (n : ℕ) (d w : List ℕ) where
+  pub bad-string : fitsDays n d ≡ false → Faulty BadDayString ≡ formedOf n d w
+  unfolding formedOf
+  bad-string p = rw p
+
+  module _ (p : fitsDays n d ≡ true) where
+    pub bad-weekdays : rising 48 w ≡ false → Faulty BadWeekdays ≡ formedOf n d w
+    unfolding formedOf
+    bad-weekdays q = rw (p, q)
+
+    module _ (q : rising 48 w ≡ true) where
+      pub no-string : present d ≡ false → Told (formWithout w) ≡ formedOf n d w
+      unfolding formedOf
+      no-string a = rw (p, q, a)
+
+      pub both-forms : present d ≡ true → present w ≡ true → Faulty BothForms ≡ formedOf n d w
+      unfolding formedOf
+      both-forms a b = rw (p, q, a, b)
+
+      pub by-string : present d ≡ true → present w ≡ false → Told ByString ≡ formedOf n d w
+      unfolding formedOf
+      by-string a b = rw (p, q, a, b)
+
+module _ (n : ℕ) (t : List ℕ) where
+  pub fits-present : present t ≡ true → dayString n t ≡ fitsDays n t
+  fits-present p = rw p
+
+  pub fits-absent : present t ≡ false → true ≡ fitsDays n t
+  fits-absent p = rw p
+
+pub some-weekdays : (w : List ℕ) → present w ≡ true → ByWeekdays ≡ formWithout w
+some-weekdays w p = rw p
+
+pub no-weekdays : (w : List ℕ) → present w ≡ false → Every ≡ formWithout w
+no-weekdays w p = rw p
+
+-- the whole segment
+module _ (g : List ℕ) where
+  pub other-qualifier : sameText (qualifier g) (50 ∷ 55 ∷ 51 ∷ []) ≡ false → false ≡ restGood g
+  unfolding restGood
+  other-qualifier p = rw p
+
+  module _ (p : sameText (qualifier g) (50 ∷ 55 ∷ 51 ∷ []) ≡ true) where
+    pub first-repeated : repeats g 1 ≡ true → false ≡ restGood g
+    unfolding restGood
+    first-repeated q = rw (p, q)
+
+    pub second-repeated : repeats g 1 ≡ false → not (repeats g 2) ≡ restGood g
+    unfolding restGood
+    second-repeated q = rw (p, q)
+
+  pub wrong-dates : spanIn (firstLast g) ≡ NoSpan → Wrong BadDates ≡ periodOf g
+  unfolding periodOf
+  wrong-dates p = rw p
+
+  module _ {f n : ℕ} (p : spanIn (firstLast g) ≡ Days f n) where
+    pub wrong-form : {x : Fault} → formedOf n (dayText g) (weekText g) ≡ Faulty x → Wrong x ≡ periodOf g
+    unfolding periodOf
+    wrong-form q = rw (p, q)
+
+    module _ {form : Form} (q : formedOf n (dayText g) (weekText g) ≡ Told form) where
+      pub wrong-rest : restGood g ≡ false → Wrong BadRest ≡ periodOf g
+      unfolding periodOf
+      wrong-rest r = rw (p, q, r)
+
+      pub good-period : restGood g ≡ true → Good f n form ≡ periodOf g
+      unfolding periodOf
+      good-period r = rw (p, q, r)
+
+  pub runs-every : (f k : ℕ) {form : Form} → form ≡ Every → true ≡ runsBy g form f k
+  unfolding runsBy
+  runs-every f k e = rw e
+
+  pub runs-string : (f k : ℕ) {form : Form} {b : ℕ} → form ≡ ByString → b ≡ getD (dayText g) k 0 → eqb b 49 ≡ runsBy g form f k
+  unfolding runsBy
+  runs-string f k e h = rw (e, h)
+
+  pub runs-weekdays : (f k : ℕ) {form : Form} {w : ℕ} {r : Bool} → form ≡ ByWeekdays → w ≡ weekdayOf (f % 7 + k % 7) → r ≡ among (48 + w) (weekText g)
+      → r ≡ runsBy g form f k
+  unfolding runsBy weekdayOf
+  runs-weekdays f k {form} {w} {r} e h q =
+      let m : (f % 7 + k % 7) % 7 ≡ (f + k) % 7 = omega arith in
+      rw e (q ∙ ap (λ (x : ℕ). among (48 + x) (weekText g)) (h ∙ ap (λ (x : ℕ). x + 1) m))
+
+  module _ {f n k : ℕ} {form : Form} {p : Period} (e : p ≡ Good f n form) where
+    pub runs-past : n ≤ k → false ≡ runsIn g p k
+    unfolding runsIn
+    runs-past h = rw (e, le-ltb k n h)
+
+    pub runs-inside : {r : Bool} → k < n → r ≡ runsBy g form f k → r ≡ runsIn g p k
+    unfolding runsIn
+    runs-inside h q = rw (e, lt-ltb k n h) q
+
+  pub runs-wrong : {x : Fault} {p : Period} (k : ℕ) → p ≡ Wrong x → false ≡ runsIn g p k
+  unfolding runsIn
+  runs-wrong k e = rw e
+
+-- the text of the dates, copied to a buffer of 21 bytes
+copied-not : (n : ℕ) → copiedOf n 21 ≡ NoRoom → 21 < n
+copied-not n e =
+    elim (decLt 21 n) [
+      | yes l ↦ l
+      | no l ↦ let z : _≡_ {A = ℕ} 0 1 = cc (rw (le-ltb 21 n (omega arith)) at e) in absurd (omega arith)
+    ]
+
+copied-all : (n m : ℕ) → copiedOf n 21 ≡ Bytes m → (n ≤ 21) × (n ≡ m)
+copied-all n m e =
+    elim (decLt 21 n) [
+      | yes l ↦ let z : _≡_ {A = ℕ} 0 1 = cc (rw (lt-ltb 21 n l) at e) in absurd (omega arith)
+      | no l ↦ (omega arith, cc (rw (le-ltb 21 n (omega arith)) at e))
+    ]
+
+pub dates-too-long : (t : List ℕ) {n : ℕ} → n ≡ 21 → copiedOf (length t) n ≡ NoRoom → NoSpan ≡ spanIn t
+dates-too-long t h e =
+    let l = copied-not (length t) (rw h at e) in
+    not-long t (λ q. omega arith)
+
+module _ (t to : List ℕ) {last : List ℕ} {m : ℕ} (h : length to ≡ 21) (e : copiedOf (length t) (length to) ≡ Bytes m) (w : last ≡ pick (ltb (length to) (length t)) to (over t to)) where
+  whole : (length t ≤ 21) × (length t ≡ m)
+  whole = copied-all (length t) m (rw h at e)
+
+  last-is : last ≡ over t to
+  last-is =
+      let f = whole in
+      w ∙ rw (le-ltb (length to) (length t) (omega arith))
+
+  pub dates-fit : m ≤ length last
+  unfolding over
+  dates-fit =
+      let f = whole in
+      rw (last-is, length-append) (omega arith)
+
+  pub dates-copied : take m last ≡ t
+  unfolding over
+  dates-copied =
+      rw last-is (take-at t (drop (length t) to) m (whole .1))

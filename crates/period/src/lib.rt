@@ -1,0 +1,327 @@
+//! A POP of SKDUPD's group 4: the days on which a service runs, read from the segment's parts.
+
+use dates::Date;
+use dates::Made;
+use dates::Number;
+use parts::Part;
+use parts::bytes_of;
+use parts::is_repeated;
+use parts::part_at;
+use values::Copied;
+use values::Next;
+use values::next_byte;
+ghost use mathlib.Core.Path.{_≡_};
+ghost use lib.Dec.{eqb};
+ghost use lib.ListN.{getD};
+ghost use Rattle.laws.specs.Choice.{among};
+ghost use Rattle.syntax.specs.Bytes.{plain};
+ghost use Rattle.syntax.specs.Pieces.{partOf};
+ghost use Rattle.parts.specs.Places.{bytesOf};
+ghost use Rattle.period.specs.Period.{present, spanBetween, spanIn, dayString, fitsDays, rising, formWithout, formedOf, restGood, periodOf, runsBy, runsIn};
+
+/// What tells the days of a period.
+pub enum Form {
+    /// Neither form is given: every day runs.
+    Every,
+    /// The day string, 4440.
+    ByString,
+    /// The weekdays, 2160.
+    ByWeekdays,
+}
+
+/// Which part of a POP is wrong; where several are, the first of these.
+pub enum Fault {
+    BadDates,
+    BadDayString,
+    BadWeekdays,
+    BothForms,
+    /// Kept for a caller who wants one of the forms; no function here answers it.
+    NeitherForm,
+    BadRest,
+}
+
+/// What a POP says.
+pub enum Period {
+    /// The number of its first day, how many days it has, and what tells those that run.
+    Good(usize, usize, Form),
+    Wrong(Fault),
+}
+
+// The number of the first of some days, and how many they are.
+enum Span {
+    Days(usize, usize),
+    NoSpan,
+}
+
+// The form in which the days are told, or what is wrong with it.
+enum Formed {
+    Told(Form),
+    Faulty(Fault),
+}
+
+// Whether a part says anything.
+fn is_present(part: &[u8]) -> bool
+    ensures { λ r. ⌜ r ≡ present (plain (now (part .entry))) ⌝ }
+{
+    match next_byte(part, 0) {
+        Next::Byte(_, _) => true,
+        Next::Done => false,
+    }
+}
+
+// Component c of element e as written, in its first occurrence.
+fn part_of(s: &[u8], segment: Part, e: usize, c: usize) -> &[u8]
+    ensures { λ r. ⌜ now r ≡ partOf (bytesOf (now (s .entry)) segment) e 1 c ⌝ }
+{
+    bytes_of(s, part_at(s, segment, e, 1, c))
+}
+
+// The days from one date to another, both counted.
+fn span_between(first: Date, last: Date) -> Span
+    ensures { λ r. ⌜ r ≡ spanBetween first last ⌝ }
+{
+    let Number::Day(from) = first.day_number() else {
+        return Span::NoSpan;
+    };
+    let Number::Day(to) = last.day_number() else {
+        return Span::NoSpan;
+    };
+    if to < from {
+        return Span::NoSpan;
+    }
+    if 512 <= to - from {
+        return Span::NoSpan;
+    }
+    Span::Days(from, to - from + 1)
+}
+
+// The days of a text `first/last`.
+fn read_span(text: &[u8]) -> Span
+    ensures { λ r. ⌜ r ≡ spanIn (now (text .entry)) ⌝ }
+{
+    if text.len() != 21 {
+        return Span::NoSpan;
+    }
+    if text[10] != b'/' {
+        return Span::NoSpan;
+    }
+    let Made::Valid(first) = dates::read_date(text, 0) else {
+        return Span::NoSpan;
+    };
+    let Made::Valid(last) = dates::read_date(text, 11) else {
+        return Span::NoSpan;
+    };
+    span_between(first, last)
+}
+
+// The days of a part that says `first/last`.
+fn read_dates(part: &[u8]) -> Span
+    ensures { λ r. ⌜ r ≡ spanIn (plain (now (part .entry))) ⌝ }
+{
+    let mut text = [0u8; 21];
+    let Copied::Bytes(n) = values::copy_plain(part, &mut text) else {
+        return Span::NoSpan;
+    };
+    read_span(&text[..n])
+}
+
+// Whether a day string has one `0` or `1` for each day left.
+fn is_day_string(part: &[u8], n: usize) -> bool
+    ensures { λ r. ⌜ r ≡ dayString n (plain (now (part .entry))) ⌝ }
+{
+    let mut i = 0;
+    let mut left = n;
+    while i < part.len() {
+        match next_byte(part, i) {
+            Next::Byte(b, k) => {
+                if left == 0 {
+                    return false;
+                }
+                if b < b'0' {
+                    return false;
+                }
+                if b'1' < b {
+                    return false;
+                }
+                i = k;
+                left -= 1;
+            }
+            Next::Done => {
+                return left == 0;
+            }
+        }
+    }
+    left == 0
+}
+
+// A day string that is absent is right too.
+fn fits_days(part: &[u8], n: usize) -> bool
+    ensures { λ r. ⌜ r ≡ fitsDays n (plain (now (part .entry))) ⌝ }
+{
+    if is_present(part) {
+        return is_day_string(part, n);
+    }
+    true
+}
+
+// Whether the weekdays rise from each to the next.
+fn is_rising(part: &[u8]) -> bool
+    ensures { λ r. ⌜ r ≡ rising 48 (plain (now (part .entry))) ⌝ }
+{
+    let mut i = 0;
+    let mut low = b'0';
+    while i < part.len() {
+        match next_byte(part, i) {
+            Next::Byte(b, k) => {
+                if b <= low {
+                    return false;
+                }
+                if b'7' < b {
+                    return false;
+                }
+                low = b;
+                i = k;
+            }
+            Next::Done => {
+                return true;
+            }
+        }
+    }
+    true
+}
+
+// The form of a period that has no day string.
+fn form_without(weekdays: &[u8]) -> Form
+    ensures { λ r. ⌜ r ≡ formWithout (plain (now (weekdays .entry))) ⌝ }
+{
+    if is_present(weekdays) {
+        return Form::ByWeekdays;
+    }
+    Form::Every
+}
+
+// What tells the days of a period of n days.
+fn read_form(days: &[u8], weekdays: &[u8], n: usize) -> Formed
+    ensures { λ r. ⌜ r ≡ formedOf n (plain (now (days .entry))) (plain (now (weekdays .entry))) ⌝ }
+{
+    if !fits_days(days, n) {
+        return Formed::Faulty(Fault::BadDayString);
+    }
+    if !is_rising(weekdays) {
+        return Formed::Faulty(Fault::BadWeekdays);
+    }
+    if !is_present(days) {
+        return Formed::Told(form_without(weekdays));
+    }
+    if is_present(weekdays) {
+        return Formed::Faulty(Fault::BothForms);
+    }
+    Formed::Told(Form::ByString)
+}
+
+// The qualifier, and no repetition.
+fn is_rest_good(s: &[u8], segment: Part) -> bool
+    ensures { λ r. ⌜ r ≡ restGood (bytesOf (now (s .entry)) segment) ⌝ }
+{
+    if !values::equals(part_of(s, segment, 1, 1), b"273") {
+        return false;
+    }
+    if is_repeated(s, segment, 1) {
+        return false;
+    }
+    !is_repeated(s, segment, 2)
+}
+
+/// The period that a POP gives, the segment without its terminator.
+pub fn read_period(s: &[u8], segment: Part) -> Period
+    ensures { λ r. ⌜ r ≡ periodOf (bytesOf (now (s .entry)) segment) ⌝ }
+{
+    let Span::Days(first, count) = read_dates(part_of(s, segment, 1, 2)) else {
+        return Period::Wrong(Fault::BadDates);
+    };
+    let days = part_of(s, segment, 1, 4);
+    let weekdays = part_of(s, segment, 2, 1);
+    match read_form(days, weekdays, count) {
+        Formed::Faulty(fault) => Period::Wrong(fault),
+        Formed::Told(form) => {
+            if is_rest_good(s, segment) {
+                Period::Good(first, count, form)
+            } else {
+                Period::Wrong(Fault::BadRest)
+            }
+        }
+    }
+}
+
+// Character k of a part, 0 where it has none.
+fn character_at(part: &[u8], k: usize) -> u8
+    ensures { λ r. ⌜ r ≡ getD (plain (now (part .entry))) k 0 ⌝ }
+{
+    let mut i = 0;
+    let mut left = k;
+    while i < part.len() {
+        match next_byte(part, i) {
+            Next::Byte(b, next) => {
+                if left == 0 {
+                    return b;
+                }
+                i = next;
+                left -= 1;
+            }
+            Next::Done => {
+                return 0;
+            }
+        }
+    }
+    0
+}
+
+// Whether a character is one of a part's.
+fn has_character(part: &[u8], character: u8) -> bool
+    ensures { λ r. ⌜ r ≡ among character (plain (now (part .entry))) ⌝ }
+{
+    let mut i = 0;
+    while i < part.len() {
+        match next_byte(part, i) {
+            Next::Byte(b, k) => {
+                if character == b {
+                    return true;
+                }
+                i = k;
+            }
+            Next::Done => {
+                return false;
+            }
+        }
+    }
+    false
+}
+
+// Whether the day k days after the first runs by a form.
+fn form_runs(s: &[u8], segment: Part, form: Form, first: usize, k: usize) -> bool
+    ensures { λ r. ⌜ r ≡ runsBy (bytesOf (now (s .entry)) segment) form first k ⌝ }
+{
+    match form {
+        Form::Every => true,
+        Form::ByString => character_at(part_of(s, segment, 1, 4), k) == b'1',
+        Form::ByWeekdays => {
+            let weekday = dates::weekday(first % 7 + k % 7);
+            has_character(part_of(s, segment, 2, 1), 48 + weekday)
+        }
+    }
+}
+
+/// Whether the day k days after the first runs, of the period that was read from a segment.
+pub fn day_runs(s: &[u8], segment: Part, period: Period, k: usize) -> bool
+    ensures { λ r. ⌜ r ≡ runsIn (bytesOf (now (s .entry)) segment) period k ⌝ }
+{
+    match period {
+        Period::Good(first, count, form) => {
+            if count <= k {
+                return false;
+            }
+            form_runs(s, segment, form, first, k)
+        }
+        Period::Wrong(_) => false,
+    }
+}
