@@ -32,13 +32,13 @@ struct Digits {
 }
 
 // Whether a bit of a byte is set, counted from the lowest.
-fn has_bit(byte: u8, k: usize) -> bool
+pub fn has_bit(byte: u8, k: usize) -> bool
     ensures { λ r. ⌜ r ≡ hasBit byte (k % 8) ⌝ }
 {
     (byte >> (k % 8)) & 1 == 1
 }
 
-fn with_bit(byte: u8, k: usize) -> u8
+pub fn with_bit(byte: u8, k: usize) -> u8
     ensures { λ r. ⌜ r ≡ withBit byte (k % 8) ⌝ }
 {
     byte | (1u8 << (k % 8))

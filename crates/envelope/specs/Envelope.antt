@@ -57,7 +57,7 @@ release04A = 48 ∷ 52 ∷ 65 ∷ []
 abbrev pub agencyUN : List ℕ
 agencyUN = 85 ∷ 78 ∷ []
 
--- "UIB begins `UNOB:4`", and "the dialogue reference of UIB" is its second element: 7 where one of the three is not there
+-- "UIB begins `UNOB:4`", and "the dialogue reference of UIB" is the first component of its second element: 7 where one of the three is absent or, of the first two, another
 unfoldable pub uibOf : List ℕ → Opened
 uibOf g =
     pick (both (says (valueOf g 1 1) UNOB) (both (says (valueOf g 1 2) version4) (present (valueOf g 2 1))))

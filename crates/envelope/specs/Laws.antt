@@ -1,4 +1,4 @@
--- What callers and proofs cite of the service segments' contents.
+-- What callers cite of the service segments' contents: where a part stands, and what is known of a reference that is handed out.
 -- Assumes nothing.
 use Prim.Native.Nat.{ℕ, suc, _-_, _≤_, _<_}
 use mathlib.Core.Path.{_≡_, refl, sym, ap, subst, _∙_}
@@ -11,7 +11,7 @@ use borrow.Author.Tests.{lt-ltb, le-leb, lt-leb, leb-false, not-true}
 use lib.Dec.{leb, ltb}
 use lib.ListN.{length, drop, length-drop}
 use lib.Seq.{take-all}
-use Rattle.laws.specs.Choice.{both, all, both-false, choose, both-parts}
+use Rattle.laws.specs.Choice.{both, choose, both-parts}
 use Rattle.laws.specs.Lists.{between}
 use Rattle.syntax.specs.Pieces.{partOf}
 use Rattle.parts.specs.declared.Part.{Part}
@@ -147,40 +147,3 @@ module _ (g : List ℕ) (t : ℕ) (p : Part) where
 
   pub uih-type : uihOf g ≡ Message t p → t < 2
   uih-type q = good-head q .1
-
--- the ways through a UIB
-module _ (g : List ℕ) where
-  pub uib-level : says (valueOf g 1 1) UNOB ≡ false → Wrong ≡ uibOf g
-  unfolding uibOf
-  uib-level a = rw a
-
-  pub uib-version : says (valueOf g 1 1) UNOB ≡ true → says (valueOf g 1 2) version4 ≡ false → Wrong ≡ uibOf g
-  unfolding uibOf
-  uib-version a b = rw (a, b)
-
-  pub uib-absent : says (valueOf g 1 1) UNOB ≡ true → says (valueOf g 1 2) version4 ≡ true → present (valueOf g 2 1) ≡ false → Wrong ≡ uibOf g
-  unfolding uibOf
-  uib-absent a b d = rw (a, b, d)
-
-  pub uib-good : says (valueOf g 1 1) UNOB ≡ true → says (valueOf g 1 2) version4 ≡ true → present (valueOf g 2 1) ≡ true → Dialogue (placeOf g 2 1) ≡ uibOf g
-  unfolding uibOf
-  uib-good a b d = rw (a, b, d)
-
-  -- the ways through a UIH
-  pub uih-absent : present (referenceOf g) ≡ false → Missing ≡ uihOf g
-  unfolding uihOf
-  uih-absent h = simp (h, both-false)
-
-  module _ (h : present (referenceOf g) ≡ true) where
-    pub uih-missing : all present (typeOf g ∷ versionOf g ∷ releaseOf g ∷ agencyOf g ∷ []) ≡ false → Missing ≡ uihOf g
-    unfolding uihOf
-    uih-missing a = rw (h, a)
-
-    module _ (a : all present (typeOf g ∷ versionOf g ∷ releaseOf g ∷ agencyOf g ∷ []) ≡ true) where
-      pub uih-unknown : directory (versionOf g) (releaseOf g) (subFunctionOf g) (agencyOf g) ≡ false → Unknown ≡ uihOf g
-      unfolding uihOf
-      uih-unknown b = rw (h, a, b)
-
-      pub uih-typed : directory (versionOf g) (releaseOf g) (subFunctionOf g) (agencyOf g) ≡ true → typed (typeOf g) (placeOf g 2 1) ≡ uihOf g
-      unfolding uihOf
-      uih-typed b = rw (h, a, b)

@@ -15,31 +15,32 @@ use Rattle.laws.specs.Choice.{pick}
 use Rattle.laws.specs.Lists.{over, onto, onto-start, onto-step, onto-done, drop-here}
 use Rattle.syntax.specs.declared.segment.Refusal.{Refusal}
 use Rattle.syntax.specs.declared.segment.Scanned.{Scanned}
-use Rattle.syntax.specs.Segment.{segmentAt}
+use Rattle.placing.specs.Skdupd.{skdupdTable}
+use Rattle.placing.specs.Tsdupd.{tsdupdTable}
 use Rattle.interchange.specs.declared.state.Phase.{Phase}
 use Rattle.interchange.specs.declared.state.State.{State}
 use Rattle.interchange.specs.declared.state.Row.{Row}
-use Rattle.interchange.specs.Reader.{Outcome, stop, isClosed, afterScan, readOn, numbers, rowNumbers}
+use Rattle.interchange.specs.Reader.{Outcome, accepted, fault, isClosed, turnAt, afterTurn, readOn, numbers, rowNumbers}
 
 -- f is enough where it passes the bytes that are left
 module _ (f : ℕ) (s : List ℕ) (st : State) (at : ℕ) where
   one-more : length s < at + f → at ≤ length s → f ≡ suc (f - 1)
   one-more g h = omega arith
 
-  pub read-past : at < length s → length s < at + f → isClosed (st .phase) ≡ true → readOn f s st at ≡ stop 7 at
+  pub read-past : at < length s → length s < at + f → isClosed (st .phase) ≡ true → readOn f s st at ≡ fault 7 at
   unfolding readOn
   read-past h g c = ap (λ (x : ℕ). readOn x s st at) (one-more g (omega arith)) ∙ rw (lt-ltb at (length s) h, c)
 
   pub read-on : at < length s → length s < at + f → isClosed (st .phase) ≡ false
-      → readOn f s st at ≡ afterScan (readOn (f - 1) s) s st at (segmentAt s at)
+      → readOn f s st at ≡ afterTurn (readOn (f - 1) s) (turnAt skdupdTable tsdupdTable s st at)
   unfolding readOn
   read-on h g c = ap (λ (x : ℕ). readOn x s st at) (one-more g (omega arith)) ∙ rw (lt-ltb at (length s) h, c)
 
-  pub read-accepted : length s ≤ at → at ≤ length s → length s < at + f → isClosed (st .phase) ≡ true → readOn f s st at ≡ stop 0 0
+  pub read-accepted : length s ≤ at → at ≤ length s → length s < at + f → isClosed (st .phase) ≡ true → readOn f s st at ≡ record { rows = []; verdict = accepted }
   unfolding readOn
   read-accepted h k g c = ap (λ (x : ℕ). readOn x s st at) (one-more g k) ∙ rw (le-ltb at (length s) h, c)
 
-  pub read-stops : length s ≤ at → at ≤ length s → length s < at + f → isClosed (st .phase) ≡ false → readOn f s st at ≡ stop 7 (length s)
+  pub read-stops : length s ≤ at → at ≤ length s → length s < at + f → isClosed (st .phase) ≡ false → readOn f s st at ≡ fault 7 (length s)
   unfolding readOn
   read-stops h k g c = ap (λ (x : ℕ). readOn x s st at) (one-more g k) ∙ rw (le-ltb at (length s) h, c)
 

@@ -3,3 +3,7 @@ pub mod Step
 pub mod Reader
 pub mod Laws
 pub mod Ways
+pub mod Turns
+pub mod Offsets
+pub mod Gather
+pub mod Answers

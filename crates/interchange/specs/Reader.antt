@@ -1,11 +1,12 @@
 -- What an interchange is, and what its first fault is (document 01, "What each number means").
 -- Assumes nothing.
-use Prim.Native.Nat.{ℕ, zero, suc, _+_}
+use Prim.Native.Nat.{ℕ, zero, suc, _+_, _*_}
 use mathlib.Core.Bool.{Bool, true, false}
 use mathlib.Core.List.{List, [], _∷_, _++_}
 use lib.Dec.{eqb, ltb}
 use lib.ListN.{length, drop}
 use Rattle.laws.specs.Choice.{pick, either}
+use Rattle.laws.specs.Lists.{over}
 use Rattle.syntax.specs.declared.segment.Refusal.{Refusal}
 use Rattle.syntax.specs.declared.segment.Scanned.{Scanned}
 use Rattle.syntax.specs.declared.segment.Scanned.the-variants.{End, NotPermitted, Unended, Malformed}
@@ -20,19 +21,29 @@ use Rattle.interchange.specs.declared.state.Row.{Row}
 use Rattle.interchange.specs.declared.state.Step.{Step}
 use Rattle.interchange.specs.declared.state.Step.the-variants.{Next, Refused}
 use Rattle.interchange.specs.State.{openingState}
+use Rattle.placing.specs.Table.{Table}
+use Rattle.interchange.specs.declared.reader.Turn.{Turn}
+use Rattle.interchange.specs.declared.reader.Turn.the-variants.{On, Stop}
+use Rattle.interchange.specs.declared.reader.Answer.{Answer}
+use Rattle.interchange.specs.declared.reader.Answer.the-variants as answer
 use Rattle.interchange.specs.Step.{segmentStep}
 
--- what a reading comes to: the rows of the segments before its end, and the answer; number 0 is accepted
+-- what a reading ends with: the interchange is accepted, or its first fault is named with its place
+pub data Verdict : Type 0 where
+  accepted : Verdict
+  faulty : Refusal → Verdict
+
+-- what a reading comes to: the rows of the segments before its end, and how it ends
 pub record Outcome : Type 0 where
   pub rows : List Row
-  pub answer : Refusal
+  pub verdict : Verdict
 
-abbrev pub stop : ℕ → ℕ → Outcome
-stop number position = record { rows = []; answer = record { number = number; position = position } }
+abbrev pub fault : ℕ → ℕ → Outcome
+fault number position = record { rows = []; verdict = faulty (record { number = number; position = position }) }
 
 -- one row more before what follows
 abbrev pub before : Row → Outcome → Outcome
-before r o = record { rows = r ∷ o .rows; answer = o .answer }
+before r o = record { rows = r ∷ o .rows; verdict = o .verdict }
 
 abbrev pub isClosed : Phase → Bool
 isClosed Opening = false
@@ -47,34 +58,41 @@ dialogueOf s st = bytesOf (drop (st .«opened_at») s) (st .dialogue)
 abbrev pub referenceOf : List ℕ → State → List ℕ
 referenceOf s st = bytesOf (drop (st .«headed_at») s) (st .reference)
 
--- `more` reads on from a state and an offset
-abbrev pub afterStep : (State → ℕ → Outcome) → ℕ → Step → Outcome
-afterStep more next (Next st r) = before r (more st next)
-afterStep more next (Refused x) = record { rows = []; answer = x }
+-- "the first faulty segment from the left, in it 4, 5, 6", then its step: the state and the offset after it, and its row
+abbrev pub turnStep : ℕ → Step → Turn
+turnStep next (Next st r) = On st r next
+turnStep next (Refused x) = Stop x
 
--- in a segment first 4, 5 and 6, then its step
-abbrev pub afterScan : (State → ℕ → Outcome) → List ℕ → State → ℕ → Scanned → Outcome
-afterScan more s st at (End e) = afterStep more (e + 1) (segmentStep skdupdTable tsdupdTable st at (bodyAt s at) (dialogueOf s st) (referenceOf s st))
-afterScan more s st at (NotPermitted i) = record { rows = []; answer = refusalOf at (NotPermitted i) }
-afterScan more s st at Unended = record { rows = []; answer = refusalOf at Unended }
-afterScan more s st at Malformed = record { rows = []; answer = refusalOf at Malformed }
+abbrev pub turnScan : Table → Table → List ℕ → State → ℕ → Scanned → Turn
+turnScan t u s st at (End e) = turnStep (e + 1) (segmentStep t u st at (bodyAt s at) (dialogueOf s st) (referenceOf s st))
+turnScan t u s st at (NotPermitted i) = Stop (refusalOf at (NotPermitted i))
+turnScan t u s st at Unended = Stop (refusalOf at Unended)
+turnScan t u s st at Malformed = Stop (refusalOf at Malformed)
+
+unfoldable pub turnAt : Table → Table → List ℕ → State → ℕ → Turn
+turnAt t u s st at = turnScan t u s st at (segmentAt s at)
+
+-- `more` reads on from a state and an offset
+abbrev pub afterTurn : (State → ℕ → Outcome) → Turn → Outcome
+afterTurn more (On st r next) = before r (more st next)
+afterTurn more (Stop x) = record { rows = []; verdict = faulty x }
 
 -- "Bytes after a good UIZ are 7 at the first of them and not tested further."
 -- "Input that stops between segments before UIZ is 7 at its length."
 -- The reading from a state and an offset on, of at most f segments: each takes a byte at least, so there are no more than bytes.
 unfoldable pub readOn : ℕ → List ℕ → State → ℕ → Outcome
-readOn zero s st at = stop 7 at
+readOn zero s st at = fault 7 at
 readOn (suc f) s st at =
     pick (ltb at (length s))
-    (pick (isClosed (st .phase)) (stop 7 at) (afterScan (readOn f s) s st at (segmentAt s at)))
-    (pick (isClosed (st .phase)) (stop 0 0) (stop 7 (length s)))
+    (pick (isClosed (st .phase)) (fault 7 at) (afterTurn (readOn f s) (turnAt skdupdTable tsdupdTable s st at)))
+    (pick (isClosed (st .phase)) (record { rows = []; verdict = accepted }) (fault 7 (length s)))
 
 -- "An interchange has 1 to 60,000 bytes": else 3
 abbrev pub sized : List ℕ → Bool
 sized s = either (eqb (length s) 0) (ltb 60000 (length s))
 
 unfoldable pub readingOf : List ℕ → Outcome
-readingOf s = pick (sized s) (stop 3 0) (readOn (length s + 1) s openingState 0)
+readingOf s = pick (sized s) (fault 3 0) (readOn (length s + 1) s openingState 0)
 
 -- the rows as they are written into a lent buffer: three numbers each, offset, group and tag
 abbrev pub rowNumbers : Row → List ℕ
@@ -83,3 +101,18 @@ rowNumbers r = r .offset ∷ r .group ∷ r .tag ∷ []
 unfoldable pub numbers : List Row → List ℕ
 numbers [] = []
 numbers (r ∷ l) = rowNumbers r ++ numbers l
+
+-- "17 last": the answer for a buffer of that room, and what the buffer holds then
+abbrev pub answerBy : List Row → ℕ → Verdict → Answer
+answerBy rows room accepted = pick (ltb room (3 * length rows)) (answer.Refused (record { number = 17; position = 0 })) (answer.Rows (length rows))
+answerBy rows room (faulty x) = answer.Refused x
+
+unfoldable pub answerOf : Outcome → ℕ → Answer
+answerOf o room = answerBy (o .rows) room (o .verdict)
+
+abbrev pub rowsBy : List Row → List ℕ → Verdict → List ℕ
+rowsBy rows lent accepted = pick (ltb (length lent) (3 * length rows)) lent (over (numbers rows) lent)
+rowsBy rows lent (faulty x) = lent
+
+unfoldable pub rowsAfter : Outcome → List ℕ → List ℕ
+rowsAfter o lent = rowsBy (o .rows) lent (o .verdict)

@@ -1,3 +1,4 @@
 pub mod Period
 pub mod Tests
 pub mod Steps
+pub mod Facts

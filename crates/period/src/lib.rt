@@ -69,8 +69,8 @@ fn is_present(part: &[u8]) -> bool
     }
 }
 
-// Component c of element e as written, in its first occurrence.
-fn part_of(s: &[u8], segment: Part, e: usize, c: usize) -> &[u8]
+/// Component c of element e as written, in its first occurrence.
+pub fn part_of(s: &[u8], segment: Part, e: usize, c: usize) -> &[u8]
     ensures { λ r. ⌜ now r ≡ partOf (bytesOf (now (s .entry)) segment) e 1 c ⌝ }
 {
     bytes_of(s, part_at(s, segment, e, 1, c))

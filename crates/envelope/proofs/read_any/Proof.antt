@@ -10,7 +10,8 @@ use lib.Dec.{leb}
 use Rattle.laws.specs.Choice.{all}
 use Rattle.parts.specs.declared.Part.{Part}
 use Rattle.envelope.specs.Envelope.{present, placeOf, directory, typed, typeOf, versionOf, releaseOf, subFunctionOf, agencyOf, referenceOf}
-use Rattle.envelope.specs.Laws.{place-absent, place-present, uih-absent, uih-missing, uih-unknown, uih-typed}
+use Rattle.envelope.specs.Laws.{place-absent, place-present}
+use Rattle.envelope.specs.Ways.{of-four, uih-absent, uih-missing, uih-unknown, uih-typed}
 use borrow.Author.Needs.{needs}
 use Rattle.envelope.proofs.read_any.Statement.{statement}
 use Rattle.envelope.proofs.read_any.Tie as tie
@@ -37,7 +38,7 @@ module _ (k : tie.After-is-complete) where
   identifier : all present (typeOf own ∷ versionOf own ∷ releaseOf own ∷ agencyOf own ∷ []) ≡ k .is-complete .result
   identifier =
       let v = k .before in
-      sym (rw (v .before .before .before .value .ensures, v .before .before .value2 .ensures, v .before .value3 .ensures, v .value4 .ensures) at (k .is-complete .ensures))
+      sym (k .is-complete .ensures ∙ of-four (λ a b d e. all present (a ∷ b ∷ d ∷ e ∷ [])) (v .before .before .before .value .ensures) (v .before .before .value2 .ensures) (v .before .value3 .ensures) (v .value4 .ensures))
 
 module _ (t : tie.After-is-directory) where
   abbrev whole : List ℕ
@@ -46,7 +47,7 @@ module _ (t : tie.After-is-directory) where
   codes : directory (versionOf whole) (releaseOf whole) (subFunctionOf whole) (agencyOf whole) ≡ t .is-directory .result
   codes =
       let v = t .before .before .before .before in
-      sym (rw (v .before .before .value2 .ensures, v .before .value3 .ensures, t .before .value5 .ensures, v .value4 .ensures) at (t .is-directory .ensures))
+      sym (t .is-directory .ensures ∙ of-four directory (v .before .before .value2 .ensures) (v .before .value3 .ensures) (t .before .value5 .ensures) (v .value4 .ensures))
 
 place-requires : tie.Need-place-requires
 place-requires c κs = search needs

@@ -9,7 +9,8 @@ use lib.Dec.{leb}
 use Rattle.parts.specs.declared.Part.{Part}
 use Rattle.envelope.specs.declared.Opened.the-variants.{Dialogue}
 use Rattle.envelope.specs.Envelope.{says, valueOf, placeOf, UNOB, version4}
-use Rattle.envelope.specs.Laws.{place-absent, place-present, uib-level, uib-version, uib-absent, uib-good}
+use Rattle.envelope.specs.Laws.{place-absent, place-present}
+use Rattle.envelope.specs.Ways.{uib-level, uib-version, uib-absent, uib-good}
 use borrow.Author.Needs.{needs}
 use Rattle.envelope.proofs.read_uib.Statement.{statement}
 use Rattle.envelope.proofs.read_uib.Tie as tie

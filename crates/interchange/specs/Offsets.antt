@@ -1,0 +1,119 @@
+-- A row bears the offset of its segment, and the next segment stands past it.
+-- Assumes nothing.
+use mathlib.Core.Path.{_≡_, refl, sym, ap, _∙_}
+use mathlib.Core.Bool.{Bool, true, false}
+use mathlib.Core.List.{List}
+use Prim.Native.Nat.{ℕ, _+_, _≤_, _<_}
+use native.Mathlib.Omega.{arith}
+use lib.Dec.{eqb, ltb}
+use lib.ListN.{length}
+use Rattle.laws.specs.Choice.{pick, both, choose}
+use Rattle.syntax.specs.declared.segment.Refusal.{Refusal}
+use Rattle.syntax.specs.declared.segment.Scanned.{Scanned}
+use Rattle.syntax.specs.declared.segment.Scanned.the-variants.{End, NotPermitted, Unended, Malformed}
+use Rattle.syntax.specs.Segment.{tagNumber, bodyAt, segmentAt, refusalOf}
+use Rattle.syntax.specs.Ends.{end-within}
+use Rattle.placing.specs.declared.Place.{Place}
+use Rattle.placing.specs.declared.Stepped.{Stepped}
+use Rattle.placing.specs.declared.Stepped.the-variants.{Placed, OutOfPlace}
+use Rattle.placing.specs.Table.{Table}
+use Rattle.placing.specs.Tags.{UIB, UIH, UIT, UIZ}
+use Rattle.placing.specs.Rule.{stepOf, groupOf}
+use Rattle.envelope.specs.declared.Opened.{Opened}
+use Rattle.envelope.specs.declared.Opened.the-variants.{Dialogue, Wrong}
+use Rattle.envelope.specs.declared.Headed.{Headed}
+use Rattle.envelope.specs.declared.Headed.the-variants.{Message, Missing, Unknown}
+use Rattle.envelope.specs.Envelope.{uibOf, uihOf, uitOf, uizOf}
+use Rattle.period.specs.declared.Period.{Period}
+use Rattle.period.specs.declared.Period.the-variants as period
+use Rattle.period.specs.Period.{periodOf}
+use Rattle.interchange.specs.declared.state.Phase.{Phase}
+use Rattle.interchange.specs.declared.state.Phase.the-variants.{Opening, Between, Inside, Closed}
+use Rattle.interchange.specs.declared.state.State.{State}
+use Rattle.interchange.specs.declared.state.Row.{Row}
+use Rattle.interchange.specs.declared.state.Step.{Step}
+use Rattle.interchange.specs.declared.state.Step.the-variants.{Next, Refused}
+use Rattle.interchange.specs.declared.reader.Turn.{Turn}
+use Rattle.interchange.specs.declared.reader.Turn.the-variants.{On, Stop}
+use Rattle.interchange.specs.State.{oneMore}
+use Rattle.interchange.specs.Step.{refuse, rowOf, opened, opening, headed, closing, between, trailing, isPeriod, judged, placed, settled, inside, tableOf, stepBy, segmentStep}
+use Rattle.interchange.specs.Reader.{dialogueOf, referenceOf, turnStep, turnScan, turnAt}
+
+-- a step's row, if it has one, bears the offset
+abbrev RowAt : ℕ → Step → Type 0
+RowAt at (Next st r) = r .offset ≡ at
+RowAt at (Refused x) = Unit {0}
+
+module _ (st : State) (at : ℕ) (g : List ℕ) where
+  opened-row : (o : Opened) → RowAt at (opened st at g o)
+  opened-row (Dialogue p) = refl
+  opened-row Wrong = tt
+
+  opening-row : RowAt at (opening st at g)
+  unfolding opening
+  opening-row = choose (eqb (tagNumber g) UIB) (λ q. rw q (opened-row (uibOf g))) (λ q. rw q tt)
+
+  headed-row : (h : Headed) → RowAt at (headed st at g h)
+  headed-row (Message k p) = refl
+  headed-row Missing = tt
+  headed-row Unknown = tt
+
+  closing-row : (d : List ℕ) → RowAt at (closing st at g d)
+  unfolding closing
+  closing-row d = choose (both (ltb 0 (st .messages)) (uizOf g d (st .messages))) (λ q. rw q refl) (λ q. rw q tt)
+
+  between-row : (d : List ℕ) → RowAt at (between st at g d)
+  unfolding between
+  between-row d =
+      choose (eqb (tagNumber g) UIH) (λ q. rw q (headed-row (uihOf g)))
+      (λ q. rw q (choose (eqb (tagNumber g) UIZ) (λ p. rw p (closing-row d)) (λ p. rw p tt)))
+
+  judged-row : (p : Place) (group : ℕ) (x : Period) → RowAt at (judged st at g p group x)
+  judged-row p group (period.Good f n form) = refl
+  judged-row p group (period.Wrong x) = tt
+
+  trailing-row : (r : List ℕ) (p : Place) (group : ℕ) → RowAt at (trailing st at g r p group)
+  unfolding trailing
+  trailing-row r p group = choose (uitOf g r (oneMore (st .segments))) (λ q. rw q refl) (λ q. rw q tt)
+
+  placed-row : (r : List ℕ) (group : ℕ) (p : Place) → RowAt at (placed st at g r group p)
+  unfolding placed
+  placed-row r group p =
+      choose (eqb (tagNumber g) UIT) (λ q. rw q (trailing-row r p group))
+      (λ q. rw q (choose (isPeriod st g group) (λ e. rw e (judged-row p group (periodOf g))) (λ e. rw e refl)))
+
+  settled-row : (t : Table) (r : List ℕ) (x : Stepped) → RowAt at (settled t st at g r x)
+  settled-row t r (Placed p) = placed-row r (groupOf t p) p
+  settled-row t r OutOfPlace = tt
+
+  step-row : (t u : Table) (f : Phase) (d r : List ℕ) → RowAt at (stepBy t u f st at g d r)
+  unfolding stepBy inside
+  step-row t u Opening d r = opening-row
+  step-row t u Between d r = between-row d
+  step-row t u Inside d r = settled-row (tableOf t u (st .kind)) r (stepOf (tableOf t u (st .kind)) (st .place) (tagNumber g))
+  step-row t u Closed d r = tt
+
+stop≢on : (x : Refusal) (st : State) (r : Row) (n : ℕ) → Stop x ≡ On st r n → ⊥
+stop≢on x st r n q = let z : _≡_ {A = ℕ} 0 1 = cc in omega arith
+
+module _ (st : State) (r : Row) (n : ℕ) where
+  on-is : (y : Step) (at m : ℕ) → RowAt at y → turnStep m y ≡ On st r n → (r .offset ≡ at) × (n ≡ m)
+  on-is (Next s q) at m o e =
+      let same : q ≡ r = cc in
+      (ap (λ (x : Row). x .offset) (sym same) ∙ o, cc)
+  on-is (Refused x) at m o e = absurd (stop≢on x st r n e)
+
+  on-from : (t u : Table) (s : List ℕ) (from : State) (at : ℕ) (x : Scanned) → segmentAt s at ≡ x → turnScan t u s from at x ≡ On st r n
+      → (r .offset ≡ at) × (at + 4 ≤ n) × (n ≤ length s)
+  on-from t u s from at (End e) h q =
+      let w = on-is (segmentStep t u from at (bodyAt s at) (dialogueOf s from) (referenceOf s from)) at (e + 1) (step-row from at (bodyAt s at) t u (from .phase) (dialogueOf s from) (referenceOf s from)) q in
+      let b = end-within s at e h in
+      (w .0, omega arith, omega arith)
+  on-from t u s from at (NotPermitted i) h q = absurd (stop≢on (refusalOf at (NotPermitted i)) st r n q)
+  on-from t u s from at Unended h q = absurd (stop≢on (refusalOf at Unended) st r n q)
+  on-from t u s from at Malformed h q = absurd (stop≢on (refusalOf at Malformed) st r n q)
+
+pub turn-on : (t u : Table) (s : List ℕ) (from : State) (at : ℕ) (st : State) (r : Row) (n : ℕ) → turnAt t u s from at ≡ On st r n
+    → (r .offset ≡ at) × (at + 4 ≤ n) × (n ≤ length s)
+unfolding turnAt
+turn-on t u s from at st r n q = on-from st r n t u s from at (segmentAt s at) refl q

@@ -1,0 +1,76 @@
+-- The union of periods over a window of days. "A service's days are those selected by at least one of its periods."
+-- Document 01, "Calendars", "What each number means": 10 and 13.
+-- Assumes nothing.
+use Prim.Native.Nat.{ℕ, zero, suc, _+_, _-_, _*_, _%_}
+use mathlib.Core.Bool.{Bool, false}
+use mathlib.Core.List.{List, [], _∷_}
+use lib.Dec.{leb}
+use lib.ListN.{length}
+use Rattle.laws.specs.Choice.{pick, both, either}
+use Rattle.calendar.specs.Days.{withBit, withDay}
+use Rattle.period.specs.Period.{periodOf, runsBy, runsIn}
+use Rattle.period.specs.declared.Form.{Form}
+use Rattle.period.specs.declared.Period.{Period}
+use Rattle.period.specs.declared.Period.the-variants.{Good, Wrong}
+use Rattle.joining.specs.declared.Joined.{Joined}
+use Rattle.joining.specs.declared.Joined.the-variants.{Done, WrongPeriod, Outside}
+
+-- the calendar with those of the m days from day k on selected too of which a test holds; day 0 is at an index of the calendar
+unfoldable pub marked : (ℕ → Bool) → List ℕ → ℕ → ℕ → ℕ → List ℕ
+marked t c at k zero = c
+marked t c at k (suc m) = marked t (pick (t k) (withDay c (at + k)) c) at (k + 1) m
+
+-- 13, "period not wholly in the window": n days from the day f on, in a window of so many days from the day o on
+abbrev pub inWindow : ℕ → ℕ → ℕ → ℕ → Bool
+inWindow days o f n = both (leb o f) (leb (f - o + n) days)
+
+unfoldable pub windowAnswer : ℕ → ℕ → ℕ → ℕ → Joined
+windowAnswer bytes o f n = pick (inWindow (8 * bytes) o f n) Done Outside
+
+unfoldable pub windowDays : List ℕ → ℕ → List ℕ → ℕ → ℕ → Form → List ℕ
+windowDays c o g f n form = pick (inWindow (8 * length c) o f n) (marked (runsBy g form f) c (f - o) 0 n) c
+
+-- joining what a POP g says: 10, then 13
+abbrev pub answerBy : ℕ → ℕ → Period → Joined
+answerBy bytes o (Wrong x) = WrongPeriod x
+answerBy bytes o (Good f n form) = windowAnswer bytes o f n
+
+unfoldable pub answered : ℕ → ℕ → List ℕ → Joined
+answered bytes o g = answerBy bytes o (periodOf g)
+
+-- a refusal leaves the calendar as it was
+abbrev pub joinedBy : List ℕ → ℕ → List ℕ → Period → List ℕ
+joinedBy c o g (Wrong x) = c
+joinedBy c o g (Good f n form) = windowDays c o g f n form
+
+unfoldable pub joined : List ℕ → ℕ → List ℕ → List ℕ
+joined c o g = joinedBy c o g (periodOf g)
+
+-- several POPs, one after the other
+unfoldable pub joinAll : List ℕ → ℕ → List (List ℕ) → List ℕ
+joinAll c o [] = c
+joinAll c o (g ∷ gs) = joinAll (joined c o g) o gs
+
+-- "What each number means"
+unfoldable pub paperNumber : Joined → ℕ
+paperNumber Done = 0
+paperNumber (WrongPeriod x) = 10
+paperNumber Outside = 13
+
+-- whether a POP selects the day with a number
+abbrev pub selectsBy : List ℕ → Period → ℕ → Bool
+selectsBy g (Wrong x) d = false
+selectsBy g (Good f n form) d = both (leb f d) (runsIn g (Good f n form) (d - f))
+
+unfoldable pub selects : List ℕ → ℕ → Bool
+selects g d = selectsBy g (periodOf g) d
+
+-- whether at least one of some POPs does
+abbrev pub anySelects : List (List ℕ) → ℕ → Bool
+anySelects [] d = false
+anySelects (g ∷ gs) d = either (selects g d) (anySelects gs d)
+
+-- the weekdays of a text as the bits of a byte
+unfoldable pub weekBits : ℕ → List ℕ → ℕ
+weekBits x [] = x
+weekBits x (b ∷ l) = weekBits (withBit x (b % 8)) l

@@ -1,0 +1,5 @@
+pub mod Joined
+pub mod Marks
+pub mod Weeks
+pub mod Told
+pub mod Union

@@ -1,0 +1,39 @@
+-- The answers of joining, in the order of the code.
+-- Assumes nothing.
+use mathlib.Core.Path.{_≡_}
+use mathlib.Core.List.{List}
+use Prim.Native.Nat.{ℕ, _+_, _-_, _*_, _≤_, _<_}
+use borrow.Author.Tests.{le-leb, lt-leb}
+use lib.ListN.{length}
+use Rattle.period.specs.Period.{periodOf, runsBy}
+use Rattle.period.specs.declared.Fault.{Fault}
+use Rattle.period.specs.declared.Form.{Form}
+use Rattle.period.specs.declared.Period.the-variants.{Good, Wrong}
+use Rattle.joining.specs.declared.Joined.{Joined}
+use Rattle.joining.specs.declared.Joined.the-variants.{Done, WrongPeriod, Outside}
+use Rattle.joining.specs.Joined.{marked, windowAnswer, windowDays, answered, joined}
+
+module _ (c : List ℕ) (o : ℕ) (g : List ℕ) (f n : ℕ) (form : Form) where
+  pub before-window : f < o → (Outside ≡ windowAnswer (length c) o f n) × (c ≡ windowDays c o g f n form)
+  unfolding windowAnswer windowDays
+  before-window h = (rw (lt-leb o f h), rw (lt-leb o f h))
+
+  module _ (h : o ≤ f) where
+    pub past-window : 8 * length c < f - o + n → (Outside ≡ windowAnswer (length c) o f n) × (c ≡ windowDays c o g f n form)
+    unfolding windowAnswer windowDays
+    past-window k = (rw (le-leb o f h, lt-leb (f - o + n) (8 * length c) k), rw (le-leb o f h, lt-leb (f - o + n) (8 * length c) k))
+
+    pub in-window : {last : List ℕ} → f - o + n ≤ 8 * length c → last ≡ marked (runsBy g form f) c (f - o) 0 n
+        → (Done ≡ windowAnswer (length c) o f n) × (last ≡ windowDays c o g f n form)
+    unfolding windowAnswer windowDays
+    in-window k e = (rw (le-leb o f h, le-leb (f - o + n) (8 * length c) k), rw (le-leb o f h, le-leb (f - o + n) (8 * length c) k) e)
+
+module _ (c : List ℕ) (o : ℕ) (g : List ℕ) where
+  pub wrong-told : {x : Fault} → periodOf g ≡ Wrong x → (WrongPeriod x ≡ answered (length c) o g) × (c ≡ joined c o g)
+  unfolding answered joined
+  wrong-told e = (rw e, rw e)
+
+  pub good-told : {f n : ℕ} {form : Form} {r : Joined} {last : List ℕ} → periodOf g ≡ Good f n form
+      → (r ≡ windowAnswer (length c) o f n) × (last ≡ windowDays c o g f n form) → (r ≡ answered (length c) o g) × (last ≡ joined c o g)
+  unfolding answered joined
+  good-told e w = (rw e (w .0), rw e (w .1))

@@ -1,0 +1,51 @@
+-- `days_text` is safe and ends.
+-- Assumes nothing.
+use Prim.Native.Nat.{_-_, _≤_}
+use borrow.Author.Needs.{needs}
+use Rattle.pop_cases.proofs.days_text.Statement.{statement}
+use Rattle.pop_cases.proofs.days_text.Tie as tie
+
+abbrev Inv-loop : tie.InvT-loop
+Inv-loop s segment period text₀ k₀ text k = k ≤ 512
+
+abbrev μ-loop : tie.MeasureT-loop
+μ-loop s segment period text₀ k₀ text k = 512 - k
+
+loop-holds : tie.Need-loop-holds Inv-loop μ-loop
+loop-holds c = search needs
+
+day-runs-requires : tie.Need-day-runs-requires Inv-loop μ-loop
+day-runs-requires c κs = search needs
+
+digit-requires : tie.Need-digit-requires Inv-loop μ-loop
+digit-requires c κs = search needs
+
+array-write-text : tie.Need-array-write-text Inv-loop μ-loop
+array-write-text c = search needs
+
+add-k : tie.Need-add-k Inv-loop μ-loop
+add-k c = search needs
+
+loop-less : tie.Need-loop-less Inv-loop μ-loop
+loop-less c = search needs
+
+loop-again : tie.Need-loop-again Inv-loop μ-loop
+loop-again c = search needs
+
+returns : tie.Need-returns Inv-loop μ-loop
+returns c = search needs
+
+pub days-text-spec : {M : Type 1} → statement M
+days-text-spec =
+    tie.close
+    (tie.spec
+    Inv-loop
+    μ-loop
+    loop-holds
+    day-runs-requires
+    digit-requires
+    array-write-text
+    add-k
+    loop-less
+    loop-again
+    returns)

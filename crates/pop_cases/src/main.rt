@@ -1,0 +1,238 @@
+//! Reads POPs, a line each, and writes what they say: `period` POP, or `join` DATE POP POP .., parted by tabs,
+//! where the POPs to join stand one behind the other. A period is written as its first date, its last date and a `0` or `1` for each day;
+//! after joining stand the days of the window of 512 days from the date on.
+
+use dates::Date;
+use dates::Made;
+use dates::Number;
+use joining::Joined;
+use libc::STDOUT_FILENO;
+use parts::Part;
+use period::Fault;
+use period::Period;
+use syntax::segment::Scanned;
+use syntax::segment::read_segment;
+ghost use mathlib.Core.Path.{_≡_};
+ghost use Prim.Native.Nat.{_<_, _≤_};
+ghost use lib.ListN.{length};
+
+fn line_end(s: &[u8], from: usize) -> usize
+    requires { ⌜ from < length (now s) ⌝ }
+    ensures { λ r. ⌜ (from ≤ r) × (r ≤ length (now (s .entry))) ⌝ }
+{
+    let mut i = from;
+    while i < s.len() {
+        if s[i] == b'\n' {
+            return i;
+        }
+        i += 1;
+    }
+    i
+}
+
+fn say(words: &[u8]) {
+    io::write_all(STDOUT_FILENO, words);
+}
+
+fn print_number(n: usize) {
+    io::print_decimal(STDOUT_FILENO, n as u64);
+}
+
+// The day of a year that stands so many days after its first.
+fn print_in_year(year: u32, day: usize) {
+    let mut left = day;
+    let mut month = 1;
+    while month < 13 {
+        let n = dates::month_length(year, month) as usize;
+        if left < n {
+            let Made::Valid(date) = Date::new(year, month, (left % 31) as u32 + 1) else {
+                return;
+            };
+            let text = date.text();
+            say(&text);
+            return;
+        }
+        left -= n;
+        month += 1;
+    }
+}
+
+fn year_length(year: u32) -> usize {
+    if dates::leap_year(year) { 366 } else { 365 }
+}
+
+fn print_date(number: usize) {
+    let mut left = number;
+    let mut year = 1990;
+    while year < 2100 {
+        let n = year_length(year);
+        if left < n {
+            print_in_year(year, left);
+            return;
+        }
+        left -= n;
+        year += 1;
+    }
+}
+
+// The first and the last of n days.
+fn print_span(first: usize, n: usize) {
+    if 65536 < first {
+        return;
+    }
+    if 512 < n {
+        return;
+    }
+    if n == 0 {
+        return;
+    }
+    print_date(first);
+    say(b" ");
+    print_date(first + n - 1);
+}
+
+fn digit(yes: bool) -> u8 {
+    if yes { b'1' } else { b'0' }
+}
+
+fn days_text(s: &[u8], segment: Part, period: Period) -> [u8; 512] {
+    let mut text = [b'0'; 512];
+    let mut k = 0;
+    while k < 512 {
+        text[k] = digit(period::day_runs(s, segment, period, k));
+        k += 1;
+    }
+    text
+}
+
+fn print_days(s: &[u8], segment: Part, period: Period, n: usize) {
+    if 512 < n {
+        return;
+    }
+    let text = days_text(s, segment, period);
+    say(parts::bytes_of(&text, Part { from: 0, to: n }));
+}
+
+fn fault_number(fault: Fault) -> usize {
+    match fault {
+        Fault::BadDates => 1,
+        Fault::BadDayString => 2,
+        Fault::BadWeekdays => 3,
+        Fault::BothForms => 4,
+        Fault::NeitherForm => 5,
+        Fault::BadRest => 6,
+    }
+}
+
+fn refuse(fault: Fault) {
+    say(b"refused 10 ");
+    print_number(fault_number(fault));
+}
+
+fn answer_period(line: &[u8], segment: Part) {
+    let period = period::read_period(line, segment);
+    match period {
+        Period::Wrong(fault) => refuse(fault),
+        Period::Good(first, n, _) => {
+            print_span(first, n);
+            say(b" ");
+            print_days(line, segment, period, n);
+        }
+    }
+}
+
+// The segment at an offset, where it is whole.
+fn segment_at(line: &[u8], from: usize) -> Part
+    ensures { λ r. ⌜ r .from ≡ from ⌝ }
+{
+    match read_segment(line, from) {
+        Scanned::End(to) => Part { from, to },
+        Scanned::NotPermitted(_) => Part { from, to: from },
+        Scanned::Unended => Part { from, to: from },
+        Scanned::Malformed => Part { from, to: from },
+    }
+}
+
+fn answer_joined(joined: Joined) {
+    match joined {
+        Joined::Done => say(b"done "),
+        Joined::WrongPeriod(fault) => {
+            refuse(fault);
+            say(b" ");
+        }
+        Joined::Outside => say(b"refused 13 "),
+    }
+}
+
+fn window_text(days: [u8; 64]) -> [u8; 512] {
+    let mut text = [b'0'; 512];
+    let s: &[u8] = &days;
+    let mut k = 0;
+    while k < 512 {
+        text[k] = digit(calendar::test_day(s, k));
+        k += 1;
+    }
+    text
+}
+
+fn print_window(days: [u8; 64]) {
+    let text = window_text(days);
+    say(&text);
+}
+
+// Joins the POPs that stand one behind the other from an offset on.
+fn join_all(days: &mut [u8], origin: usize, line: &[u8], from: usize) {
+    let mut at = from;
+    while at < line.len() {
+        let segment = segment_at(line, at);
+        let to = segment.to;
+        answer_joined(joining::join_period(days, origin, line, segment));
+        if to < at {
+            return;
+        }
+        if line.len() <= to {
+            return;
+        }
+        at = to + 1;
+    }
+}
+
+fn answer_join(line: &[u8], origin: usize) {
+    let mut days = [0u8; 64];
+    join_all(&mut days, origin, line, 16);
+    print_window(days);
+}
+
+fn answer_line(line: &[u8]) {
+    if line.len() == 0 {
+        return;
+    }
+    if line[0] == b'p' {
+        answer_period(line, segment_at(line, 7));
+        say(b"\n");
+        return;
+    }
+    let Made::Valid(date) = dates::read_date(line, 5) else {
+        return;
+    };
+    let Number::Day(origin) = date.day_number() else {
+        return;
+    };
+    answer_join(line, origin);
+    say(b"\n");
+}
+
+fn answer_all(s: &[u8]) {
+    let mut i = 0;
+    while i < s.len() {
+        let end = line_end(s, i);
+        answer_line(&s[i..end]);
+        i = end + 1;
+    }
+}
+
+fn main() {
+    let mut buffer = [0u8; 60000];
+    let n = io::read_full(0, &mut buffer);
+    answer_all(&buffer[..n]);
+}
