@@ -1,0 +1,4 @@
+pub mod Free
+pub mod Parts
+pub mod Written
+pub mod Week

@@ -1,0 +1,196 @@
+-- What is written reads back: the dates and days of either written form are those of the calendar.
+-- Assumes nothing.
+use mathlib.Core.Path.{_≡_, refl, sym, ap, _∙_}
+use mathlib.Core.Bool.{Bool, true, false, not}
+use mathlib.Core.List.{List, [], _∷_, _++_, append-assoc}
+use Prim.Native.Nat.{ℕ, zero, suc, _+_, _/_, _%_, _≤_, _<_}
+use native.Mathlib.Omega.{arith}
+use lib.Dec.{eqb}
+use lib.ListN.{length, getD, take, drop}
+use borrow.Author.Tests.{eq-eqb, le-leb, lt-ltb}
+use Rattle.laws.specs.Choice.{pick, both, either, all}
+use Rattle.syntax.specs.Bytes.{plain, plainOn}
+use Rattle.syntax.specs.Segment.{bodyAt, segmentAt}
+use Rattle.syntax.specs.declared.segment.Scanned.the-variants.{End}
+use Rattle.values.specs.Values.{sameText}
+use Rattle.dates.specs.Dates.{number}
+use Rattle.dates.specs.Text.{digit, dateText, dateAt}
+use Rattle.dates.specs.Again.{read-text}
+use Rattle.dates.specs.declared.Date.{Date}
+use Rattle.calendar.specs.Days.{day}
+use Rattle.calendar.specs.Steps.{length-characters, character-at}
+use Rattle.calendar.specs.Good.{GoodCalendar, good-facts}
+use Rattle.calendar.specs.Written.{dayCount, goodPeriod, goodCalendar, start, dayCharacter, dayCharacters, dayStringText}
+use Rattle.period.specs.Period.{firstLast, dayText, weekText, present, zeroOrOne, dayString, fitsDays, rising, formOf, restGood, periodOf, runsBy, runsIn, runs}
+use Rattle.period.specs.Facts.{passes-good}
+use Rattle.period.specs.declared.Form.{Form}
+use Rattle.period.specs.declared.Form.the-variants.{Every, ByString}
+use Rattle.period.specs.declared.Period.the-variants.{Good}
+use Rattle.read_back.specs.Free.{all-append, numeric, plain-all, no-release}
+use Rattle.read_back.specs.Parts.{Parts, oneElement, withString, string-parts}
+
+-- the bytes of the parts
+all-cons : (f : ℕ → Bool) (b : ℕ) (l : List ℕ) → f b ≡ true → all f l ≡ true → all f (b ∷ l) ≡ true
+all-cons f b l p q = rw (p, q)
+
+numeric-digit : (n : ℕ) → numeric (digit n) ≡ true
+numeric-digit n = rw (le-leb 45 (48 + n % 10) (omega arith), le-leb (48 + n % 10) 57 (omega arith))
+
+numeric-date : (a : Date) → all numeric (dateText a) ≡ true
+unfolding dateText
+numeric-date a =
+    rw (numeric-digit (a .year / 1000), numeric-digit (a .year / 100), numeric-digit (a .year / 10), numeric-digit (a .year), numeric-digit (a .month / 10), numeric-digit (a .month), numeric-digit (a .day / 10), numeric-digit (a .day))
+
+-- first/last
+abbrev pub dates : Date → Date → List ℕ
+dates first last = dateText first ++ (47 ∷ []) ++ dateText last
+
+pub numeric-dates : (a b : Date) → all numeric (dates a b) ≡ true
+unfolding dateText
+numeric-dates a b = all-append numeric (dateText a) ((47 ∷ []) ++ dateText b) (numeric-date a) (all-append numeric (47 ∷ []) (dateText b) refl (numeric-date b))
+
+pub length-dates : (a b : Date) → length (dates a b) ≡ 21
+unfolding dateText
+length-dates a b = refl
+
+stroke-in : (a b : Date) → getD (dates a b) 10 0 ≡ 47
+unfolding dateText
+stroke-in a b = refl
+
+first-in : (a b : Date) → take 10 (drop 0 (dates a b)) ≡ dateText a
+unfolding dateText
+first-in a b = refl
+
+last-in : (a b : Date) → take 10 (drop 11 (dates a b)) ≡ dateText b
+unfolding dateText
+last-in a b = refl
+
+-- the span is the calendar's
+module _ (c : List ℕ) (a b : Date) (good : GoodCalendar c a b) where
+  good-span : goodPeriod a b ≡ true
+  unfolding goodPeriod
+  good-span = rw (good .first-date, good .last-date, le-leb (number a) (number b) (good .in-order), le-leb (dayCount a b) 512 (good .not-long))
+
+  -- a POP whose parts are these dates and a form that is told is a good period
+  module _ (g s w : List ℕ) (p : Parts g (dates a b) s w) (ns : all numeric s ≡ true) (nw : all numeric w ≡ true) where
+    dates-plain : firstLast g ≡ dates a b
+    dates-plain = ap plain (p .dates-are) ∙ plain-all (dates a b) (no-release (dates a b) (numeric-dates a b))
+
+    pub string-plain : dayText g ≡ s
+    string-plain = ap plain (p .string-is) ∙ plain-all s (no-release s ns)
+
+    pub weekdays-plain : weekText g ≡ w
+    weekdays-plain = ap plain (p .weekdays-are) ∙ plain-all w (no-release w nw)
+
+    rest-read : restGood g ≡ true
+    unfolding restGood sameText plainOn
+    rest-read =
+        rw (p .first-once, p .second-once)
+        (ap (λ (x : List ℕ). both (sameText (plain x) (50 ∷ 55 ∷ 51 ∷ [])) true) (p .qualifier-is))
+
+    pub period-read : fitsDays (dayCount a b) s ≡ true → rising 48 w ≡ true → both (present s) (present w) ≡ false
+        → periodOf g ≡ Good (number a) (dayCount a b) (formOf s w)
+    period-read f r n =
+        passes-good g a b (record {
+          in-length = ap length dates-plain ∙ length-dates a b;
+          stroke = ap (λ (x : List ℕ). getD x 10 0) dates-plain ∙ stroke-in a b;
+          first-read = ap (λ (x : List ℕ). dateAt x 0) dates-plain ∙ read-text a (good .first-date) (dates a b) 0 (first-in a b);
+          last-read = ap (λ (x : List ℕ). dateAt x 11) dates-plain ∙ read-text b (good .last-date) (dates a b) 11 (last-in a b);
+          good-span = good-span;
+          string-fits = ap (fitsDays (dayCount a b)) string-plain ∙ f;
+          weekdays-rise = ap (rising 48) weekdays-plain ∙ r;
+          not-both = ap (λ (x : List ℕ). both (present x) (present (weekText g))) string-plain ∙ ap (λ (x : List ℕ). both (present s) (present x)) weekdays-plain ∙ n;
+          rest = rest-read;
+        })
+        ∙ ap (λ (x : List ℕ). Good (number a) (dayCount a b) (formOf x (weekText g))) string-plain
+        ∙ ap (λ (x : List ℕ). Good (number a) (dayCount a b) (formOf s x)) weekdays-plain
+
+-- the day string
+numeric-characters : (c : List ℕ) (k n : ℕ) → all numeric (dayCharacters c k n) ≡ true
+unfolding dayCharacters dayCharacter
+numeric-characters c k zero = refl
+numeric-characters c k (suc n) = all-cons numeric (pick (day c k) 49 48) (dayCharacters c (k + 1) n) (one (day c k)) (numeric-characters c (k + 1) n)
+  where
+    one : (d : Bool) → numeric (pick d 49 48) ≡ true
+    one true = refl
+    one false = refl
+
+zeros-and-ones : (c : List ℕ) (k n : ℕ) → all zeroOrOne (dayCharacters c k n) ≡ true
+unfolding dayCharacters dayCharacter
+zeros-and-ones c k zero = refl
+zeros-and-ones c k (suc n) = all-cons zeroOrOne (pick (day c k) 49 48) (dayCharacters c (k + 1) n) (one (day c k)) (zeros-and-ones c (k + 1) n)
+  where
+    one : (d : Bool) → zeroOrOne (pick d 49 48) ≡ true
+    one true = refl
+    one false = refl
+
+some-characters : (c : List ℕ) (n : ℕ) → 1 ≤ n → present (dayCharacters c 0 n) ≡ true
+unfolding dayCharacters
+some-characters c zero h = absurd (omega arith)
+some-characters c (suc n) h = refl
+
+string-fits : (c : List ℕ) (n : ℕ) → fitsDays n (dayCharacters c 0 n) ≡ true
+unfolding dayString
+string-fits c n = fits (present (dayCharacters c 0 n)) (dayString n (dayCharacters c 0 n)) (rw (length-characters c 0 n, eq-eqb n n refl, zeros-and-ones c 0 n))
+  where
+    fits : (p q : Bool) → q ≡ true → either (not p) q ≡ true
+    fits true q e = e
+    fits false q e = refl
+
+no-weekdays : rising 48 [] ≡ true
+unfolding rising
+no-weekdays = refl
+
+day-of : (d : Bool) → eqb (pick d 49 48) 49 ≡ d
+day-of true = refl
+day-of false = refl
+
+string-runs : (c : List ℕ) (n k : ℕ) → k < n → eqb (getD (dayCharacters c 0 n) k 0) 49 ≡ day c k
+unfolding dayCharacter
+string-runs c n k h = ap (λ (x : ℕ). eqb x 49) (character-at c n k h) ∙ day-of (day c k)
+
+-- what reading a text back is to give: one whole segment, the same dates, and the days of the calendar
+pub record ReadsBack (text c : List ℕ) (first last : Date) (form : Form) : Type 0 where
+  pub body : List ℕ
+  pub ended : text ≡ body ++ (39 ∷ [])
+  pub cut : bodyAt text 0 ≡ body
+  pub segment : segmentAt text 0 ≡ End (length body)
+  pub period : periodOf body ≡ Good (number first) (dayCount first last) form
+  pub days : (k : ℕ) → k < dayCount first last → runs body k ≡ day c k
+
+module _ (c : List ℕ) (first last : Date) (good : goodCalendar c first last ≡ true) where
+  abbrev string : List ℕ
+  string = dayCharacters c 0 (dayCount first last)
+
+  abbrev stringBody : List ℕ
+  stringBody = oneElement (withString (dates first last) string)
+
+  string-text : dayStringText c first last (dayCount first last) ≡ stringBody ++ (39 ∷ [])
+  unfolding dayStringText start dateText dayCharacters
+  string-text =
+      sym (ap (λ (l : List ℕ). 80 ∷ 79 ∷ 80 ∷ 43 ∷ 50 ∷ 55 ∷ 51 ∷ 58 ∷ l) (append-assoc (dates first last) (58 ∷ 58 ∷ string) (39 ∷ [])))
+
+  -- the day string reads back as the same calendar
+  pub day-string-back : ReadsBack (dayStringText c first last (dayCount first last)) c first last ByString
+  unfolding runsIn runsBy
+  day-string-back =
+      let f = good-facts c first last good in
+      let m = f .not-long in
+      let s = numeric-characters c 0 (dayCount first last) in
+      let l = length-characters c 0 (dayCount first last) in
+      let d = length-dates first last in
+      let p = string-parts (dates first last) string (numeric-dates first last) s (omega arith) (omega arith) in
+      let x = some-characters c (dayCount first last) (omega arith) in
+      let e =
+      period-read c first last f stringBody string [] p s refl (string-fits c (dayCount first last)) no-weekdays (rw x)
+      ∙ ap (λ (t : Bool). Good (number first) (dayCount first last) (pick t ByString Every)) x in
+      record {
+        body = stringBody;
+        ended = string-text;
+        cut = ap (λ (t : List ℕ). bodyAt t 0) string-text ∙ p .body;
+        segment = ap (λ (t : List ℕ). segmentAt t 0) string-text ∙ p .segment;
+        period = e;
+        days = λ k h.
+            rw (e, lt-ltb k (dayCount first last) h)
+            (ap (λ (t : List ℕ). eqb (getD t k 0) 49) (string-plain c first last f stringBody string [] p s refl) ∙ string-runs c (dayCount first last) k h);
+      }
