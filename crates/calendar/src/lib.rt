@@ -99,7 +99,7 @@ fn any_day(days: &[u8], from: usize, to: usize) -> bool
 }
 
 // The period from a first to a last date, both counted: 1 to 512 days.
-pub fn days_between(first: Date, last: Date) -> Span
+fn days_between(first: Date, last: Date) -> Span
     ensures { λ r. ⌜ r ≡ spanOf first last ⌝ }
 {
     let Number::Day(from) = first.day_number() else {

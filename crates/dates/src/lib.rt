@@ -46,7 +46,7 @@ pub enum DateWritten {
     NoRoom,
 }
 
-pub fn leap_year(year: u32) -> bool
+fn leap_year(year: u32) -> bool
     ensures { λ r. ⌜ r ≡ leapYear year ⌝ }
 {
     if year % 100 == 0 {
@@ -55,7 +55,7 @@ pub fn leap_year(year: u32) -> bool
     year % 4 == 0
 }
 
-pub fn month_length(year: u32, month: u32) -> u32
+fn month_length(year: u32, month: u32) -> u32
     ensures { λ r. ⌜ r ≡ monthLength year month ⌝ }
 {
     match month {
@@ -65,7 +65,7 @@ pub fn month_length(year: u32, month: u32) -> u32
     }
 }
 
-pub fn is_date(year: u32, month: u32, day: u32) -> bool
+fn is_date(year: u32, month: u32, day: u32) -> bool
     ensures { λ r. ⌜ r ≡ isDate year month day ⌝ }
 {
     if year < Date::FIRST.year as u32 {

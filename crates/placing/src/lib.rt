@@ -5,7 +5,6 @@ ghost use mathlib.Core.Path.{_≡_};
 ghost use Prim.Native.Nat.{_-_};
 ghost use Rattle.placing.specs.Table.{entryOf, afterOf, endOf, levelOf};
 ghost use Rattle.placing.specs.Place.{countAt, keptOf, reachedOf, startPlace};
-ghost use Rattle.placing.specs.Tags.{tagOf};
 ghost use Rattle.placing.specs.Rule.{inGroup, fits, again, firstOf, stepOf, mayEnd, groupOf};
 ghost use Rattle.placing.specs.Reading.{readGroup, turnOf};
 
@@ -62,13 +61,6 @@ const HELD: usize = 6;
 const OUTER: usize = 7;
 
 const UIT: u32 = 0x554954;
-
-// A tag as the tables have it: its three bytes as one number.
-pub fn tag(a: u8, b: u8, c: u8) -> u32
-    ensures { λ r. ⌜ r ≡ tagOf a b c ⌝ }
-{
-    a as u32 * 65536 + b as u32 * 256 + c as u32
-}
 
 // The number in a row's column, 0 past the last row.
 fn entry(table: &[[u32; 8]], row: usize, column: usize) -> u32

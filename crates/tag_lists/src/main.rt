@@ -4,8 +4,10 @@
 //! where the message may end there, or `out` and which one of them was out of place; the line is then left.
 use placing::Place;
 use placing::Stepped;
+ghost use mathlib.Core.Path.{_≡_};
 ghost use Prim.Native.Nat.{_≤_};
 ghost use lib.ListN.{length};
+ghost use Rattle.placing.specs.Tags.{tagOf};
 
 enum Run {
     All(Place),
@@ -64,13 +66,20 @@ fn times(line: &[u8], at: usize) -> u32
     high + digit(line, at + 7) * 100 + digit(line, at + 8) * 10 + digit(line, at + 9)
 }
 
+// A tag as the tables have it: its three bytes as one number.
+fn tag(a: u8, b: u8, c: u8) -> u32
+    ensures { λ r. ⌜ r ≡ tagOf a b c ⌝ }
+{
+    a as u32 * 65536 + b as u32 * 256 + c as u32
+}
+
 fn tag_at(line: &[u8], at: usize) -> u32
     requires { ⌜ at ≤ length (now line) ⌝ }
 {
     if line.len() - at < 3 {
         return 0;
     }
-    placing::tag(line[at], line[at + 1], line[at + 2])
+    tag(line[at], line[at + 1], line[at + 2])
 }
 
 // The index past the next space, or the line's end.
