@@ -3,3 +3,4 @@ pub mod Marks
 pub mod Weeks
 pub mod Told
 pub mod Union
+pub mod Bytes

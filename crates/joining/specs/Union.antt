@@ -176,11 +176,15 @@ zero-at zero i = refl
 zero-at (suc n) zero = refl
 zero-at (suc n) (suc i) = zero-at n i
 
+pub no-byte : (n i : ℕ) → _≡_ {A = ℕ} (getD (no-days n) i 0) 0
+unfolding no-days
+no-byte n i = zero-at n i
+
 pub no-day : (n j : ℕ) → day (no-days n) j ≡ false
 unfolding day no-days
 no-day n j = rw (zero-at n (j / 8)) (bit-none (j % 8) (omega arith))
 
-length-none : (n : ℕ) → length (no-days n) ≡ n
+pub length-none : (n : ℕ) → length (no-days n) ≡ n
 unfolding no-days
 length-none zero = refl
 length-none (suc n) = ap suc (length-none n)

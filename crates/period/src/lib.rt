@@ -17,7 +17,7 @@ ghost use Rattle.laws.specs.Choice.{among};
 ghost use Rattle.syntax.specs.Bytes.{plain};
 ghost use Rattle.syntax.specs.Pieces.{partOf};
 ghost use Rattle.parts.specs.Places.{bytesOf};
-ghost use Rattle.period.specs.Period.{present, spanBetween, spanIn, dayString, fitsDays, rising, formWithout, formedOf, restGood, periodOf, runsBy, runsIn};
+ghost use Rattle.period.specs.Period.{present, spanBetween, spanIn, dayString, fitsDays, rising, formWithout, formedOf, restGood, periodOf, faultNumber, runsBy, runsIn};
 
 /// What tells the days of a period.
 pub enum Form {
@@ -38,6 +38,22 @@ pub enum Fault {
     /// Kept for a caller who wants one of the forms; no function here answers it.
     NeitherForm,
     BadRest,
+}
+
+impl Fault {
+    /// The number of the part that is wrong, 1 to 6.
+    pub fn number(self) -> u8
+        ensures { λ r. ⌜ r ≡ faultNumber self ⌝ }
+    {
+        match self {
+            Fault::BadDates => 1,
+            Fault::BadDayString => 2,
+            Fault::BadWeekdays => 3,
+            Fault::BothForms => 4,
+            Fault::NeitherForm => 5,
+            Fault::BadRest => 6,
+        }
+    }
 }
 
 /// What a POP says.
@@ -125,7 +141,7 @@ fn read_dates(part: &[u8]) -> Span
     read_span(&text[..n])
 }
 
-// Whether a day string has one `0` or `1` for each day left.
+// Whether a part is one `0` or `1` for each of n days.
 fn is_day_string(part: &[u8], n: usize) -> bool
     ensures { λ r. ⌜ r ≡ dayString n (plain (now (part .entry))) ⌝ }
 {

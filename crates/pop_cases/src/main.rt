@@ -38,41 +38,12 @@ fn print_number(n: usize) {
     io::print_decimal(STDOUT_FILENO, n as u64);
 }
 
-// The day of a year that stands so many days after its first.
-fn print_in_year(year: u32, day: usize) {
-    let mut left = day;
-    let mut month = 1;
-    while month < 13 {
-        let n = dates::month_length(year, month) as usize;
-        if left < n {
-            let Made::Valid(date) = Date::new(year, month, (left % 31) as u32 + 1) else {
-                return;
-            };
-            let text = date.text();
-            say(&text);
-            return;
-        }
-        left -= n;
-        month += 1;
-    }
-}
-
-fn year_length(year: u32) -> usize {
-    if dates::leap_year(year) { 366 } else { 365 }
-}
-
 fn print_date(number: usize) {
-    let mut left = number;
-    let mut year = 1990;
-    while year < 2100 {
-        let n = year_length(year);
-        if left < n {
-            print_in_year(year, left);
-            return;
-        }
-        left -= n;
-        year += 1;
-    }
+    let Made::Valid(date) = Date::from_number(number) else {
+        return;
+    };
+    let text = date.text();
+    say(&text);
 }
 
 // The first and the last of n days.
@@ -113,20 +84,9 @@ fn print_days(s: &[u8], segment: Part, period: Period, n: usize) {
     say(parts::bytes_of(&text, Part { from: 0, to: n }));
 }
 
-fn fault_number(fault: Fault) -> usize {
-    match fault {
-        Fault::BadDates => 1,
-        Fault::BadDayString => 2,
-        Fault::BadWeekdays => 3,
-        Fault::BothForms => 4,
-        Fault::NeitherForm => 5,
-        Fault::BadRest => 6,
-    }
-}
-
 fn refuse(fault: Fault) {
     say(b"refused 10 ");
-    print_number(fault_number(fault));
+    print_number(fault.number() as usize);
 }
 
 fn answer_period(line: &[u8], segment: Part) {

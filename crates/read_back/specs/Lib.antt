@@ -2,3 +2,5 @@ pub mod Free
 pub mod Parts
 pub mod Written
 pub mod Week
+pub mod Same
+pub mod Theorems

@@ -1,6 +1,7 @@
 -- `span_between` meets its contract.
 -- Assumes nothing.
 use mathlib.Core.Path.{sym, _∙_}
+use native.Mathlib.Omega.{arith}
 use borrow.Author.Needs.{needs}
 use Rattle.dates.specs.Laws.{number-known, number-unknown}
 use Rattle.period.specs.Tests.{first-not, last-not, out-of-order, too-many, some-days}
@@ -43,7 +44,7 @@ returns-3 c =
 returns-4 : tie.Need-returns-4
 returns-4 c =
     let a = c .before .before .before .before .before .before .before .before .before .before .args in
-    too-many (a .first) (a .last) (number-known (a .first) (sym (c .before .before .before .before .before .before .before .before .before .day-number .ensures) ∙ c .before .before .before .before .before .before .before .from .given .1)) (number-known (a .last) (sym (c .before .before .before .before .before .day-number2 .ensures) ∙ c .before .before .before .to .given .1)) (c .before .if1 .left) (c .if2 .taken)
+    too-many (a .first) (a .last) (number-known (a .first) (sym (c .before .before .before .before .before .before .before .before .before .day-number .ensures) ∙ c .before .before .before .before .before .before .before .from .given .1)) (number-known (a .last) (sym (c .before .before .before .before .before .day-number2 .ensures) ∙ c .before .before .before .to .given .1)) (c .before .if1 .left) (omega arith)
 
 add-t9 : tie.Need-add-t9
 add-t9 c = search needs
@@ -51,7 +52,7 @@ add-t9 c = search needs
 returns-5 : tie.Need-returns-5
 returns-5 c =
     let a = c .before .before .before .before .before .before .before .before .before .before .args in
-    some-days (a .first) (a .last) (number-known (a .first) (sym (c .before .before .before .before .before .before .before .before .before .day-number .ensures) ∙ c .before .before .before .before .before .before .before .from .given .1)) (number-known (a .last) (sym (c .before .before .before .before .before .day-number2 .ensures) ∙ c .before .before .before .to .given .1)) (c .before .if1 .left) (c .if2 .left)
+    some-days (a .first) (a .last) (number-known (a .first) (sym (c .before .before .before .before .before .before .before .before .before .day-number .ensures) ∙ c .before .before .before .before .before .before .before .from .given .1)) (number-known (a .last) (sym (c .before .before .before .before .before .day-number2 .ensures) ∙ c .before .before .before .to .given .1)) (c .before .if1 .left) (omega arith)
 
 pub span-between-spec : {M : Type 1} → statement M
 span-between-spec = tie.close (tie.spec day-number-requires enum-known-from enum-told returns day-number-requires-2 enum-known-to enum-told-2 returns-2 returns-3 returns-4 add-t9 returns-5)
