@@ -1,0 +1,2 @@
+pub mod Interchange
+pub mod Segments
