@@ -1,2 +1,4 @@
 pub mod Interchange
 pub mod Segments
+pub mod References
+pub mod Onward
