@@ -2,3 +2,4 @@ pub mod Interchange
 pub mod Segments
 pub mod References
 pub mod Onward
+pub mod Steps
