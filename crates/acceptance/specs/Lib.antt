@@ -3,3 +3,4 @@ pub mod Segments
 pub mod References
 pub mod Onward
 pub mod Steps
+pub mod Within
