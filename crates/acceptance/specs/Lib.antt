@@ -4,3 +4,4 @@ pub mod References
 pub mod Onward
 pub mod Steps
 pub mod Within
+pub mod When
