@@ -5,3 +5,5 @@ pub mod Onward
 pub mod Steps
 pub mod Within
 pub mod When
+pub mod Only
+pub mod Theorems
