@@ -7,3 +7,4 @@ pub mod Within
 pub mod When
 pub mod Only
 pub mod Theorems
+pub mod Cases
