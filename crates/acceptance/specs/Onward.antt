@@ -75,17 +75,17 @@ goes-past s rest none e = e
 goes-past s rest (more {at = at} {g = g} {gs = gs} ok q go) e =
     goes-past s rest go (after-segment s at g (written gs ++ rest) (e ∙ append-assoc g (39 ∷ written gs) rest))
 
-pub goes-on : (f : ℕ) (s : List ℕ) {st last : State} {at end : ℕ} {gs : List (List ℕ)} {rs : List Row} (rest : List ℕ) → Goes s st at gs rs last end
+pub reading-goes-on : (f : ℕ) (s : List ℕ) {st last : State} {at end : ℕ} {gs : List (List ℕ)} {rs : List Row} (rest : List ℕ) → Goes s st at gs rs last end
     → drop at s ≡ written gs ++ rest → length s < at + f → readOn f s st at ≡ precede rs (readOn (f - length gs) s last end)
 unfolding written
-goes-on f s rest (none {st = st} {at = at}) e h =
+reading-goes-on f s rest (none {st = st} {at = at}) e h =
     let z : f ≡ f - 0 = omega arith in
     ap (λ (x : ℕ). readOn x s st at) z
-goes-on f s rest (more {st = st} {next = next} {last = last} {at = at} {end = end} {g = g} {gs = gs} {r = r} {rs = rs} ok q go) e h =
+reading-goes-on f s rest (more {st = st} {next = next} {last = last} {at = at} {end = end} {g = g} {gs = gs} {r = r} {rs = rs} ok q go) e h =
     let w = e ∙ append-assoc g (39 ∷ written gs) rest in
     let n = segment-fits s at g (written gs ++ rest) w in
     let z : f - 1 - length gs ≡ f - suc (length gs) = omega arith in
     read-one s st at g (written gs ++ rest) w ok next r q f h
     ∙ ap (before r)
-    (goes-on (f - 1) s rest go (after-segment s at g (written gs ++ rest) w) (omega arith)
+    (reading-goes-on (f - 1) s rest go (after-segment s at g (written gs ++ rest) w) (omega arith)
     ∙ ap (λ (x : ℕ). precede rs (readOn x s last end)) z)
