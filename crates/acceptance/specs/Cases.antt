@@ -22,7 +22,7 @@ use Rattle.placing.specs.Tsdupd.{tsdupdTable}
 use Rattle.envelope.specs.Decimal.{decimalOn}
 use Rattle.envelope.specs.Envelope.{uibOf, uihOf, trailerOf}
 use Rattle.interchange.specs.Reader.{numbers}
-use Rattle.acceptance.specs.Interchange.{written, unbroken, isSegment, Message, Interchange, segmentsOf, placesFrom, isMessage, holds, rowsFrom, rowsOf}
+use Rattle.acceptance.specs.Interchange.{written, unbroken, isSegment, Interchange, segmentsOf, placesFrom, isMessage, holds, rowsFrom, rowsOf}
 
 -- `UIB+UNOB:4+7`
 abbrev uib : List ℕ

@@ -6,5 +6,6 @@ pub mod Steps
 pub mod Within
 pub mod When
 pub mod Only
+pub mod Same
 pub mod Theorems
 pub mod Cases

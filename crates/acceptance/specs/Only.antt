@@ -1,7 +1,7 @@
 -- What is accepted is an interchange: the segments read, put together from the last to the first.
 -- Assumes nothing.
 use mathlib.Core.Path.{_≡_, refl, sym, ap, subst, _∙_}
-use mathlib.Core.Bool.{Bool, true, false}
+use mathlib.Core.Bool.{true, false}
 use mathlib.Core.List.{List, [], _∷_, _++_}
 use Prim.Native.Nat.{ℕ, zero, suc, _+_, _≤_, _<_}
 use native.Mathlib.Omega.{arith}
@@ -9,19 +9,17 @@ use native.Mathlib.Numerals.{add-one}
 use lib.Dec.{eqb, ltb}
 use lib.ListN.{length, drop}
 use borrow.Author.Tests.{lt-ltb, ltb-true, ltb-false, eqb-false}
-use Rattle.laws.specs.Choice.{pick, both, either, all, choose, either-parts}
+use Rattle.laws.specs.Choice.{all, choose, either-parts}
 use Rattle.laws.specs.Lists.{drop-past}
 use Rattle.syntax.specs.declared.segment.Refusal.{Refusal}
 use Rattle.syntax.specs.declared.segment.Scanned.{Scanned}
 use Rattle.syntax.specs.declared.segment.Scanned.the-variants.{End, NotPermitted, Unended, Malformed}
-use Rattle.syntax.specs.Segment.{tagNumber, bodyAt, segmentAt, refusalOf}
-use Rattle.parts.specs.declared.Part.{Part}
+use Rattle.syntax.specs.Segment.{bodyAt, segmentAt, refusalOf}
 use Rattle.placing.specs.declared.Place.{Place}
 use Rattle.placing.specs.Skdupd.{skdupdTable}
 use Rattle.placing.specs.Tsdupd.{tsdupdTable}
 use Rattle.placing.specs.Place.{startPlace}
-use Rattle.placing.specs.Tags.{UIZ}
-use Rattle.envelope.specs.Envelope.{uibOf, uihOf, uitOf, uizOf}
+use Rattle.envelope.specs.Envelope.{uitOf, uizOf}
 use Rattle.interchange.specs.declared.state.Phase.{Phase}
 use Rattle.interchange.specs.declared.state.Phase.the-variants.{Opening, Between, Inside, Closed}
 use Rattle.interchange.specs.declared.state.State.{State}
@@ -29,13 +27,13 @@ use Rattle.interchange.specs.declared.state.Row.{Row}
 use Rattle.interchange.specs.declared.state.Step.{Step}
 use Rattle.interchange.specs.declared.state.Step.the-variants.{Next, Refused}
 use Rattle.interchange.specs.State.{openingState, openedState, headedState, onwardState, endedState, closedState}
-use Rattle.interchange.specs.Reader.{Outcome, Verdict, accepted, faulty, isClosed, dialogueOf, referenceOf, turnStep, turnScan, turnAt, afterTurn, readOn, sized, readingOf}
-use Rattle.acceptance.specs.Interchange.{written, isSegment, Message, segmentsIn, Interchange, eachOf, segmentsOf, names, known, kindIn, kindOf, referenceIn, isMessage, goodClosing, holds, IsInterchange}
+use Rattle.interchange.specs.Reader.{accepted, faulty, isClosed, dialogueOf, referenceOf, turnStep, turnScan, turnAt, afterTurn, readOn, sized, readingOf}
+use Rattle.acceptance.specs.Interchange.{written, Message, segmentsIn, Interchange, eachOf, names, known, kindIn, kindOf, referenceIn, isMessage, goodClosing, IsInterchange}
 use Rattle.acceptance.specs.Segments.{Cut, cut-at}
 use Rattle.acceptance.specs.Onward.{stepAt}
 use Rattle.acceptance.specs.Steps.{Opens, opens, Follows, heads, closes, follows, Moves, onward, ends, moves}
-use Rattle.acceptance.specs.Within.{Within, Last, from-last, Front, from-front, Parts, from-parts}
-use Rattle.acceptance.specs.When.{one-more, reference-is, dialogue-is, regroup, Rules, from-rules}
+use Rattle.acceptance.specs.Within.{Within, from-last, from-front, from-parts}
+use Rattle.acceptance.specs.When.{one-more, reference-is, dialogue-is, regroup, from-rules}
 
 faulty≢accepted : (x : Refusal) → faulty x ≡ accepted → ⊥
 faulty≢accepted x q = let z : _≡_ {A = ℕ} 0 1 = cc in omega arith
@@ -115,7 +113,6 @@ module _ (s : List ℕ) (small : length s ≤ 60000) where
     found-between : st .phase ≡ Between → (x : Further f s st at) → Follows s st at (x .body) (x .next) (x .row) → Ending s at (dialogueOf s st) (st .messages)
     unfolding written
     found-between ph x (heads k p t e q) =
-        let g = x .body in
         let c = x .cut in
         let w = found (headedState st at k p) (at + length (x .body) + 1) (omega arith) (omega arith) (after x (headedState st at k p) q) in
         let r = reference-is s st at (x .body) (drop (at + length (x .body) + 1) s) k p (c .text) e in
@@ -213,9 +210,6 @@ module _ (s : List ℕ) (small : length s ≤ 60000) where
   unfolding written
   found-whole some x o =
       let c = x .cut in
-      let p = o .dialogue in
-      let next = openedState openingState 0 (o .dialogue) in
-      let at = 0 + length (x .body) + 1 in
       let q = subst (λ (y : State). Accepts (length s) s y (0 + length (x .body) + 1)) (o .state) (x .rest) in
       let w : Ending s (0 + length (x .body) + 1) (dialogueOf s (openedState openingState 0 (o .dialogue))) 0 =
       find (length s) (openedState openingState 0 (o .dialogue)) (0 + length (x .body) + 1) (omega arith) (omega arith) q in

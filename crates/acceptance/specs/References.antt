@@ -1,21 +1,18 @@
 -- The references of UIB and UIH as the reading remembers them: a part of the text from the segment's start is the same part of the segment.
 -- Assumes nothing.
-use mathlib.Core.Path.{_≡_, refl, sym, ap, _∙_}
-use mathlib.Core.Bool.{Bool, true, false}
-use mathlib.Core.List.{List, [], _∷_, _++_}
-use mathlib.Core.Logic.{_⊎_, inl, inr, ⊎-elim}
-use Prim.Native.Nat.{ℕ, _+_, _-_, _≤_}
+use mathlib.Core.Path.{_≡_, ap, _∙_}
+use mathlib.Core.List.{List, _++_}
+use mathlib.Core.Logic.{inl, inr}
+use Prim.Native.Nat.{ℕ, _-_, _≤_}
 use native.Mathlib.Omega.{arith}
 use lib.ListN.{length, take, drop, length-drop}
 use lib.Seq.{take-append-le, drop-append-le}
-use Rattle.laws.specs.Choice.{pick, both, choose}
+use Rattle.laws.specs.Choice.{both, choose}
 use Rattle.syntax.specs.Pieces.{partOf}
 use Rattle.parts.specs.declared.Part.{Part}
-use Rattle.parts.specs.Places.{absent, bytesOf, partAt}
+use Rattle.parts.specs.Places.{bytesOf}
 use Rattle.parts.specs.Located.{Inside, part-bytes, part-inside}
-use Rattle.envelope.specs.declared.Opened.{Opened}
 use Rattle.envelope.specs.declared.Opened.the-variants.{Dialogue, Wrong}
-use Rattle.envelope.specs.declared.Headed.{Headed}
 use Rattle.envelope.specs.declared.Headed.the-variants.{Message, Missing, Unknown}
 use Rattle.envelope.specs.Envelope.{present, says, valueOf, placeOf, UNOB, version4, SKDUPD, TSDUPD, uibOf, typeOf, versionOf, releaseOf, subFunctionOf, agencyOf, referenceOf, complete, directory, typed, uihOf}
 use Rattle.interchange.specs.Ways.{whole}

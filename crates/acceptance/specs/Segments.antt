@@ -3,7 +3,7 @@
 use mathlib.Core.Path.{_≡_, refl, sym, ap, _∙_}
 use mathlib.Core.Bool.{Bool, true, false, not}
 use mathlib.Core.List.{List, [], _∷_, _++_}
-use Prim.Native.Nat.{ℕ, suc, _+_, _-_, _≤_, _<_}
+use Prim.Native.Nat.{ℕ, suc, _+_, _≤_, _<_}
 use native.Mathlib.Omega.{arith}
 use native.Mathlib.Nat.{not-suc-le-zero}
 use lib.ListN.{length, drop, length-append, length-drop}
@@ -90,7 +90,6 @@ cut-at s at e q =
     let i = end-within s at e q in
     let p = w .place in
     let d = length-drop at s in
-    let g = bodyAt s at in
     let c = first-cuts false (drop at s) (omega arith) in
     let n : at + suc (length (bodyAt s at)) ≡ at + length (bodyAt s at) + 1 = omega arith in (
       p,

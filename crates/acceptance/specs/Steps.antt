@@ -1,21 +1,19 @@
 -- What lets a segment step on: the rules for it, no more and no less, by what may come next.
 -- Assumes nothing.
 use mathlib.Core.Path.{_≡_, refl, sym, ap, _∙_}
-use mathlib.Core.Bool.{Bool, true, false, not}
+use mathlib.Core.Bool.{true, false}
 use mathlib.Core.List.{List}
-use Prim.Native.Nat.{ℕ, _+_, _<_}
-use native.Mathlib.Omega.{arith}
+use Prim.Native.Nat.{ℕ}
 use lib.Dec.{eqb, ltb}
-use Rattle.laws.specs.Choice.{pick, both, choose, both-parts, false≢true}
+use Rattle.laws.specs.Choice.{both, choose, both-parts, false≢true}
 use Rattle.syntax.specs.Segment.{tagNumber}
 use Rattle.parts.specs.declared.Part.{Part}
 use Rattle.placing.specs.declared.Place.{Place}
 use Rattle.placing.specs.declared.Stepped.{Stepped}
 use Rattle.placing.specs.declared.Stepped.the-variants.{Placed, OutOfPlace}
-use Rattle.placing.specs.Table.{Table}
 use Rattle.placing.specs.Skdupd.{skdupdTable}
 use Rattle.placing.specs.Tsdupd.{tsdupdTable}
-use Rattle.placing.specs.Tags.{UIB, UIH, UIT, UIZ}
+use Rattle.placing.specs.Tags.{UIB, UIH, UIZ}
 use Rattle.placing.specs.Rule.{stepOf, groupOf}
 use Rattle.envelope.specs.declared.Opened.{Opened}
 use Rattle.envelope.specs.declared.Opened.the-variants.{Dialogue, Wrong}
@@ -26,11 +24,11 @@ use Rattle.period.specs.declared.Period.{Period}
 use Rattle.period.specs.declared.Period.the-variants as period
 use Rattle.period.specs.Period.{periodOf}
 use Rattle.interchange.specs.declared.state.Phase.{Phase}
-use Rattle.interchange.specs.declared.state.Phase.the-variants.{Opening, Between, Inside, Closed}
+use Rattle.interchange.specs.declared.state.Phase.the-variants.{Opening, Between, Inside}
 use Rattle.interchange.specs.declared.state.State.{State}
 use Rattle.interchange.specs.declared.state.Row.{Row}
 use Rattle.interchange.specs.declared.state.Step.{Step}
-use Rattle.interchange.specs.declared.state.Step.the-variants.{Next, Refused}
+use Rattle.interchange.specs.declared.state.Step.the-variants.{Next}
 use Rattle.interchange.specs.State.{oneMore, openedState, headedState, onwardState, endedState, closedState}
 use Rattle.interchange.specs.Step.{rowOf, opened, opening, headed, closing, between, trailing, judged, placed, settled, inside, stepBy}
 use Rattle.interchange.specs.Reader.{dialogueOf, referenceOf}

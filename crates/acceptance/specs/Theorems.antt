@@ -1,26 +1,24 @@
 -- An interchange is accepted exactly when document 01's rules hold. Interchange.antt says what an interchange is; `readingOf` is what `read` answers by.
 -- Assumes nothing.
-use mathlib.Core.Path.{_≡_, refl, sym, ap, _∙_}
+use mathlib.Core.Path.{_≡_, refl, ap, _∙_}
 use mathlib.Core.Bool.{true}
 use mathlib.Core.List.{List, _++_}
 use mathlib.Core.Logic.{_↔_}
 use Prim.Native.Nat.{ℕ, _+_, _-_, _*_, _≤_, _<_}
 use native.Mathlib.Omega.{arith}
-use lib.Dec.{ltb}
 use lib.ListN.{length, drop}
-use borrow.Author.Tests.{ltb-false, le-ltb}
-use Rattle.laws.specs.Choice.{choose}
+use borrow.Author.Tests.{le-ltb}
 use Rattle.laws.specs.Lists.{over}
 use Rattle.syntax.specs.declared.segment.Refusal.{Refusal}
 use Rattle.interchange.specs.declared.state.State.{State}
 use Rattle.interchange.specs.declared.state.Row.{Row}
-use Rattle.interchange.specs.declared.reader.Answer.{Answer}
 use Rattle.interchange.specs.declared.reader.Answer.the-variants.{Rows, Refused}
-use Rattle.interchange.specs.Reader.{Outcome, Verdict, accepted, faulty, readOn, readingOf, numbers, answerBy, answerOf, rowsBy, rowsAfter}
+use Rattle.interchange.specs.Reader.{Outcome, Verdict, accepted, faulty, readOn, readingOf, numbers, answerBy, answerOf, rowsAfter}
 use Rattle.acceptance.specs.Interchange.{written, Interchange, segmentsOf, holds, IsInterchange, rowsOf}
 use Rattle.acceptance.specs.Onward.{Goes, precede, reading-goes-on}
 use Rattle.acceptance.specs.When.{reads-all}
 use Rattle.acceptance.specs.Only.{accepted-is}
+use Rattle.acceptance.specs.Same.{same-parts}
 
 -- after some whole segments, each good and each stepping on, the reading goes on from the state and the offset reached, their rows before its own
 pub goes-on : (f : ℕ) (s : List ℕ) {st last : State} {at end : ℕ} {gs : List (List ℕ)} {rs : List Row} (rest : List ℕ) → Goes s st at gs rs last end
@@ -38,6 +36,10 @@ only-when s q = accepted-is s q
 
 pub rows-when : (s : List ℕ) (i : IsInterchange s) → readingOf s ≡ record { rows = rowsOf (i .parts); verdict = accepted }
 rows-when s i = reads-all s (i .parts) (i .text) (i .rules) (i .fits)
+
+-- a text is an interchange in one way at most
+pub one-way : (x y : Interchange) → holds x ≡ true → holds y ≡ true → written (segmentsOf x) ≡ written (segmentsOf y) → x ≡ y
+one-way x y h k e = same-parts x y h k e
 
 -- so `read`, which answers by `readingOf`, tells of rows for an interchange alone, and writes them, where the lent buffer has room for them
 refused≢rows : (x : Refusal) (n : ℕ) → Refused x ≡ Rows n → ⊥

@@ -1,7 +1,7 @@
 -- An interchange is read to its end, and its rows are those of its segments.
 -- Assumes nothing.
 use mathlib.Core.Path.{_≡_, refl, sym, ap, subst, _∙_}
-use mathlib.Core.Bool.{Bool, true, false, not}
+use mathlib.Core.Bool.{true}
 use mathlib.Core.List.{List, [], _∷_, _++_, map, append-assoc}
 use Prim.Native.Nat.{ℕ, _+_, _-_, _≤_, _<_}
 use native.Mathlib.Omega.{arith}
@@ -12,7 +12,6 @@ use Rattle.laws.specs.Choice.{both, all, both-parts, false≢true}
 use Rattle.syntax.specs.Segment.{tagNumber}
 use Rattle.parts.specs.declared.Part.{Part}
 use Rattle.parts.specs.Places.{bytesOf}
-use Rattle.placing.specs.declared.Stepped.{Stepped}
 use Rattle.placing.specs.declared.Stepped.the-variants.{Placed}
 use Rattle.placing.specs.Place.{startPlace}
 use Rattle.placing.specs.Rule.{groupOf}
@@ -21,7 +20,7 @@ use Rattle.envelope.specs.declared.Opened.{Opened}
 use Rattle.envelope.specs.declared.Opened.the-variants.{Dialogue, Wrong}
 use Rattle.envelope.specs.declared.Headed.{Headed}
 use Rattle.envelope.specs.declared.Headed.the-variants as headed
-use Rattle.envelope.specs.Envelope.{placeOf, uibOf, uihOf, uitOf, uizOf}
+use Rattle.envelope.specs.Envelope.{uibOf, uihOf, uitOf, uizOf}
 use Rattle.interchange.specs.declared.state.Phase.the-variants.{Between, Inside}
 use Rattle.interchange.specs.declared.state.State.{State}
 use Rattle.interchange.specs.declared.state.Step.the-variants.{Next}
@@ -200,7 +199,6 @@ module _ (s : List ℕ) (x : Interchange) (e : s ≡ written (segmentsOf x)) whe
   opening-reads : length s ≤ 60000 → Rules x → Reads s openingState 0 ((x .opening, 0) ∷ (eachOf groupsIn (x .messages) ++ ((x .closing, 0) ∷ [])))
   unfolding written
   opening-reads small r =
-      let g = x .opening in
       let rest = written (eachOf segmentsIn (x .messages) ++ (x .closing ∷ [])) in
       let p = named-is (uibOf (x .opening)) (r .named) in
       let n : 0 + length (x .messages) ≡ length (x .messages) = omega arith in

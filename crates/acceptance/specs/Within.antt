@@ -1,13 +1,13 @@
 -- The segments of a message after its UIH, one taken from the front or put there.
 -- Assumes nothing.
 use mathlib.Core.Path.{_≡_, refl, sym, ap, _∙_}
-use mathlib.Core.Bool.{Bool, true, false, not}
+use mathlib.Core.Bool.{true, false, not}
 use mathlib.Core.List.{List, [], _∷_, _++_}
 use Prim.Native.Nat.{ℕ, _+_}
 use native.Mathlib.Omega.{arith}
 use lib.Dec.{eqb}
 use lib.ListN.{length}
-use borrow.Author.Tests.{not-true, eq-eqb}
+use borrow.Author.Tests.{not-true}
 use Rattle.laws.specs.Choice.{both, all, both-parts, false≢true}
 use Rattle.syntax.specs.Segment.{tagNumber}
 use Rattle.placing.specs.declared.Place.{Place}
@@ -16,7 +16,6 @@ use Rattle.placing.specs.declared.Stepped.the-variants.{Placed, OutOfPlace}
 use Rattle.placing.specs.Tags.{UIH}
 use Rattle.placing.specs.Place.{startPlace}
 use Rattle.placing.specs.Rule.{stepOf, isPlaced}
-use Rattle.envelope.specs.declared.Headed.{Headed}
 use Rattle.envelope.specs.Envelope.{uihOf, uitOf}
 use Rattle.acceptance.specs.Interchange.{isSegment, Message, segmentsIn, known, kindOf, tableFor, referenceIn, placesFrom, hasPlace, goodContents, isTrailer, goesBefore, places, goodHeading, goodPlaces, goodPeriods, goodTrailer, isMessage}
 
