@@ -14,12 +14,17 @@ use Rattle.laws.specs.Lists.{drop-past}
 use Rattle.syntax.specs.declared.segment.Refusal.{Refusal}
 use Rattle.syntax.specs.declared.segment.Scanned.{Scanned}
 use Rattle.syntax.specs.declared.segment.Scanned.the-variants.{End, NotPermitted, Unended, Malformed}
-use Rattle.syntax.specs.Segment.{bodyAt, segmentAt, refusalOf}
+use Rattle.syntax.specs.Segment.{tagNumber, bodyAt, segmentAt, refusalOf}
 use Rattle.placing.specs.declared.Place.{Place}
 use Rattle.placing.specs.Skdupd.{skdupdTable}
 use Rattle.placing.specs.Tsdupd.{tsdupdTable}
+use Rattle.placing.specs.declared.Stepped.the-variants.{Placed}
 use Rattle.placing.specs.Place.{startPlace}
-use Rattle.envelope.specs.Envelope.{uitOf, uizOf}
+use Rattle.placing.specs.Rule.{stepOf}
+use Rattle.placing.specs.Tags.{UIH, UIZ}
+use Rattle.parts.specs.declared.Part.{Part}
+use Rattle.envelope.specs.declared.Headed.the-variants as headed
+use Rattle.envelope.specs.Envelope.{uihOf, uitOf, uizOf}
 use Rattle.interchange.specs.declared.state.Phase.{Phase}
 use Rattle.interchange.specs.declared.state.Phase.the-variants.{Opening, Between, Inside, Closed}
 use Rattle.interchange.specs.declared.state.State.{State}
@@ -28,7 +33,7 @@ use Rattle.interchange.specs.declared.state.Step.{Step}
 use Rattle.interchange.specs.declared.state.Step.the-variants.{Next, Refused}
 use Rattle.interchange.specs.State.{openingState, openedState, headedState, onwardState, endedState, closedState}
 use Rattle.interchange.specs.Reader.{accepted, faulty, isClosed, dialogueOf, referenceOf, turnStep, turnScan, turnAt, afterTurn, readOn, sized, readingOf}
-use Rattle.acceptance.specs.Interchange.{written, Message, segmentsIn, Interchange, eachOf, names, known, kindIn, kindOf, referenceIn, isMessage, goodClosing, IsInterchange}
+use Rattle.acceptance.specs.Interchange.{written, Message, segmentsIn, Interchange, eachOf, names, known, kindIn, tableFor, referenceIn, goodContents, isTrailer, isMessage, goodClosing, IsInterchange}
 use Rattle.acceptance.specs.Segments.{Cut, cut-at}
 use Rattle.acceptance.specs.Onward.{stepAt}
 use Rattle.acceptance.specs.Steps.{Opens, opens, Follows, heads, closes, follows, Moves, onward, ends, moves}
@@ -95,6 +100,18 @@ pub record Going (s : List ℕ) (at : ℕ) (d : List ℕ) (n k : ℕ) (p : Place
   pub ending : Ending s then d (n + 1)
   pub text : drop at s ≡ written (within ++ (trailer ∷ (eachOf segmentsIn (ending .messages) ++ (ending .closing ∷ []))))
 
+-- a segment and its terminator before the others; a message before the others
+text-front : {a b : List ℕ} (g : List ℕ) (gs : List (List ℕ)) → a ≡ g ++ (39 ∷ b) → b ≡ written gs → a ≡ written (g ∷ gs)
+unfolding written
+text-front g gs e q = e ∙ ap (λ (x : List ℕ). g ++ (39 ∷ x)) q
+
+message-text : {a b : List ℕ} (g : List ℕ) (gs : List (List ℕ)) (t : List ℕ) (ms : List Message) (c : List ℕ) → a ≡ g ++ (39 ∷ b)
+    → b ≡ written (gs ++ (t ∷ (eachOf segmentsIn ms ++ (c ∷ []))))
+    → a ≡ written (eachOf segmentsIn (record { heading = g; within = gs; trailer = t } ∷ ms) ++ (c ∷ []))
+message-text g gs t ms c e q =
+    text-front g (gs ++ (t ∷ (eachOf segmentsIn ms ++ (c ∷ [])))) e q
+    ∙ ap (λ (x : List (List ℕ)). written (g ∷ x)) (sym (regroup gs t (eachOf segmentsIn ms) (c ∷ [])))
+
 abbrev Stands : Phase → List ℕ → State → ℕ → Type 0
 Stands Opening s st at = Unit {0}
 Stands Between s st at = Ending s at (dialogueOf s st) (st .messages)
@@ -110,15 +127,14 @@ module _ (s : List ℕ) (small : length s ≤ 60000) where
     after : (x : Further f s st at) (next : State) → x .next ≡ next → Accepts f s next (at + length (x .body) + 1)
     after x next e = subst (λ (y : State). Accepts f s y (at + length (x .body) + 1)) e (x .rest)
 
-    found-between : st .phase ≡ Between → (x : Further f s st at) → Follows s st at (x .body) (x .next) (x .row) → Ending s at (dialogueOf s st) (st .messages)
-    unfolding written
-    found-between ph x (heads k p t e q) =
+    -- a UIH before what follows it
+    heads-ending : (x : Further f s st at) (k : ℕ) (p : Part) → eqb (tagNumber (x .body)) UIH ≡ true → uihOf (x .body) ≡ headed.Message k p
+        → Going s (at + length (x .body) + 1) (dialogueOf s st) (st .messages) k startPlace 1 (referenceOf s (headedState st at k p)) → Ending s at (dialogueOf s st) (st .messages)
+    heads-ending x k p t e w =
         let c = x .cut in
-        let w = found (headedState st at k p) (at + length (x .body) + 1) (omega arith) (omega arith) (after x (headedState st at k p) q) in
         let r = reference-is s st at (x .body) (drop (at + length (x .body) + 1) s) k p (c .text) e in
         let m : Message = record { heading = x .body; within = w .within; trailer = w .trailer } in
-        let kind : k ≡ kindOf m = sym (ap kindIn e) in
-        let n : st .messages + 1 + length (w .ending .messages) ≡ st .messages + length (m ∷ w .ending .messages) = omega arith in
+        let n : st .messages + length (m ∷ w .ending .messages) ≡ st .messages + 1 + length (w .ending .messages) = omega arith in
         let i = w .ending .some in
         let good : isMessage m ≡ true =
         from-parts m
@@ -126,78 +142,90 @@ module _ (s : List ℕ) (small : length s ≤ 60000) where
           segment = c .segment;
           tag = t;
           named = ap known e;
-          rest = subst (λ (y : ℕ). Within y startPlace 1 (referenceIn (x .body)) (w .within) (w .trailer)) kind
+          rest = subst (λ (y : ℕ). Within y startPlace 1 (referenceIn (x .body)) (w .within) (w .trailer)) (sym (ap kindIn e))
               (subst (λ (y : List ℕ). Within k startPlace 1 y (w .within) (w .trailer)) r (w .held));
         }) in
         record {
           messages = m ∷ w .ending .messages;
           closing = w .ending .closing;
-          text = c .text
-              ∙ ap (λ (y : List ℕ). x .body ++ (39 ∷ y)) (w .text)
-              ∙ ap (λ (y : List (List ℕ)). x .body ++ (39 ∷ written y)) (sym (regroup (w .within) (w .trailer) (eachOf segmentsIn (w .ending .messages)) (w .ending .closing ∷ [])));
+          text = message-text (x .body) (w .within) (w .trailer) (w .ending .messages) (w .ending .closing) (c .text) (w .text);
           good = rw good (w .ending .good);
           some = omega arith;
-          closes = ap (goodClosing (w .ending .closing) (dialogueOf s st)) (sym n) ∙ w .ending .closes;
+          closes = ap (goodClosing (w .ending .closing) (dialogueOf s st)) n ∙ w .ending .closes;
         }
-    found-between ph x (closes t z u q) =
+
+    -- the UIZ with nothing after
+    closes-ending : (x : Further f s st at) → eqb (tagNumber (x .body)) UIZ ≡ true → ltb 0 (st .messages) ≡ true → uizOf (x .body) (dialogueOf s st) (st .messages) ≡ true
+        → length s ≤ at + length (x .body) + 1 → Ending s at (dialogueOf s st) (st .messages)
+    unfolding written
+    closes-ending x t z u w =
         let c = x .cut in
-        let w = found (closedState st) (at + length (x .body) + 1) (omega arith) (omega arith) (after x (closedState st) q) in
         let n : st .messages + 0 ≡ st .messages = omega arith in
         let i = ltb-true 0 (st .messages) z in
         record {
           messages = [];
           closing = x .body;
-          text = c .text ∙ ap (λ (y : List ℕ). x .body ++ (39 ∷ y)) (drop-past s (at + length (x .body) + 1) w);
+          text = text-front (x .body) [] (c .text) (drop-past s (at + length (x .body) + 1) w);
           good = refl;
           some = omega arith;
           closes = rw (c .segment, t) (ap (uizOf (x .body) (dialogueOf s st)) n ∙ u);
         }
 
-    found-inside : st .phase ≡ Inside → (x : Further f s st at) → Moves s st at (x .body) (x .next) (x .row)
-        → Going s at (dialogueOf s st) (st .messages) (st .kind) (st .place) (st .segments) (referenceOf s st)
-    unfolding written
-    found-inside ph x (onward p e t u q) =
-        let c = x .cut in
-        let i = c .fits in
-        let o = one-more (st .segments) (omega arith) in
-        let w = found (onwardState st p) (at + length (x .body) + 1) (omega arith) (subst (λ (y : ℕ). y ≤ at + length (x .body) + 1) (sym o) (omega arith)) (after x (onwardState st p) q) in
+    found-between : (x : Further f s st at) → Follows s st at (x .body) (x .next) (x .row) → Ending s at (dialogueOf s st) (st .messages)
+    found-between x (heads k p t e q) =
+        heads-ending x k p t e (found (headedState st at k p) (at + length (x .body) + 1) (omega arith) (omega arith) (after x (headedState st at k p) q))
+    found-between x (closes t z u q) = closes-ending x t z u (found (closedState st) (at + length (x .body) + 1) (omega arith) (omega arith) (after x (closedState st) q))
+
+    -- a segment of the message before the others
+    abbrev GoingAt : ℕ → Place → ℕ → Type 0
+    GoingAt then p c = Going s then (dialogueOf s st) (st .messages) (st .kind) p c (referenceOf s st)
+
+    onward-going : (x : Further f s st at) (p : Place) → stepOf (tableFor (st .kind)) (st .place) (tagNumber (x .body)) ≡ Placed p → isTrailer (x .body) ≡ false
+        → goodContents (st .kind) (x .body, Placed p) ≡ true → GoingAt (at + length (x .body) + 1) p (st .segments + 1) → GoingAt at (st .place) (st .segments)
+    onward-going x p e t u w =
         record {
           within = x .body ∷ w .within;
           trailer = w .trailer;
           held = from-front (st .kind) (st .place) (st .segments) (referenceOf s st) (w .trailer) (x .body) (w .within)
-              (record {
-                segment = c .segment;
-                place = p;
-                fits = e;
-                inner = t;
-                contents = u;
-                rest = subst (λ (y : ℕ). Within (st .kind) p y (referenceOf s st) (w .within) (w .trailer)) o (w .held);
-              });
+              (record { segment = x .cut .segment; place = p; fits = e; inner = t; contents = u; rest = w .held });
           then = w .then;
           ending = w .ending;
-          text = c .text ∙ ap (λ (y : List ℕ). x .body ++ (39 ∷ y)) (w .text);
+          text = text-front (x .body) (w .within ++ (w .trailer ∷ (eachOf segmentsIn (w .ending .messages) ++ (w .ending .closing ∷ [])))) (x .cut .text) (w .text);
         }
-    found-inside ph x (ends p e t u q) =
-        let c = x .cut in
-        let i = c .fits in
-        let o = one-more (st .segments) (omega arith) in
-        let m = one-more (st .messages) (omega arith) in
-        let w = found (endedState st p) (at + length (x .body) + 1) (subst (λ (y : ℕ). y ≤ at + length (x .body) + 1) (sym m) (omega arith)) (subst (λ (y : ℕ). y ≤ at + length (x .body) + 1) (sym o) (omega arith)) (after x (endedState st p) q) in
-        let v : Ending s (at + length (x .body) + 1) (dialogueOf s st) (st .messages + 1) = subst (λ (y : ℕ). Ending s (at + length (x .body) + 1) (dialogueOf s st) y) m w in
+
+    -- the UIT before what follows the message
+    ends-going : (x : Further f s st at) (p : Place) → stepOf (tableFor (st .kind)) (st .place) (tagNumber (x .body)) ≡ Placed p → isTrailer (x .body) ≡ true
+        → uitOf (x .body) (referenceOf s st) (st .segments + 1) ≡ true → Ending s (at + length (x .body) + 1) (dialogueOf s st) (st .messages + 1) → GoingAt at (st .place) (st .segments)
+    ends-going x p e t u w =
         record {
           within = [];
           trailer = x .body;
           held = from-last (st .kind) (st .place) (st .segments) (referenceOf s st) (x .body)
-              (record { segment = c .segment; place = p; fits = e; trailer = t; counted = ap (uitOf (x .body) (referenceOf s st)) (sym o) ∙ u });
+              (record { segment = x .cut .segment; place = p; fits = e; trailer = t; counted = u });
           then = at + length (x .body) + 1;
-          ending = v;
-          text = c .text ∙ ap (λ (y : List ℕ). x .body ++ (39 ∷ y)) (v .text);
+          ending = w;
+          text = text-front (x .body) (eachOf segmentsIn (w .messages) ++ (w .closing ∷ [])) (x .cut .text) (w .text);
         }
+
+    found-inside : (x : Further f s st at) → Moves s st at (x .body) (x .next) (x .row) → GoingAt at (st .place) (st .segments)
+    found-inside x (onward p e t u q) =
+        let i = x .cut .fits in
+        let o = one-more (st .segments) (omega arith) in
+        onward-going x p e t u
+        (subst (GoingAt (at + length (x .body) + 1) p) o
+        (found (onwardState st p) (at + length (x .body) + 1) (omega arith) (subst (λ (y : ℕ). y ≤ at + length (x .body) + 1) (sym o) (omega arith)) (after x (onwardState st p) q)))
+    found-inside x (ends p e t u q) =
+        let i = x .cut .fits in
+        let o = one-more (st .segments) (omega arith) in
+        let m = one-more (st .messages) (omega arith) in
+        ends-going x p e t (ap (uitOf (x .body) (referenceOf s st)) (sym o) ∙ u)
+        (subst (λ (y : ℕ). Ending s (at + length (x .body) + 1) (dialogueOf s st) y) m
+        (found (endedState st p) (at + length (x .body) + 1) (subst (λ (y : ℕ). y ≤ at + length (x .body) + 1) (sym m) (omega arith)) (subst (λ (y : ℕ). y ≤ at + length (x .body) + 1) (sym o) (omega arith)) (after x (endedState st p) q)))
 
     found-by : (ph : Phase) → st .phase ≡ ph → Accepts (suc f) s st at → Stands ph s st at
     found-by Opening e q = tt
-    found-by Between e q = let x = further f s st at (ap isClosed e) q in found-between e x (follows s st at (x .body) (x .next) (x .row) e (x .step))
-    found-by Inside e q = let x = further f s st at (ap isClosed e) q in found-inside e x (moves s st at (x .body) (x .next) (x .row) e (x .step))
+    found-by Between e q = let x = further f s st at (ap isClosed e) q in found-between x (follows s st at (x .body) (x .next) (x .row) e (x .step))
+    found-by Inside e q = let x = further f s st at (ap isClosed e) q in found-inside x (moves s st at (x .body) (x .next) (x .row) e (x .step))
     found-by Closed e q = nothing f s st at (ap isClosed e) q
 
   find : (f : ℕ) → Found f

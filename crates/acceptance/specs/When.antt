@@ -34,7 +34,7 @@ use Rattle.acceptance.specs.Segments.{segment-fits, after-segment}
 use Rattle.acceptance.specs.References.{reference-read, dialogue-place, message-place}
 use Rattle.acceptance.specs.Onward.{stepAt, read-one}
 use Rattle.acceptance.specs.Steps.{opening-goes, heading-goes, closing-goes, within-goes, trailer-goes}
-use Rattle.acceptance.specs.Within.{Within, to-last, to-front, to-parts}
+use Rattle.acceptance.specs.Within.{Within, to-last, to-front, Parts, to-parts}
 
 -- read to the end with a row for each of some segments with their groups
 abbrev pub told : ℕ → List (List ℕ × ℕ) → Outcome
@@ -118,55 +118,71 @@ module _ (s : List ℕ) (small : length s ≤ 60000) where
         (omega arith) (subst (λ (c : ℕ). c ≤ at + length g + 1) (sym o) (omega arith))
         (after-segment s at g (written (gs ++ (last ∷ rest))) e) follows))
 
+  -- one message before what follows it
+  module _ (d : List ℕ) (rest : List (List ℕ)) (l : List (List ℕ × ℕ)) (m : Message) (n : ℕ) (st : State) (at : ℕ) (a : After s st at d n) where
+    abbrev after : List ℕ
+    after = written (m .within ++ (m .trailer ∷ rest))
+
+    abbrev groupsBy : ℕ → List (List ℕ × ℕ)
+    groupsBy kind = map (withGroup (tableFor kind)) (placesFrom (tableFor kind) (Placed startPlace) (m .within ++ (m .trailer ∷ [])))
+
+    heading-reads : (k : ℕ) (p : Part) → uihOf (m .heading) ≡ headed.Message k p → Parts m → drop at s ≡ m .heading ++ (39 ∷ after) → Follows d (n + 1) rest l
+        → Reads s (headedState st at k p) (at + length (m .heading) + 1) (groupsBy k ++ l)
+    heading-reads k p q w e follows =
+        let i = segment-fits s at (m .heading) after e in
+        let j = a .few in
+        let o = a .count in
+        let r = sym (reference-is s st at (m .heading) after k p e q) in
+        within-reads rest l (m .trailer) (m .within) (headedState st at k p) (at + length (m .heading) + 1) refl
+        (subst (λ (y : List ℕ). Within k startPlace 1 y (m .within) (m .trailer)) r
+        (subst (λ (y : ℕ). Within y startPlace 1 (referenceIn (m .heading)) (m .within) (m .trailer)) (ap kindIn q) (w .rest)))
+        (omega arith) (omega arith) (after-segment s at (m .heading) after e)
+        (λ st₁ at₁ t y.
+        follows st₁ at₁
+        (record { phase-is = t .phase-is; dialogue = t .dialogue ∙ a .dialogue; count = t .count ∙ ap (λ (x : ℕ). x + 1) o; few = subst (λ (x : ℕ). x + 1 ≤ at₁) o (t .few) })
+        y)
+
+    message-reads : isMessage m ≡ true → drop at s ≡ m .heading ++ (39 ∷ after) → Follows d (n + 1) rest l → Reads s st at ((m .heading, 0) ∷ (groupsBy (kindOf m) ++ l))
+    message-reads h e follows =
+        let w = to-parts m h in
+        let x = known-is (uihOf (m .heading)) (w .named) in
+        reads-one s st at (m .heading) after e (w .segment) (headedState st at (x .0) (x .1)) 0
+        (heading-goes s st at (m .heading) (a .phase-is) (w .tag) (x .0) (x .1) (x .2))
+        (groupsBy (kindOf m) ++ l)
+        (subst (λ (y : ℕ). Reads s (headedState st at (x .0) (x .1)) (at + length (m .heading) + 1) (groupsBy y ++ l)) (sym (ap kindIn (x .2)))
+        (heading-reads (x .0) (x .1) (x .2) w e follows))
+
   module _ (d closing : List ℕ) where
-    messages-read : (ms : List Message) (n : ℕ) (st : State) (at : ℕ) → After s st at d n → all isMessage ms ≡ true → 0 < n + length ms
-        → goodClosing closing d (n + length ms) ≡ true → drop at s ≡ written (eachOf segmentsIn ms ++ (closing ∷ []))
-        → Reads s st at (eachOf groupsIn ms ++ ((closing, 0) ∷ []))
-    unfolding written rowsFrom
-    messages-read [] n st at a h z c e =
-        let u = both-parts (isSegment closing) (both (eqb (tagNumber closing) UIZ) (uizOf closing d (n + 0))) c in
-        let v = both-parts (eqb (tagNumber closing) UIZ) (uizOf closing d (n + 0)) (u .1) in
+    closing-reads : (n : ℕ) (st : State) (at : ℕ) → After s st at d n → 0 < n → goodClosing closing d n ≡ true → drop at s ≡ closing ++ (39 ∷ [])
+        → Reads s st at ((closing, 0) ∷ [])
+    unfolding rowsFrom
+    closing-reads n st at a z c e =
+        let u = both-parts (isSegment closing) (both (eqb (tagNumber closing) UIZ) (uizOf closing d n)) c in
+        let v = both-parts (eqb (tagNumber closing) UIZ) (uizOf closing d n) (u .1) in
         let t = eqb-true (tagNumber closing) UIZ (v .0) in
         let m = a .count in
-        let k : st .messages ≡ n + 0 = omega arith in
-        let y : uizOf closing (dialogueOf s st) (st .messages) ≡ true =
-        ap (uizOf closing (dialogueOf s st)) k ∙ ap (λ (x : List ℕ). uizOf closing x (n + 0)) (a .dialogue) ∙ v .1 in
+        let y = ap (uizOf closing (dialogueOf s st)) m ∙ ap (λ (x : List ℕ). uizOf closing x n) (a .dialogue) ∙ v .1 in
         let i = segment-fits s at closing [] e in
         reads-one s st at closing [] e (u .0) (closedState st) 0
         (closing-goes s st at closing (a .phase-is) (ap (λ (x : ℕ). eqb x UIH) t) (v .0) (lt-ltb 0 (st .messages) (omega arith)) y) []
         (λ f l. read-accepted f s (closedState st) (at + length closing + 1) (omega arith) (omega arith) l refl)
+
+    messages-read : (ms : List Message) (n : ℕ) (st : State) (at : ℕ) → After s st at d n → all isMessage ms ≡ true → 0 < n + length ms
+        → goodClosing closing d (n + length ms) ≡ true → drop at s ≡ written (eachOf segmentsIn ms ++ (closing ∷ []))
+        → Reads s st at (eachOf groupsIn ms ++ ((closing, 0) ∷ []))
+    unfolding written
+    messages-read [] n st at a h z c e =
+        let k : n + 0 ≡ n = omega arith in
+        closing-reads n st at a (omega arith) (ap (goodClosing closing d) (sym k) ∙ c) e
     messages-read (m ∷ ms) n st at a h z c e =
         let u = both-parts (isMessage m) (all isMessage ms) h in
-        let w = to-parts m (u .0) in
-        let x = known-is (uihOf (m .heading)) (w .named) in
-        let k = x .0 in
-        let p = x .1 in
         let rest = eachOf segmentsIn ms ++ (closing ∷ []) in
-        let after = written (m .within ++ (m .trailer ∷ (eachOf segmentsIn ms ++ (closing ∷ [])))) in
-        let e₁ : drop at s ≡ m .heading ++ (39 ∷ after) =
-        e ∙ ap (λ (y : List (List ℕ)). m .heading ++ (39 ∷ written y)) (regroup (m .within) (m .trailer) (eachOf segmentsIn ms) (closing ∷ [])) in
-        let kind : k ≡ kindOf m = sym (ap kindIn (x .2)) in
-        let i = segment-fits s at (m .heading) after e₁ in
-        let j = a .few in
-        let o = a .count in
         let l = eachOf groupsIn ms ++ ((closing, 0) ∷ []) in
-        let r = sym (reference-is s st at (m .heading) after k p e₁ (x .2)) in
-        let v : 0 < n + 1 + length ms = omega arith in
-        let b : n + length (m ∷ ms) ≡ n + 1 + length ms = omega arith in
-        let next = headedState st at k p in
-        let read : Reads s next (at + length (m .heading) + 1) (map (withGroup (tableFor k)) (placesFrom (tableFor k) (Placed startPlace) (m .within ++ (m .trailer ∷ []))) ++ l) =
-        within-reads rest l (m .trailer) (m .within) next (at + length (m .heading) + 1) refl
-        (subst (λ (y : List ℕ). Within k startPlace 1 y (m .within) (m .trailer)) r
-        (subst (λ (y : ℕ). Within y startPlace 1 (referenceIn (m .heading)) (m .within) (m .trailer)) (sym kind) (w .rest)))
-        (omega arith) (omega arith) (after-segment s at (m .heading) after e₁)
-        (λ st₁ at₁ t q.
-        messages-read ms (n + 1) st₁ at₁
-        (record { phase-is = t .phase-is; dialogue = t .dialogue ∙ a .dialogue; count = t .count ∙ ap (λ (y : ℕ). y + 1) o; few = subst (λ (y : ℕ). y + 1 ≤ at₁) o (t .few) })
-        (u .1) v (ap (goodClosing closing d) (sym b) ∙ c) q) in
-        subst (Reads s st at) (ap (λ (y : List (List ℕ × ℕ)). (m .heading, 0) ∷ y) (sym (append-assoc (map (withGroup (tableFor (kindOf m))) (placesFrom (tableFor (kindOf m)) (Placed startPlace) (m .within ++ (m .trailer ∷ [])))) (eachOf groupsIn ms) ((closing, 0) ∷ []))))
-        (reads-one s st at (m .heading) after e₁ (w .segment) next 0 (heading-goes s st at (m .heading) (a .phase-is) (w .tag) k p (x .2))
-        (map (withGroup (tableFor (kindOf m))) (placesFrom (tableFor (kindOf m)) (Placed startPlace) (m .within ++ (m .trailer ∷ []))) ++ l)
-        (subst (λ (y : ℕ). Reads s next (at + length (m .heading) + 1) (map (withGroup (tableFor y)) (placesFrom (tableFor y) (Placed startPlace) (m .within ++ (m .trailer ∷ []))) ++ l)) kind read))
+        let b : n + 1 + length ms ≡ n + length (m ∷ ms) = omega arith in
+        rw (append-assoc (groupsIn m) (eachOf groupsIn ms) ((closing, 0) ∷ []))
+        (message-reads d rest l m n st at a (u .0)
+        (e ∙ ap (λ (y : List (List ℕ)). m .heading ++ (39 ∷ written y)) (regroup (m .within) (m .trailer) (eachOf segmentsIn ms) (closing ∷ [])))
+        (λ st₁ at₁ t q. messages-read ms (n + 1) st₁ at₁ t (u .1) (omega arith) (ap (goodClosing closing d) b ∙ c) q))
 
 -- the rules one by one
 pub record Rules (x : Interchange) : Type 0 where
