@@ -3,6 +3,7 @@
 //   bench time             yardstick's time over ours for realistic interchanges: 1.0 or more means at least as fast
 //   bench costs            what a byte of extreme interchanges costs, over what a byte of a realistic one costs
 //   bench where            what our time goes to, by interchanges that differ in one thing
+//   bench once WHO KIND N  one reading by `ours` or `yardstick` of `skdupd` or `tsdupd` of N bytes, for counting instructions
 #include "yardstick.h"
 
 int printf(const char *format, ...);
@@ -189,8 +190,32 @@ static void put_weekdays(struct text *t) {
             put_character(t, '1' + d);
 }
 
+static const char *const odd_periods[] = {
+    "1989-12-31/1990-01-01", "1990-01-01/1990-01-01", "2099-12-31/2100-01-01", "2099-12-31/2099-12-31", "2099-12-01/2099-12-32", "2100-01-01/2100-01-02",
+    "1989-01-01/1989-01-02", "2000-02-29/2000-03-01", "2001-02-29/2001-03-01", "2000-02-28/2000-02-30", "2096-02-29/2096-02-29", "2000-01-01/2001-05-26",
+    "2000-01-01/2001-05-27", "2000-04-30/2000-04-31", "2000-06-30/2000-06-31", "2000-09-30/2000-09-31", "2000-11-30/2000-11-31", "2000-01-31/2000-02-01",
+    "2000-03-31/2000-04-01", "2000-05-31/2000-06-01", "2000-07-31/2000-08-31", "2000-10-31/2000-12-31", "2000-08-02/2000-08-01", "2000-12-31/2000-01-01",
+    "2000-01-01 2000-01-02", "2000-01-01/2000-01-02 ", "2000-01-01/2000-13-01", "2000-00-01/2000-01-01", "2000-01-00/2000-01-01", "1992-02-29/1992-03-01",
+    "1993-02-28/1993-02-29", "2000-01-01/2000-1-001", "2000-01:01/2000-01-02", "2000-01-01", "2000-01-01/", "/2000-01-01", "2000-01-0a/2000-01-31"};
+
+// A period's dates that are odd, with weekdays or with nothing.
+static void put_odd_period(struct text *t) {
+    puts_to(t, "+");
+    put_word(t, "273");
+    puts_to(t, ":");
+    put_word(t, odd_periods[below(sizeof odd_periods / sizeof odd_periods[0])]);
+    if (one_in(3)) {
+        put(t, '+');
+        put_word(t, one_in(2) ? "67" : "1234567");
+    }
+}
+
 // A POP: a period in each form.
 static void put_period(struct text *t) {
+    if (fault_rate && fault_rate < 30 && one_in(3)) {
+        put_odd_period(t);
+        return;
+    }
     static const char *const qualifiers[] = {"274", "27", "2733", "", "73", " 273", "372"};
     unsigned days = one_in(4) ? 1 : one_in(4) ? 512 : one_in(8) ? 13 : 1 + below(512);
     unsigned first = one_in(10) ? 0 : one_in(10) ? 40177 - days : below(40177 - 511), form = below(4), told = days, last;
@@ -257,9 +282,15 @@ static void tag_text(uint32_t tag, char *to) {
     to[3] = 0;
 }
 
+// A place whose greatest number is to be reached, or passed by one; past the table for none. The groups around it are entered.
+enum { NO_TARGET = 999 };
+static size_t target = NO_TARGET;
+
 static void put_segment(const char *tag, int read, unsigned density) {
     struct segment *g = begin(tag, PLAIN);
-    if (!strcmp(tag, "POP") && (read || one_in(2)))
+    if (read && target != NO_TARGET && !strcmp(tag, "POP"))
+        puts_to(&pool, "+273:2000-01-01/2000-01-01");
+    else if (!strcmp(tag, "POP") && (read || one_in(2)))
         put_period(&pool);
     else if (density)
         put_elements(&pool, one_in(10) ? 12 : 4);
@@ -281,8 +312,14 @@ static void put_places(const struct place *t, size_t from, size_t to, int skdupd
             times = t[p].most + below(2);
             thin = 1;
         }
+        if (p == target) {
+            times = t[p].most + below(2);
+            thin = 1;
+        } else if (p < target && target <= p + t[p].held && !times) {
+            times = 1;
+        }
         tag_text(t[p].tag, tag);
-        for (; times && pool.n < 25000; times--) {
+        for (; times && pool.n < (target != NO_TARGET ? 55000 : 25000); times--) {
             if (!t[p].held) {
                 put_segment(tag, skdupd && t[p].group == 4, thin ? 0 : density);
                 continue;
@@ -292,6 +329,9 @@ static void put_places(const struct place *t, size_t from, size_t to, int skdupd
         }
     }
 }
+
+// What an interchange looks into: anything, the greatest number of one place, or the contents of a period.
+enum { ANYTHING, AT_LIMIT, PERIODS };
 
 static int faulty(void) { return fault_rate && one_in(2 * fault_rate); }
 
@@ -330,18 +370,25 @@ static void put_header(int skdupd, unsigned density) {
     end(g);
 }
 
-static void put_message(int skdupd, unsigned density) {
+static void put_message(int skdupd, unsigned density, int at_limit) {
     const struct place *t = skdupd ? yardstick_skdupd : yardstick_tsdupd;
     size_t places = skdupd ? yardstick_skdupd_places : yardstick_tsdupd_places;
     put_header(skdupd, density);
+    // a group of up to 99,999 is more than an interchange holds
+    target = at_limit ? 1 + below((unsigned)places - 2) : NO_TARGET;
+    if (at_limit && t[target].most > 999)
+        target++;
     put_places(t, 1, places - 1, skdupd, density);
+    target = NO_TARGET;
     end(begin("UIT", TRAILER));
 }
 
-static void put_interchange(void) {
+static void put_interchange(int focus) {
     pool.n = segment_count = dialogue.n = 0;
     release_rate = one_in(3) ? 2 + below(30) : 0;
-    fault_rate = one_in(3) ? 10 + below(200) : 0;
+    fault_rate = one_in(3) ? 30 + below(200) : 0;
+    if (focus)
+        fault_rate = 0;
     struct segment *g = begin("UIB", PLAIN);
     puts_to(&pool, "+");
     put_word(&pool, faulty() ? "UNOA" : "UNOB");
@@ -363,8 +410,23 @@ static void put_interchange(void) {
     if (one_in(4))
         put_elements(&pool, 5);
     end(g);
-    for (unsigned n = one_in(40) ? 12 : one_in(3) ? 1 + below(4) : 1; n; n--)
-        put_message(one_in(2), below(8));
+    if (focus == AT_LIMIT) {
+        put_message(one_in(2), 0, 1);
+    } else if (focus == PERIODS) {
+        put_header(1, 0);
+        put_segment("MSD", 0, 0);
+        put_segment("ORG", 0, 0);
+        put_segment("HDR", 0, 0);
+        put_segment("PRD", 0, 0);
+        fault_rate = 8 + below(22);
+        for (unsigned n = 1 + below(2); n; n--)
+            put_segment("POP", 1, 0);
+        fault_rate = 0;
+        end(begin("UIT", TRAILER));
+    } else {
+        for (unsigned n = one_in(40) ? 12 : one_in(3) ? 1 + below(4) : 1; n; n--)
+            put_message(one_in(2), below(8), 0);
+    }
     end(begin("UIZ", CLOSER));
 }
 
@@ -678,7 +740,12 @@ static void put_case(void) {
         joined.n = 0;
         return;
     }
-    put_interchange();
+    if (one_in(6)) {
+        put_interchange(one_in(3) ? AT_LIMIT : PERIODS);
+        join();
+        return;
+    }
+    put_interchange(ANYTHING);
     switch (below(12)) {
     case 0:
     case 1:
@@ -1099,10 +1166,20 @@ static void where(unsigned rounds) {
     costs(rounds);
 }
 
+static int once(const char *who, const char *kind, unsigned long longest) {
+    put_realistic(&sample, !strcmp(kind, "skdupd"), longest);
+    reader *read = !strcmp(who, "ours") ? drumcallisto_read : yardstick_read;
+    struct reply r = read(sample.at, sample.n, ours, MOST_NUMBERS);
+    printf("%s %s: %lu bytes, %lu segments, number %u\n", who, kind, (unsigned long)sample.n, (unsigned long)r.rows, r.number);
+    return r.number;
+}
+
 int main(int n, char **words) {
     const char *mode = n > 1 ? words[1] : "";
     if (!strcmp(mode, "compare"))
         return compare(n > 2 ? strtoul(words[2], 0, 10) : 100000, n > 3 ? strtoul(words[3], 0, 10) : 1);
+    if (!strcmp(mode, "once") && n > 4)
+        return once(words[2], words[3], strtoul(words[4], 0, 10));
     unsigned rounds = n > 2 ? (unsigned)strtoul(words[2], 0, 10) : 60;
     rounds = rounds < 1 ? 1 : rounds > MOST_ROUNDS ? MOST_ROUNDS : rounds;
     if (!strcmp(mode, "time"))
@@ -1112,7 +1189,7 @@ int main(int n, char **words) {
     else if (!strcmp(mode, "where"))
         where(rounds);
     else {
-        printf("bench compare N SEED | time ROUNDS | costs ROUNDS | where ROUNDS\n");
+        printf("bench compare N SEED | time ROUNDS | costs ROUNDS | where ROUNDS | once WHO KIND N\n");
         return 2;
     }
     return 0;
