@@ -3,7 +3,7 @@
 //   bench time             yardstick's time over ours for realistic interchanges: 1.0 or more means at least as fast
 //   bench costs            what a byte of extreme interchanges costs, over what a byte of a realistic one costs
 //   bench where            what our time goes to, by interchanges that differ in one thing
-//   bench once WHO KIND N  one reading by `ours` or `yardstick` of `skdupd` or `tsdupd` of N bytes, for counting instructions
+//   bench once WHO KIND N  one reading by `ours`, `yardstick` or `nobody` of `skdupd` or `tsdupd` of N bytes, for counting instructions
 #include "yardstick.h"
 
 int printf(const char *format, ...);
@@ -1117,6 +1117,25 @@ static void cost_one(const char *name, unsigned rounds) {
 
 static char long_text[4000];
 
+// Two segments that are read, each with much in it that is not: occurrences of S306 in the UIH, components of 2160 in a POP.
+static void put_long_parts(void) {
+    sample.n = 0;
+    puts_to(&sample, "UIB+UNOB:4+0080-2000-0001'UIH+SKDUPD:D:04A::UN");
+    for (unsigned o = 0; o < 80; o++) {
+        put(&sample, '*');
+        for (unsigned k = 0; k < 512; k++)
+            put(&sample, 'A');
+    }
+    puts_to(&sample, "+1'MSD'ORG'HDR'PRD'POP+273:2000-01-01/2000-01-02+1");
+    for (unsigned c = 0; c < 31; c++) {
+        put(&sample, ':');
+        for (unsigned k = 0; k < 512; k++)
+            put(&sample, 'A');
+    }
+    put(&sample, '\'');
+    close_text(&sample);
+}
+
 static void costs(unsigned rounds) {
     char *p = long_text;
     put_realistic(&sample, 1, LONGEST);
@@ -1142,8 +1161,10 @@ static void costs(unsigned rounds) {
     memcpy(p, "'", 2);
     put_same(&sample, 1, "PRD+1'", long_text, LONGEST);
     cost_one("periods of 512 days", rounds);
-    put_same(&sample, 1, "PRD+1'", "POP+273:2000-01-01/2001-05-26'", LONGEST / 2);
+    put_same(&sample, 1, "", "PRD'POP+273:2000-01-01/2001-05-26'", LONGEST);
     cost_one("periods without days", rounds);
+    put_long_parts();
+    cost_one("parts not read, 512 each", rounds);
     p = long_text;
     memcpy(p, "ALS+", 4);
     p += 4;
@@ -1166,9 +1187,15 @@ static void where(unsigned rounds) {
     costs(rounds);
 }
 
+// Reads nothing: what a process costs without a reading.
+static struct reply nobody(const uint8_t *s, size_t n, uint32_t *rows, size_t room) {
+    (void)s, (void)n, (void)rows, (void)room;
+    return (struct reply){0, 0, 0};
+}
+
 static int once(const char *who, const char *kind, unsigned long longest) {
     put_realistic(&sample, !strcmp(kind, "skdupd"), longest);
-    reader *read = !strcmp(who, "ours") ? drumcallisto_read : yardstick_read;
+    reader *read = !strcmp(who, "ours") ? drumcallisto_read : !strcmp(who, "yardstick") ? yardstick_read : nobody;
     struct reply r = read(sample.at, sample.n, ours, MOST_NUMBERS);
     printf("%s %s: %lu bytes, %lu segments, number %u\n", who, kind, (unsigned long)sample.n, (unsigned long)r.rows, r.number);
     return r.number;
