@@ -376,7 +376,7 @@ static void put_message(int skdupd, unsigned density, int at_limit) {
     put_header(skdupd, density);
     // a group of up to 99,999 is more than an interchange holds
     target = at_limit ? 1 + below((unsigned)places - 2) : NO_TARGET;
-    if (at_limit && t[target].most > 999)
+    if (at_limit && t[target].most > 2000)
         target++;
     put_places(t, 1, places - 1, skdupd, density);
     target = NO_TARGET;
@@ -961,7 +961,7 @@ static void put_place(struct text *t) {
     put_station(t);
     put(t, ':');
     puts_to(t, pick(stations, sizeof stations / sizeof stations[0]));
-    puts_to(t, one_in(2) ? "+47:32:51N*7:35:22E'" : "'");
+    puts_to(t, "+47:32:51N*7:35:22E'");
     if (one_in(5))
         puts_to(t, "ADS+:1:2+5:48 AVENUE FONSNY+BRUSSELS+1060+BE'");
     if (one_in(2))
