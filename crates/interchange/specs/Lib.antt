@@ -5,5 +5,8 @@ pub mod Laws
 pub mod Ways
 pub mod Turns
 pub mod Offsets
+pub mod Fuel
 pub mod Gather
+pub mod Moves
+pub mod Runs
 pub mod Answers

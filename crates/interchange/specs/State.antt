@@ -104,3 +104,18 @@ closedState st =
       reference = st .reference;
       place = st .place;
     }
+
+-- some segments of the message are placed: where they led, and how many its segments are then
+abbrev pub movedState : State → Place → ℕ → State
+movedState st p k =
+    record {
+      phase = st .phase;
+      kind = st .kind;
+      messages = st .messages;
+      segments = k;
+      «opened_at» = st .«opened_at»;
+      dialogue = st .dialogue;
+      «headed_at» = st .«headed_at»;
+      reference = st .reference;
+      place = p;
+    }

@@ -2,5 +2,6 @@
 
 pub mod reader;
 mod rows;
+mod run;
 pub mod state;
 pub mod step;

@@ -123,7 +123,7 @@ fn end_message(
 }
 
 // Whether a segment is a period that is read: POP in group 4 of SKDUPD.
-fn is_period(kind: u8, tag: u32, group: u32) -> bool
+pub(crate) fn is_period(kind: u8, tag: u32, group: u32) -> bool
     ensures { λ r. ⌜ r ≡ both (eqb kind 0) (both (eqb tag 5263184) (eqb group 4)) ⌝ }
 {
     if kind != 0 {
