@@ -2,24 +2,24 @@
 -- Assumes nothing.
 use mathlib.Core.Path.{_≡_, refl, sym, ap, _∙_}
 use mathlib.Core.Bool.{Bool, true, false}
-use mathlib.Core.List.{List}
+use mathlib.Core.List.{List, [], _∷_, _++_, append-nil, append-assoc}
 use Prim.Native.Nat.{ℕ, _+_, _*_, _/_, _≤_, _<_}
 use native.Mathlib.Omega.{arith}
 use lib.Dec.{eqb, ltb}
-use borrow.Author.Tests.{eq-eqb, ne-eqb, lt-ltb, le-ltb}
-use lib.ListN.{length, take, length-take}
-use Rattle.laws.specs.Choice.{pick, either, either-true}
-use Rattle.laws.specs.Lists.{over}
+use borrow.Author.Tests.{eq-eqb, ne-eqb, lt-ltb, le-ltb, ltb-false}
+use lib.ListN.{length, take, drop, length-append, length-drop}
+use Rattle.laws.specs.Choice.{pick, either, either-true, choose}
+use lib.Seq.{take-append-le, drop-append-seam, take-take, length-take-le}
+use Rattle.laws.specs.Lists.{over, onto, onto-start}
 use Rattle.syntax.specs.declared.segment.Refusal.{Refusal}
+use Rattle.interchange.specs.declared.state.State.{State}
 use Rattle.interchange.specs.declared.state.Row.{Row}
 use Rattle.interchange.specs.declared.reader.Answer.{Answer}
 use Rattle.interchange.specs.declared.reader.Answer.the-variants.{Rows, Refused}
-use Rattle.interchange.specs.declared.reader.Gathered.{Gathered}
-use Rattle.interchange.specs.declared.reader.Gathered.the-variants.{Numbers, Faulty}
 use Rattle.interchange.specs.State.{openingState}
-use Rattle.interchange.specs.Reader.{Verdict, accepted, faulty, Outcome, fault, readOn, readingOf, numbers, answerOf, rowsAfter}
+use Rattle.interchange.specs.Reader.{Verdict, accepted, faulty, Outcome, readOn, readingOf, numbers, answerOf, rowsAfter}
 use Rattle.interchange.specs.Laws.{length-numbers}
-use Rattle.interchange.specs.Gather.{gatheredBy, Gathers}
+use Rattle.interchange.specs.Chunks.{wholeFrom, Filled}
 
 abbrev pub refused : ℕ → ℕ → Answer
 refused number position = Refused (record { number = number; position = position })
@@ -39,59 +39,167 @@ long-read s lent h =
     let e : either (eqb (length s) 0) (ltb 60000 (length s)) ≡ true = rw (lt-ltb 60000 (length s) h) (either-true (eqb (length s) 0)) in
     (rw e, rw e)
 
-pub sized-read : (s : List ℕ) → (length s ≡ 0 → ⊥) → length s ≤ 60000 → readOn (length s + 1) s openingState 0 ≡ readingOf s
+pub sized-read : (s : List ℕ) → (length s ≡ 0 → ⊥) → length s ≤ 60000 → wholeFrom s openingState 0 ≡ readingOf s
 unfolding readingOf
 sized-read s h g = rw (ne-eqb (length s) 0 h, le-ltb 60000 (length s) g)
 
 pub right-same : (o p : Outcome) (lent : List ℕ) (r : Answer) (after : List ℕ) → o ≡ p → Right o lent r after → Right p lent r after
 right-same o p lent r after e x = (x .0 ∙ ap (λ (y : Outcome). answerOf y (length lent)) e, x .1 ∙ ap (λ (y : Outcome). rowsAfter y lent) e)
 
--- what the gathering told of the verdict
-faulty≢numbers : (x : Refusal) (n : ℕ) → Numbers n ≡ Faulty x → ⊥
-faulty≢numbers x n q = let z : _≡_ {A = ℕ} 0 1 = cc in omega arith
+-- the answer for a reading before which n numbers are gathered already, and what the buffer holds then
+abbrev pub answerBehind : ℕ → List Row → ℕ → Verdict → Answer
+answerBehind n rows room accepted = pick (ltb room (n + 3 * length rows)) (refused 17 0) (Rows ((n + 3 * length rows) / 3))
+answerBehind n rows room (faulty x) = Refused x
 
-numbers-told : (rows : List Row) (v : Verdict) (n : ℕ) → Numbers n ≡ gatheredBy rows v → (v ≡ accepted) × (n ≡ 3 * length rows)
-numbers-told rows accepted n q = (refl, cc)
-numbers-told rows (faulty x) n q = absurd (faulty≢numbers x n q)
+abbrev pub rowsBehind : ℕ → List Row → List ℕ → Verdict → List ℕ
+rowsBehind n rows lent accepted = pick (ltb (length lent) (n + 3 * length rows)) lent (onto lent n (numbers rows))
+rowsBehind n rows lent (faulty x) = lent
 
-fault-told : (rows : List Row) (v : Verdict) (x : Refusal) → Faulty x ≡ gatheredBy rows v → v ≡ faulty x
-fault-told rows accepted x q = absurd (faulty≢numbers x (3 * length rows) (sym q))
-fault-told rows (faulty y) x q = let e : x ≡ y = cc in ap faulty (sym e)
+abbrev pub Behind : ℕ → Outcome → List ℕ → Answer → List ℕ → Type 0
+Behind n o lent r after = (r ≡ answerBehind n (o .rows) (length lent) (o .verdict)) × (after ≡ rowsBehind n (o .rows) lent (o .verdict))
 
-third : (n m : ℕ) → n ≡ 3 * m → n / 3 ≡ m
-third n m e = omega arith
+-- with none before it is the answer itself
+module _ (rows : List Row) (lent : List ℕ) where
+  same-answer : (v : Verdict) → answerBehind 0 rows (length lent) v ≡ answerOf (record { rows = rows; verdict = v }) (length lent)
+  unfolding answerOf
+  same-answer accepted =
+      let z : 0 + 3 * length rows ≡ 3 * length rows = omega arith in
+      choose (ltb (length lent) (3 * length rows)) (λ q. rw (z, q)) (λ q. rw (z, q) (ap Rows (omega arith)))
+  same-answer (faulty x) = refl
 
-module _ (w : Outcome) (lent : List ℕ) where
-  pub right-fault : (x : Refusal) (room : List ℕ) → Gathers w (Faulty x) room → Right w lent (Refused x) lent
-  unfolding answerOf rowsAfter
-  right-fault x room g = let e = fault-told (w .rows) (w .verdict) x (g .told) in (rw e, rw e)
+  same-rows : (v : Verdict) → rowsBehind 0 rows lent v ≡ rowsAfter (record { rows = rows; verdict = v }) lent
+  unfolding rowsAfter
+  same-rows accepted =
+      let z : 0 + 3 * length rows ≡ 3 * length rows = omega arith in
+      choose (ltb (length lent) (3 * length rows)) (λ q. rw (z, q)) (λ q. rw (z, q) (onto-start lent (numbers rows)))
+  same-rows (faulty x) = refl
 
-  module _ (n : ℕ) (room : List ℕ) (g : Gathers w (Numbers n) room) where
-    pub right-short : length lent < n → Right w lent (refused 17 0) lent
-    unfolding answerOf rowsAfter
-    right-short h =
-        let t = numbers-told (w .rows) (w .verdict) n (g .told) in
-        let e = t .0 in
-        let l = lt-ltb (length lent) (3 * length (w .rows)) (omega arith) in
-        (rw (e, l), rw (e, l))
+pub right-behind : (o : Outcome) (lent : List ℕ) (r : Answer) (after : List ℕ) → Behind 0 o lent r after → Right o lent r after
+right-behind o lent r after b = (b .0 ∙ same-answer (o .rows) lent (o .verdict), b .1 ∙ same-rows (o .rows) lent (o .verdict))
 
-    pub right-rows : n ≤ length lent → Right w lent (Rows (n / 3)) (over (take n room) lent)
-    unfolding answerOf rowsAfter
-    right-rows h =
-        let t = numbers-told (w .rows) (w .verdict) n (g .told) in
-        let e = t .0 in
-        let l = le-ltb (length lent) (3 * length (w .rows)) (omega arith) in (
-          rw (e, l) (ap Rows (third n (length (w .rows)) (t .1))),
-          rw (e, l) (ap (λ (x : List ℕ). over x lent) (ap (λ (x : ℕ). take x room) (t .1) ∙ g .rows e)),
+-- a text put before one that was put behind it
+onto-before : (l a b : List ℕ) (n : ℕ) → n + length a ≤ length l → onto (onto l (n + length a) b) n a ≡ onto l n (a ++ b)
+unfolding onto
+onto-before l a b n h =
+    let k = n + length a in
+    let front = take k l in
+    let past = b ++ drop (k + length b) l in
+    let z = length-take-le k l h in
+    let t : take n (front ++ past) ≡ take n l =
+    take-append-le n front past (omega arith) ∙ take-take n k l (omega arith) in
+    let d : drop k (front ++ past) ≡ past = ap (λ (x : ℕ). drop x (front ++ past)) (sym z) ∙ drop-append-seam front past in
+    let m = length-append a b in
+    let e : k + length b ≡ n + length (a ++ b) = omega arith in
+    ap (λ (x : List ℕ). x ++ (a ++ drop k (front ++ past))) t
+    ∙ ap (λ (x : List ℕ). take n l ++ (a ++ x)) d
+    ∙ ap (λ (x : ℕ). take n l ++ (a ++ (b ++ drop x l))) e
+    ∙ ap (λ (x : List ℕ). take n l ++ x) (sym (append-assoc a b (drop (n + length (a ++ b)) l)))
+
+length-onto : (l a : List ℕ) (n : ℕ) → n + length a ≤ length l → length (onto l n a) ≡ length l
+unfolding onto
+length-onto l a n h =
+    let x = length-append (take n l) (a ++ drop (n + length a) l) in
+    let y = length-append a (drop (n + length a) l) in
+    let z = length-drop (n + length a) l in
+    let w = length-take-le n l (omega arith) in
+    omega arith
+
+rows≢refused : (m : ℕ) (x : Refusal) → Rows m ≡ Refused x → ⊥
+rows≢refused m x q = let z : _≡_ {A = ℕ} 0 1 = cc in omega arith
+
+-- rows that are told of fit, and the buffer is as long as it was
+fits-by : (n m : ℕ) (rows : List Row) (lent : List ℕ) (v : Verdict) → Rows m ≡ answerBehind n rows (length lent) v
+    → (n ≤ length lent) × (length (rowsBehind n rows lent v) ≡ length lent)
+fits-by n m rows lent accepted q =
+    choose (ltb (length lent) (n + 3 * length rows))
+    (λ l. absurd (rows≢refused m (record { number = 17; position = 0 }) (rw l at q)))
+    (λ l.
+    let g = ltb-false (length lent) (n + 3 * length rows) l in
+    let c = length-numbers rows in
+    (omega arith, rw l (length-onto lent (numbers rows) n (omega arith))))
+fits-by n m rows lent (faulty x) q = absurd (rows≢refused m x q)
+
+pub behind-fits : (n m : ℕ) (o : Outcome) (lent after : List ℕ) → Behind n o lent (Rows m) after → n ≤ length after
+behind-fits n m o lent after b =
+    let f = fits-by n m (o .rows) lent (o .verdict) (b .0) in
+    let e = ap length (b .1) ∙ f .1 in
+    let g = f .0 in
+    omega arith
+
+module _ (n : ℕ) (w : Outcome) (lent : List ℕ) where
+  -- a fault
+  pub behind-fault : (x : Refusal) → w .verdict ≡ faulty x → Behind n w lent (Refused x) lent
+  behind-fault x e = (rw e, rw e)
+
+  -- all rows are gathered, k numbers
+  module _ (k : ℕ) (room : List ℕ) (f : Filled w (record { rows = []; verdict = accepted }) k room) where
+    count-is : n + 3 * length (w .rows) ≡ n + k
+    count-is = let c = f .count in omega arith
+
+    rows-are : numbers (w .rows) ≡ take k room
+    unfolding numbers
+    rows-are = sym (f .rows) ∙ append-nil (take k room)
+
+    pub behind-short : length lent < n + k → Behind n w lent (refused 17 0) lent
+    behind-short h =
+        let e = sym (f .verdict) in
+        let c = count-is in
+        let l = lt-ltb (length lent) (n + k) h in
+        (rw (e, c, l), rw (e, c, l))
+
+    pub behind-rows : n + k ≤ length lent → Behind n w lent (Rows ((n + k) / 3)) (onto lent n (take k room))
+    behind-rows h =
+        let e = sym (f .verdict) in
+        let c = count-is in
+        let l = le-ltb (length lent) (n + k) h in
+        (rw (e, c, l), rw (e, c, l) (ap (onto lent n) (sym rows-are)))
+
+  -- the room was full, and the rest was read
+  module _ (k : ℕ) (room : List ℕ) (rest : Outcome) (f : Filled w rest k room) where
+    behind-is : (v : Verdict) → answerBehind (n + k) (rest .rows) (length lent) v ≡ answerBehind n (w .rows) (length lent) v
+    behind-is accepted =
+        let c = f .count in
+        let e : n + k + 3 * length (rest .rows) ≡ n + 3 * length (w .rows) = omega arith in
+        rw e
+    behind-is (faulty x) = refl
+
+    count-same : n + k + 3 * length (rest .rows) ≡ n + 3 * length (w .rows)
+    count-same = let c = f .count in omega arith
+
+    -- a refusal leaves the buffer
+    still : (x : Refusal) (v : Verdict) → Refused x ≡ answerBehind (n + k) (rest .rows) (length lent) v
+        → (rowsBehind (n + k) (rest .rows) lent v ≡ lent) × (rowsBehind n (w .rows) lent v ≡ lent)
+    still x accepted q =
+        let c = count-same in
+        choose (ltb (length lent) (n + 3 * length (w .rows)))
+        (λ l. (rw (c, l), rw l))
+        (λ l. absurd (rows≢refused ((n + 3 * length (w .rows)) / 3) x (sym (rw (c, l) at q))))
+    still x (faulty y) q = (refl, refl)
+
+    pub behind-refused : (x : Refusal) (after : List ℕ) → Behind (n + k) rest lent (Refused x) after → Behind n w lent (Refused x) after
+    behind-refused x after b =
+        let q = still x (rest .verdict) (b .0) in (
+          b .0 ∙ behind-is (rest .verdict) ∙ ap (answerBehind n (w .rows) (length lent)) (f .verdict),
+          b .1 ∙ q .0 ∙ sym (q .1) ∙ ap (rowsBehind n (w .rows) lent) (f .verdict),
         )
 
-    pub numbers-fit : n ≤ length room
-    numbers-fit =
-        let t = numbers-told (w .rows) (w .verdict) n (g .told) in
-        let l = ap length (g .rows (t .0)) in
-        let a = length-take (3 * length (w .rows)) room in
-        let b = length-numbers (w .rows) in
-        omega arith
+    put-before : (m : ℕ) (v : Verdict) → Rows m ≡ answerBehind (n + k) (rest .rows) (length lent) v → k ≤ length room
+        → onto (rowsBehind (n + k) (rest .rows) lent v) n (take k room) ≡ rowsBehind n (w .rows) lent v
+    put-before m accepted q h =
+        let c = count-same in
+        choose (ltb (length lent) (n + 3 * length (w .rows)))
+        (λ l. absurd (rows≢refused m (record { number = 17; position = 0 }) (rw (c, l) at q)))
+        (λ l.
+        let z = length-take-le k room h in
+        let g = ltb-false (length lent) (n + 3 * length (w .rows)) l in
+        rw (c, l)
+        (ap (λ (x : ℕ). onto (onto lent (n + x) (numbers (rest .rows))) n (take k room)) (sym z)
+        ∙ onto-before lent (take k room) (numbers (rest .rows)) n (omega arith) ∙ ap (onto lent n) (f .rows)))
+    put-before m (faulty x) q h = absurd (rows≢refused m x q)
 
-pub gathers-as : (w : Outcome) (r x : Gathered) (room : List ℕ) → r ≡ x → Gathers w r room → Gathers w x room
-gathers-as w r x room e g = record { told = sym e ∙ g .told; kept = g .kept; rows = g .rows }
+    pub behind-full : (m : ℕ) (after : List ℕ) → Behind (n + k) rest lent (Rows m) after → k ≤ length room
+        → Behind n w lent (Rows m) (onto after n (take k room))
+    behind-full m after b h = (
+      b .0 ∙ behind-is (rest .verdict) ∙ ap (answerBehind n (w .rows) (length lent)) (f .verdict),
+      ap (λ (x : List ℕ). onto x n (take k room)) (b .1) ∙ put-before m (rest .verdict) (b .0) h ∙ ap (rowsBehind n (w .rows) lent) (f .verdict),
+    )

@@ -10,9 +10,9 @@ use borrow.Author.Tests.{lt-ltb, le-ltb}
 use lib.ListN.{length, take, drop, set, getD, length-set}
 use lib.Seq.{take-suc-set}
 use native.Mathlib.Numerals.{add-one}
-use native.Mathlib.Nat.{sub-zero}
+use native.Mathlib.Nat.{sub-zero, add-zero}
 use Rattle.laws.specs.Choice.{pick}
-use Rattle.laws.specs.Lists.{over, onto, onto-start, onto-step, onto-done, drop-here}
+use Rattle.laws.specs.Lists.{onto, onto-step, onto-done, drop-here}
 use Rattle.syntax.specs.declared.segment.Refusal.{Refusal}
 use Rattle.syntax.specs.declared.segment.Scanned.{Scanned}
 use Rattle.placing.specs.Skdupd.{skdupdTable}
@@ -84,18 +84,20 @@ length-numbers [] = refl
 length-numbers (r ∷ l) = let h = length-numbers l in omega arith
 
 -- a copy in place: what is copied, then what is still to be
-module _ (from : List ℕ) (n : ℕ) where
-  pub copy-start : (to : List ℕ) → onto to 0 (take (n - 0) (drop 0 from)) ≡ over (take n from) to
-  copy-start to = rw sub-zero (onto-start to (take n from))
+module _ (from : List ℕ) (n at : ℕ) where
+  pub copy-start : (to : List ℕ) → onto to (at + 0) (take (n - 0) (drop 0 from)) ≡ onto to at (take n from)
+  copy-start to = rw (sub-zero, add-zero)
 
-  pub copy-step : (to : List ℕ) (i : ℕ) → i < n → i < length from → i < length to
-      → onto (set to i (getD from i 0)) (i + 1) (take (n - (i + 1)) (drop (i + 1) from)) ≡ onto to i (take (n - i) (drop i from))
+  pub copy-step : (to : List ℕ) (i : ℕ) → i < n → i < length from → at + i < length to
+      → onto (set to (at + i) (getD from i 0)) (at + (i + 1)) (take (n - (i + 1)) (drop (i + 1) from)) ≡ onto to (at + i) (take (n - i) (drop i from))
   copy-step to i h g k =
       let e : n - i ≡ suc (n - (i + 1)) = omega arith in
-      onto-step to i (getD from i 0) (take (n - (i + 1)) (drop (i + 1) from)) k
-      ∙ ap (onto to i) (sym (ap (λ (x : List ℕ). take (n - i) x) (drop-here from i g) ∙ rw e))
+      let a : at + (i + 1) ≡ at + i + 1 = omega arith in
+      ap (λ (x : ℕ). onto (set to (at + i) (getD from i 0)) x (take (n - (i + 1)) (drop (i + 1) from))) a
+      ∙ onto-step to (at + i) (getD from i 0) (take (n - (i + 1)) (drop (i + 1) from)) k
+      ∙ ap (onto to (at + i)) (sym (ap (λ (x : List ℕ). take (n - i) x) (drop-here from i g) ∙ rw e))
 
-  pub copy-done : (to : List ℕ) (i : ℕ) → n ≤ i → onto to i (take (n - i) (drop i from)) ≡ to
+  pub copy-done : (to : List ℕ) (i : ℕ) → n ≤ i → onto to (at + i) (take (n - i) (drop i from)) ≡ to
   copy-done to i h =
       let e : n - i ≡ 0 = omega arith in
-      rw e (onto-done to i)
+      rw e (onto-done to (at + i))

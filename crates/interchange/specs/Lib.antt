@@ -8,5 +8,6 @@ pub mod Offsets
 pub mod Fuel
 pub mod Gather
 pub mod Moves
+pub mod Chunks
 pub mod Runs
 pub mod Answers

@@ -6,7 +6,7 @@ use mathlib.Core.List.{List}
 use Prim.Native.Nat.{ℕ, _+_, _<_}
 use native.Mathlib.Omega.{arith}
 use lib.Dec.{eqb}
-use borrow.Author.Tests.{ne-eqb}
+use borrow.Author.Tests.{eq-eqb, ne-eqb}
 use lib.ListN.{length, drop}
 use Rattle.laws.specs.Choice.{pick, both, choose, false≢true}
 use Rattle.syntax.specs.declared.segment.Scanned.the-variants.{End}
@@ -24,7 +24,7 @@ use Rattle.period.specs.declared.Period.{Period}
 use Rattle.period.specs.declared.Period.the-variants as period
 use Rattle.period.specs.Period.{periodOf}
 use Rattle.interchange.specs.declared.state.Phase.{Phase}
-use Rattle.interchange.specs.declared.state.Phase.the-variants.{Inside}
+use Rattle.interchange.specs.declared.state.Phase.the-variants.{Opening, Between, Inside, Closed}
 use Rattle.interchange.specs.declared.state.State.{State}
 use Rattle.interchange.specs.declared.state.Row.{Row}
 use Rattle.interchange.specs.declared.state.Step.{Step}
@@ -37,6 +37,18 @@ use Rattle.interchange.specs.Laws.{putRow}
 use Rattle.interchange.specs.Ways.{inside-placed}
 use Rattle.interchange.specs.Turns.{turn-is, body-slice}
 use Rattle.interchange.specs.Moves.{Moved, moved-turn, moved-both, moved-as}
+
+abbrev pub isInside : Phase → Bool
+isInside Opening = false
+isInside Between = false
+isInside Inside = true
+isInside Closed = false
+
+pub inside-is : (f : Phase) → isInside f ≡ true → f ≡ Inside
+inside-is Opening q = absurd (false≢true q)
+inside-is Between q = absurd (false≢true q)
+inside-is Inside q = refl
+inside-is Closed q = absurd (false≢true q)
 
 abbrev pub isGood : Period → Bool
 isGood (period.Good first days form) = true
@@ -97,6 +109,13 @@ open-inside f e = ap isClosed e
 onward-moved : (st : State) (p q : Place) (k : ℕ) → st .phase ≡ Inside → onwardState (movedState st p k) q ≡ movedState st q (oneMore k)
 onward-moved st p q k i = rw i
 
+-- the table of a message
+pub for-skdupd : (t : Table) (kind : ℕ) → t ≡ skdupdTable → kind ≡ 0 → t ≡ tableOf skdupdTable tsdupdTable kind
+for-skdupd t kind e k = rw (eq-eqb kind 0 k) e
+
+pub for-tsdupd : (t : Table) (kind : ℕ) → t ≡ tsdupdTable → (kind ≡ 0 → ⊥) → t ≡ tableOf skdupdTable tsdupdTable kind
+for-tsdupd t kind e k = rw (ne-eqb kind 0 k) e
+
 -- one segment more of the message, its row put behind those that stand
 module _ (s : List ℕ) (from : State) (start n₀ : ℕ) (room₀ : List ℕ) (st : State) (i : st .phase ≡ Inside) where
   pub moved-inside : (p : Place) (k at n : ℕ) (room : List ℕ) → Moved s from start n₀ room₀ (movedState st p k) at n room
@@ -111,5 +130,5 @@ module _ (s : List ℕ) (from : State) (start n₀ : ℕ) (room₀ : List ℕ) (
       let a : at < length s = omega arith in
       let v = turn-inside s (movedState st p k) at e h i q (rw (x, g) at z) (λ d. u (g ∙ d)) (rw (g, w, x) at o) in
       let d = moved-turn s (movedState st p k) at n room (onwardState (movedState st p k) q) (rowOf at (bodyAt s at) (groupOf (tableOf skdupdTable tsdupdTable (st .kind)) q)) (e + 1)
-          (open-inside (st .phase) i) a v r in
+      (open-inside (st .phase) i) a v r in
       moved-both s m (moved-as s (sym (onward-moved st p q k i)) (b ∙ rw (w, x, g)) d)

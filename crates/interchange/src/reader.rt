@@ -2,6 +2,8 @@
 
 use crate::rows::copy_rows;
 use crate::rows::put_row;
+use crate::run::Ran;
+use crate::run::run;
 use crate::state::Phase;
 use crate::state::Row;
 use crate::state::State;
@@ -15,20 +17,19 @@ use syntax::segment::Refusal;
 use syntax::segment::Scanned;
 use syntax::segment::read_segment;
 ghost use mathlib.Core.Path.{_≡_};
-ghost use mathlib.Core.List.{_++_};
-ghost use Prim.Native.Nat.{_+_, _*_, _≤_};
-ghost use lib.ListN.{length, drop, take};
+ghost use Prim.Native.Nat.{_+_, _*_, _≤_, _<_};
+ghost use lib.ListN.{length, drop};
 ghost use Rattle.parts.specs.Places.{bytesOf};
-ghost use Rattle.interchange.specs.Reader.{isClosed, dialogueOf, referenceOf, turnStep, turnAt, readOn, readingOf, answerOf, rowsAfter};
-ghost use Rattle.interchange.specs.State.{openingState};
-ghost use Rattle.interchange.specs.Gather.{Gathers};
+ghost use Rattle.interchange.specs.Reader.{isClosed, dialogueOf, referenceOf, turnStep, turnAt, readingOf, answerOf, rowsAfter};
+ghost use Rattle.interchange.specs.State.{openingState, movedState};
+ghost use Rattle.interchange.specs.Moves.{Moved};
+ghost use Rattle.interchange.specs.Chunks.{wholeFrom, endedAt, Chunk};
+ghost use Rattle.interchange.specs.Runs.{isInside};
+ghost use Rattle.interchange.specs.Answers.{Behind};
 ghost use Rattle.interchange.specs.Step.{segmentStep};
 ghost use Rattle.syntax.specs.Segment.{bodyAt, segmentAt};
 ghost use Rattle.placing.specs.Skdupd.{skdupdTable};
 ghost use Rattle.placing.specs.Tsdupd.{tsdupdTable};
-
-// Four bytes are the shortest segment, so 60,000 bytes hold at most 15,000 rows of three numbers.
-const ROOM: usize = 45000;
 
 /// What reading an interchange comes to.
 pub enum Answer {
@@ -55,6 +56,17 @@ fn is_closed(phase: Phase) -> bool
         Phase::Between => false,
         Phase::Inside => false,
         Phase::Closed => true,
+    }
+}
+
+fn is_inside(phase: Phase) -> bool
+    ensures { λ r. ⌜ r ≡ isInside phase ⌝ }
+{
+    match phase {
+        Phase::Opening => false,
+        Phase::Between => false,
+        Phase::Inside => true,
+        Phase::Closed => false,
     }
 }
 
@@ -99,22 +111,77 @@ fn take_turn(s: &[u8], st: State, at: usize, skdupd: &[[u32; 8]], tsdupd: &[[u32
     }
 }
 
-// The rows of an accepted interchange, gathered: how many numbers they are.
+// What is gathered of a reading.
 enum Gathered {
+    // All its rows: how many numbers they are.
     Numbers(usize),
+    // The room is full: the state and the offset from which the rest is to be read, and how many numbers are gathered.
+    Full(State, usize, usize),
     Faulty(Refusal),
 }
 
-// The segments one after the other, their rows into a buffer of the reader's own, since a refusal leaves the lent one as it was.
-fn gather(s: &[u8], room: &mut [u32], skdupd: &[[u32; 8]], tsdupd: &[[u32; 8]]) -> Gathered
-    requires { ⌜ (length (now s) ≤ 60000) × (length (now room) ≡ 45000) × (now skdupd ≡ skdupdTable) × (now tsdupd ≡ tsdupdTable) ⌝ }
-    ensures { λ r. ⌜ Gathers (readOn (length (now (s .entry)) + 1) (now (s .entry)) openingState 0) r (now (room .exit)) ⌝ }
+// The input is at its end.
+fn ended(phase: Phase, numbers: usize, size: usize) -> Gathered
+    ensures { λ r. ⌜ r ≡ endedAt (isClosed phase) numbers size ⌝ }
 {
-    let mut st = State::opening();
-    let mut at = 0;
-    let mut n = 0;
-    while at < s.len() {
+    if is_closed(phase) {
+        return Gathered::Numbers(numbers);
+    }
+    Gathered::Faulty(Refusal {
+        number: 7,
+        position: size,
+    })
+}
+
+// Where a message stands, its segments that only move its place on; elsewhere none.
+fn run_on(
+    s: &[u8],
+    st: State,
+    at: usize,
+    skdupd: &[[u32; 8]],
+    tsdupd: &[[u32; 8]],
+    room: &mut [u32],
+    numbers: usize,
+) -> Ran
+    requires { ⌜ (now skdupd ≡ skdupdTable) × (now tsdupd ≡ tsdupdTable) × (length (now s) ≤ 60000) × (length (now room) ≡ 192) × (numbers ≤ 192) ⌝ }
+    ensures { λ r. ⌜ Moved (now (s .entry)) st at numbers (now (room .entry)) (movedState st (r .place) (r .segments)) (r .at) (r .numbers) (now (room .exit)) × (r .numbers ≤ 192) ⌝ }
+{
+    let place = st.place;
+    let phase = st.phase;
+    if !is_inside(phase) {
+        return Ran {
+            place,
+            segments: st.segments,
+            at,
+            numbers,
+        };
+    }
+    if st.kind == 0 {
+        return run(s, st, at, skdupd, room, numbers);
+    }
+    run(s, st, at, tsdupd, room, numbers)
+}
+
+// The segments one after the other, their rows into a room of the reader's own, until it is full.
+fn gather(
+    s: &[u8],
+    start: State,
+    from: usize,
+    skdupd: &[[u32; 8]],
+    tsdupd: &[[u32; 8]],
+    room: &mut [u32],
+) -> Gathered
+    requires { ⌜ (now skdupd ≡ skdupdTable) × (now tsdupd ≡ tsdupdTable) × (length (now s) ≤ 60000) × (length (now room) ≡ 192) × (from ≤ length (now s)) ⌝ }
+    ensures { λ r. ⌜ Chunk (now (s .entry)) start from r (now (room .exit)) × (length (now (room .exit)) ≡ 192) ⌝ }
+{
+    let mut st = start;
+    let mut at = from;
+    let mut numbers = 0;
+    while numbers < 190 {
         let phase = st.phase;
+        if s.len() <= at {
+            return ended(phase, numbers, s.len());
+        }
         if is_closed(phase) {
             return Gathered::Faulty(Refusal {
                 number: 7,
@@ -123,24 +190,19 @@ fn gather(s: &[u8], room: &mut [u32], skdupd: &[[u32; 8]], tsdupd: &[[u32; 8]]) 
         }
         match take_turn(s, st, at, skdupd, tsdupd) {
             Turn::On(next, row, then) => {
-                put_row(room, n, at as u32, row);
-                n += 3;
-                at = then;
-                st = next;
+                put_row(room, numbers, at as u32, row);
+                let ran = run_on(s, next, then, skdupd, tsdupd, room, numbers + 3);
+                let place = ran.place;
+                st = next.moved(place, ran.segments);
+                at = ran.at;
+                numbers = ran.numbers;
             }
             Turn::Stop(refusal) => {
                 return Gathered::Faulty(refusal);
             }
         }
     }
-    let phase = st.phase;
-    if is_closed(phase) {
-        return Gathered::Numbers(n);
-    }
-    Gathered::Faulty(Refusal {
-        number: 7,
-        position: s.len(),
-    })
+    Gathered::Full(st, at, numbers)
 }
 
 /// Reads an interchange and writes its rows, three numbers each, to the front of a lent buffer. A refusal leaves the
@@ -164,26 +226,60 @@ pub fn read(interchange: &[u8], rows: &mut [u32]) -> Answer
     read_sized(interchange, rows)
 }
 
-// The same for an interchange of 1 to 60,000 bytes.
-fn read_sized(s: &[u8], rows: &mut [u32]) -> Answer
-    requires { ⌜ length (now s) ≤ 60000 ⌝ }
-    ensures told { λ r. ⌜ r ≡ answerOf (readOn (length (now (s .entry)) + 1) (now (s .entry)) openingState 0) (length (now (rows .entry))) ⌝ }
-    ensures left { λ _. ⌜ now (rows .exit) ≡ rowsAfter (readOn (length (now (s .entry)) + 1) (now (s .entry)) openingState 0) (now (rows .entry)) ⌝ }
+// The reading from a state and an offset on, before which `behind` numbers are gathered already. Each call gathers some rows in a
+// room of its own, has the rest read, and writes its rows only where all is accepted: a refusal leaves the lent buffer as it was.
+fn read_on(
+    s: &[u8],
+    st: State,
+    at: usize,
+    skdupd: &[[u32; 8]],
+    tsdupd: &[[u32; 8]],
+    rows: &mut [u32],
+    behind: usize,
+    calls: usize,
+) -> Answer
+    requires { ⌜ (now skdupd ≡ skdupdTable) × (now tsdupd ≡ tsdupdTable) × (length (now s) ≤ 60000) × (at ≤ length (now s)) × (4 * behind ≤ 3 * at) × (length (now s) < at + 250 * calls) ⌝ }
+    ensures { λ r. ⌜ Behind behind (wholeFrom (now (s .entry)) st at) (now (rows .entry)) r (now (rows .exit)) ⌝ }
 {
-    let mut room = [0u32; ROOM];
-    let skd = skdupd();
-    let tsd = tsdupd();
-    match gather(s, &mut room, &skd, &tsd) {
+    let mut room = [0u32; 192];
+    match gather(s, st, at, skdupd, tsdupd, &mut room) {
         Gathered::Numbers(n) => {
-            if rows.len() < n {
+            if rows.len() < behind + n {
                 return Answer::Refused(Refusal {
                     number: 17,
                     position: 0,
                 });
             }
-            copy_rows(&room, n, rows);
-            Answer::Rows(n / 3)
+            copy_rows(&room, n, rows, behind);
+            Answer::Rows((behind + n) / 3)
         }
+        Gathered::Full(next, then, n) => match read_on(
+            s,
+            next,
+            then,
+            skdupd,
+            tsdupd,
+            rows,
+            behind + n,
+            calls - 1,
+        ) {
+            Answer::Rows(m) => {
+                copy_rows(&room, n, rows, behind);
+                Answer::Rows(m)
+            }
+            Answer::Refused(refusal) => Answer::Refused(refusal),
+        },
         Gathered::Faulty(refusal) => Answer::Refused(refusal),
     }
+}
+
+// The same for an interchange of 1 to 60,000 bytes.
+fn read_sized(s: &[u8], rows: &mut [u32]) -> Answer
+    requires { ⌜ length (now s) ≤ 60000 ⌝ }
+    ensures told { λ r. ⌜ r ≡ answerOf (wholeFrom (now (s .entry)) openingState 0) (length (now (rows .entry))) ⌝ }
+    ensures left { λ _. ⌜ now (rows .exit) ≡ rowsAfter (wholeFrom (now (s .entry)) openingState 0) (now (rows .entry)) ⌝ }
+{
+    let skd = skdupd();
+    let tsd = tsdupd();
+    read_on(s, State::opening(), 0, &skd, &tsd, rows, 0, 241)
 }

@@ -4,7 +4,7 @@ use crate::state::Row;
 ghost use mathlib.Core.Path.{_≡_};
 ghost use Prim.Native.Nat.{_+_, _<_, _≤_};
 ghost use lib.ListN.{length, take};
-ghost use Rattle.laws.specs.Lists.{over};
+ghost use Rattle.laws.specs.Lists.{onto};
 ghost use Rattle.interchange.specs.Laws.{putRow};
 
 // A row behind those that stand.
@@ -17,14 +17,14 @@ pub(crate) fn put_row(to: &mut [u32], at: usize, offset: u32, row: Row)
     to[at + 2] = row.tag;
 }
 
-// The first n numbers of one buffer over the front of another.
-pub(crate) fn copy_rows(from: &[u32], n: usize, to: &mut [u32])
-    requires { ⌜ (n ≤ length (now from)) × (n ≤ length (now to)) ⌝ }
-    ensures { λ _. ⌜ now (to .exit) ≡ over (take n (now (from .entry))) (now (to .entry)) ⌝ }
+// The first n numbers of one buffer into another, from an index on.
+pub(crate) fn copy_rows(from: &[u32], n: usize, to: &mut [u32], at: usize)
+    requires { ⌜ (n ≤ length (now from)) × (at + n ≤ length (now to)) ⌝ }
+    ensures { λ _. ⌜ now (to .exit) ≡ onto (now (to .entry)) at (take n (now (from .entry))) ⌝ }
 {
     let mut i = 0;
     while i < n {
-        to[i] = from[i];
+        to[at + i] = from[i];
         i += 1;
     }
 }

@@ -2,8 +2,8 @@
 //! offset and the rows change; whatever else comes is left to the step.
 
 use crate::rows::put_row;
-use crate::state::Row;
 use crate::state::Phase;
+use crate::state::Row;
 use crate::state::State;
 use crate::state::one_more;
 use crate::step::is_period;
@@ -60,7 +60,7 @@ pub(crate) fn run(
     gathered: usize,
 ) -> Ran
     requires { ⌜ (st .phase ≡ Phase.Inside) × (now table ≡ tableOf skdupdTable tsdupdTable (st .kind)) × (length (now s) ≤ 60000) × (length (now room) ≡ 192) × (gathered ≤ 192) ⌝ }
-    ensures { λ r. ⌜ Moved (now (s .entry)) st from gathered (now (room .entry)) (movedState st (r .place) (r .segments)) (r .at) (r .numbers) (now (room .exit)) ⌝ }
+    ensures { λ r. ⌜ Moved (now (s .entry)) st from gathered (now (room .entry)) (movedState st (r .place) (r .segments)) (r .at) (r .numbers) (now (room .exit)) × (r .numbers ≤ 192) ⌝ }
 {
     let mut place = st.place;
     let mut segments = st.segments;
@@ -68,24 +68,58 @@ pub(crate) fn run(
     let mut numbers = gathered;
     while numbers < 190 {
         let Scanned::End(end) = read_segment(s, at) else {
-            return Ran { place, segments, at, numbers };
+            return Ran {
+                place,
+                segments,
+                at,
+                numbers,
+            };
         };
         let tag = tag_at(s, at);
         if tag == UIT {
-            return Ran { place, segments, at, numbers };
+            return Ran {
+                place,
+                segments,
+                at,
+                numbers,
+            };
         }
         let Stepped::Placed(next) = place.step(table, tag) else {
-            return Ran { place, segments, at, numbers };
+            return Ran {
+                place,
+                segments,
+                at,
+                numbers,
+            };
         };
         let group = next.group(table);
         if !is_good(s, at, end, st.kind, tag, group) {
-            return Ran { place, segments, at, numbers };
+            return Ran {
+                place,
+                segments,
+                at,
+                numbers,
+            };
         }
-        put_row(room, numbers, at as u32, Row { offset: at, group, tag });
+        put_row(
+            room,
+            numbers,
+            at as u32,
+            Row {
+                offset: at,
+                group,
+                tag,
+            },
+        );
         numbers += 3;
         at = end + 1;
         place = next;
         segments = one_more(segments);
     }
-    Ran { place, segments, at, numbers }
+    Ran {
+        place,
+        segments,
+        at,
+        numbers,
+    }
 }

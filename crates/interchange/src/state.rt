@@ -4,7 +4,7 @@ use parts::Part;
 use placing::Place;
 use syntax::segment::Refusal;
 ghost use mathlib.Core.Path.{_≡_};
-ghost use Rattle.interchange.specs.State.{oneMore, openingState, openedState, headedState, onwardState, endedState, closedState};
+ghost use Rattle.interchange.specs.State.{oneMore, openingState, openedState, headedState, onwardState, endedState, closedState, movedState};
 
 /// What may come next.
 pub enum Phase {
@@ -122,6 +122,26 @@ impl State {
         let segments = one_more(self.segments);
         State {
             phase: Phase::Inside,
+            kind: self.kind,
+            messages: self.messages,
+            segments: segments,
+            opened_at: self.opened_at,
+            dialogue: dialogue,
+            headed_at: self.headed_at,
+            reference: reference,
+            place: place,
+        }
+    }
+
+    // Some segments of the message are placed.
+    pub(crate) fn moved(self, place: Place, segments: usize) -> Self
+        ensures { λ r. ⌜ r ≡ movedState self place segments ⌝ }
+    {
+        let phase = self.phase;
+        let dialogue = self.dialogue;
+        let reference = self.reference;
+        State {
+            phase: phase,
             kind: self.kind,
             messages: self.messages,
             segments: segments,

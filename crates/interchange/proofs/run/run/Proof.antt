@@ -57,6 +57,7 @@ module _ (t : tie.After-tag-at Inv-loop μ-loop) where
 
   size : length (own .loop .room) ≡ 192
   size = own .loop .inv .0 .sized ∙ start own .pre .3
+
 loop-holds : tie.Need-loop-holds Inv-loop μ-loop
 loop-holds c =
     let a = c .before .before .before .args in
@@ -72,7 +73,7 @@ same-length : tie.Need-same-length Inv-loop μ-loop
 same-length c = c .before .before .before .loop .inv .0 .sized
 
 returns : tie.Need-returns Inv-loop μ-loop
-returns c = c .before .before .before .loop .inv .0
+returns c = c .before .before .before .loop .inv
 
 tag-at-requires : tie.Need-tag-at-requires Inv-loop μ-loop
 tag-at-requires c κs = search needs
@@ -81,7 +82,7 @@ same-length-2 : tie.Need-same-length-2 Inv-loop μ-loop
 same-length-2 c = own (c .before) .loop .inv .0 .sized
 
 returns-2 : tie.Need-returns-2 Inv-loop μ-loop
-returns-2 c = own (c .before) .loop .inv .0
+returns-2 c = own (c .before) .loop .inv
 
 step-requires : tie.Need-step-requires Inv-loop μ-loop
 step-requires c κs = search needs
@@ -96,7 +97,7 @@ same-length-3 : tie.Need-same-length-3 Inv-loop μ-loop
 same-length-3 c = own (c .before .before .before .before) .loop .inv .0 .sized
 
 returns-3 : tie.Need-returns-3 Inv-loop μ-loop
-returns-3 c = own (c .before .before .before .before) .loop .inv .0
+returns-3 c = own (c .before .before .before .before) .loop .inv
 
 group-requires : tie.Need-group-requires Inv-loop μ-loop
 group-requires c κs = search needs
@@ -108,7 +109,7 @@ same-length-4 : tie.Need-same-length-4 Inv-loop μ-loop
 same-length-4 c = own (c .before .before .before .before .before .before .before .before) .loop .inv .0 .sized
 
 returns-4 : tie.Need-returns-4 Inv-loop μ-loop
-returns-4 c = own (c .before .before .before .before .before .before .before .before) .loop .inv .0
+returns-4 c = own (c .before .before .before .before .before .before .before .before) .loop .inv
 
 cast-put-row : tie.Need-cast-put-row Inv-loop μ-loop
 cast-put-row c =
@@ -151,8 +152,7 @@ loop-again c =
     let a = start o .args in
     let p = start o .pre in
     let w = size t in
-    let l = t .before .before .before .before .before .loop-test .taken in
-    (
+    let l = t .before .before .before .before .before .loop-test .taken in (
       moved-as (now (a .s)) (ap (movedState (a .st) (n .next .given .0 .0)) (c .one-more .ensures)) refl
           (moved-inside (now (a .s)) (a .st) (a .from) (a .gathered) (now (a .room)) (a .st) (p .0)
           (o .loop .place) (o .loop .segments) (o .loop .at) (o .loop .numbers) (o .loop .room) (o .loop .inv .0)
@@ -167,7 +167,7 @@ same-length-5 : tie.Need-same-length-5 Inv-loop μ-loop
 same-length-5 c = c .before .loop .inv .0 .sized
 
 returns-5 : tie.Need-returns-5 Inv-loop μ-loop
-returns-5 c = c .before .loop .inv .0
+returns-5 c = c .before .loop .inv
 
 pub run-spec : {M : Type 1} → statement M
 run-spec =
