@@ -1,0 +1,79 @@
+-- What a hint is, and the step that goes by hints. Any words make hints. Assumes nothing.
+-- A hint says where a row is left for: the row reached, the level at which it is entered, and of which of the placing rule's choices it is.
+use Prim.Native.Nat.{ℕ, _+_, _-_, _*_, _/_, _%_, _^_}
+use mathlib.Core.Bool.{Bool}
+use mathlib.Core.List.{List}
+use lib.Dec.{eqb, ltb, leb}
+use lib.ListN.{length, getD}
+use Rattle.laws.specs.Choice.{pick}
+use Rattle.placing.specs.declared.Place.{Place}
+use Rattle.placing.specs.declared.Stepped.{Stepped}
+use Rattle.placing.specs.declared.Stepped.the-variants.{Placed}
+use Rattle.placing.specs.Table.{Table, tagAt, most, levelOf}
+use Rattle.placing.specs.Place.{countAt, reachedOf}
+use Rattle.placing.specs.Rule.{stepOf}
+
+-- the kinds: "a later place of the same group"; the same place again or the group once more; and the group once more where the place itself is used up
+abbrev pub none : ℕ
+none = 0
+
+abbrev pub later : ℕ → ℕ → ℕ
+later level row = level * 256 + row
+
+abbrev pub again : ℕ → ℕ → ℕ
+again level row = 4096 + level * 256 + row
+
+abbrev pub anew : ℕ → ℕ → ℕ
+anew level row = 8192 + level * 256 + row
+
+-- four hints are a word
+abbrev pub word : ℕ → ℕ → ℕ → ℕ → ℕ
+word a b c d = a + b * 65536 + c * 4294967296 + d * 281474976710656
+
+abbrev pub wordless : ℕ
+wordless = 0
+
+abbrev pub rowIn : ℕ → ℕ
+rowIn e = e % 256
+
+abbrev pub levelIn : ℕ → ℕ
+levelIn e = e / 256 % 16
+
+abbrev pub laneOf : ℕ → ℕ → ℕ
+laneOf w k = w / 2 ^ (16 * k) % 65536
+
+-- which of a row's sixteen hints may tell of a tag: any number would do, since a hint is taken for its own row's tag alone
+abbrev pub slotOf : ℕ → ℕ
+slotOf tag = tag * 12510139 / 2 ^ 21 % 16
+
+unfoldable pub hintAt : List ℕ → ℕ → ℕ → ℕ
+hintAt hints row tag = pick (ltb row (length hints / 4)) (laneOf (getD hints (row * 4 + slotOf tag / 4) 0) (slotOf tag % 4)) 0
+
+-- the row that is entered once more: a group's row stands before its head's
+abbrev pub countedOf : Table → ℕ → ℕ → ℕ
+countedOf t level r = pick (ltb level (levelOf t r)) (r - 1) r
+
+-- how often it is entered then, 0 where its number does not allow it
+unfoldable pub moreOf : Table → Place → ℕ → ℕ
+moreOf t p e = pick (ltb (countAt p (levelIn e)) (most t (countedOf t (levelIn e) (rowIn e)))) (countAt p (levelIn e) + 1) 0
+
+-- the number of the place reached does not allow the same place again
+abbrev pub usedUp : Table → Place → Bool
+usedUp t p = leb (most t (p .row)) (countAt p (levelOf t (p .row)))
+
+-- for the how manieth time the place of a hint is entered with a tag, 0 where the hint does not tell
+unfoldable pub timesOf : Table → Place → ℕ → ℕ → ℕ
+timesOf t p tag e =
+    pick (eqb e 0) 0
+    (pick (eqb (tagAt t (rowIn e)) tag)
+    (pick (ltb e 4096) 1
+    (pick (ltb e 8192) (moreOf t p e)
+    (pick (usedUp t p) (moreOf t p e) 0)))
+    0)
+
+abbrev pub quickBy : Table → Place → ℕ → ℕ → ℕ → Stepped
+quickBy t p tag e n = pick (eqb n 0) (stepOf t p tag) (Placed (reachedOf p (levelIn e) n (rowIn e) (levelOf t (rowIn e))))
+
+-- where the next segment goes, by its tag: the hint's place, or by the placing rule where the hint does not tell
+unfoldable pub quickOf : Table → List ℕ → Place → ℕ → Stepped
+quickOf t hints p tag = quickBy t p tag (hintAt hints (p .row) tag) (timesOf t p tag (hintAt hints (p .row) tag))

@@ -1,0 +1,3 @@
+pub mod Hint
+pub mod SkdupdHints
+pub mod TsdupdHints

@@ -1,0 +1,165 @@
+//! The placing rule of document 01 by hints: the same step as `Place::step`, for fewer instructions.
+pub mod tables;
+
+ghost use mathlib.Core.Path.{_≡_};
+ghost use Rattle.hints.specs.Hint.{hintAt, countedOf, moreOf, usedUp, timesOf, quickOf};
+ghost use Rattle.placing.specs.Table.{entryOf, levelOf};
+ghost use Rattle.placing.specs.Place.{countAt, keptOf, reachedOf};
+use placing::Place;
+use placing::Stepped;
+
+// The columns of a row that are read here.
+const TAG: usize = 1;
+
+const NUMBER: usize = 3;
+
+const LEVEL: usize = 5;
+
+// The number in a row's column, 0 past the last row.
+fn entry(table: &[[u32; 8]], row: usize, column: usize) -> u32
+    ensures { λ r. ⌜ r ≡ entryOf (now (table .entry)) row column ⌝ }
+{
+    if row < table.len() {
+        if column < 8 {
+            return table[row][column];
+        }
+    }
+    0
+}
+
+// The level of a row, 4 at the deepest.
+fn level_of(table: &[[u32; 8]], row: usize) -> usize
+    ensures { λ r. ⌜ r ≡ levelOf (now (table .entry)) row ⌝ }
+{
+    let level = entry(table, row, LEVEL);
+    if level < 4 {
+        return level as usize;
+    }
+    4
+}
+
+// The count of level k where the place at a level is entered for the n-th time, and in it the first place of each level down to the last.
+fn kept(own: u32, k: usize, level: usize, n: u32, last: usize) -> u32
+    ensures { λ r. ⌜ r ≡ keptOf own k level n last ⌝ }
+{
+    if k < level {
+        return own;
+    }
+    if k == level {
+        return n;
+    }
+    if k <= last { 1 } else { 0 }
+}
+
+// How often the place of a level has been entered.
+fn count(place: Place, level: usize) -> u32
+    ensures { λ r. ⌜ r ≡ countAt place level ⌝ }
+{
+    if level == 0 {
+        return place.c0;
+    }
+    if level == 1 {
+        return place.c1;
+    }
+    if level == 2 {
+        return place.c2;
+    }
+    if level == 3 {
+        return place.c3;
+    }
+    if level == 4 { place.c4 } else { 0 }
+}
+
+// The place in a row: that of a level entered for the n-th time, the levels below it anew.
+fn reached(place: Place, level: usize, n: u32, row: usize, last: usize) -> Place
+    ensures { λ r. ⌜ r ≡ reachedOf place level n row last ⌝ }
+{
+    Place {
+        row,
+        c0: kept(place.c0, 0, level, n, last),
+        c1: kept(place.c1, 1, level, n, last),
+        c2: kept(place.c2, 2, level, n, last),
+        c3: kept(place.c3, 3, level, n, last),
+        c4: kept(place.c4, 4, level, n, last),
+    }
+}
+
+// The hint for a row and a tag, 0 for none.
+fn hint(hints: &[u64], row: usize, tag: u32) -> usize
+    ensures { λ r. ⌜ r ≡ hintAt (now (hints .entry)) row tag ⌝ }
+{
+    if row < hints.len() / 4 {
+        let slot = ((tag as u64 * 12510139) >> 21) % 16;
+        let word = hints[row * 4 + (slot / 4) as usize];
+        return ((word >> (16 * (slot % 4))) % 65536) as usize;
+    }
+    0
+}
+
+// The row whose number is counted: a group's row stands before its head's.
+fn counted(table: &[[u32; 8]], level: usize, row: usize) -> usize
+    ensures { λ r. ⌜ r ≡ countedOf (now (table .entry)) level row ⌝ }
+{
+    if level < level_of(table, row) {
+        return if 0 < row { row - 1 } else { 0 };
+    }
+    row
+}
+
+// How often the place of a hint is entered then, 0 where its number does not allow it once more.
+fn more(place: Place, table: &[[u32; 8]], e: usize) -> u32
+    ensures { λ r. ⌜ r ≡ moreOf (now (table .entry)) place e ⌝ }
+{
+    let level = e / 256 % 16;
+    let n = count(place, level);
+    let row = counted(table, level, e % 256);
+    if n < entry(table, row, NUMBER) {
+        n + 1
+    } else {
+        0
+    }
+}
+
+// Whether the number of the place reached does not allow the same place again.
+fn used_up(place: Place, table: &[[u32; 8]]) -> bool
+    ensures { λ r. ⌜ r ≡ usedUp (now (table .entry)) place ⌝ }
+{
+    let row = place.row;
+    entry(table, row, NUMBER) <= count(place, level_of(table, row))
+}
+
+// For the how manieth time the place of a hint is entered with a tag, 0 where the hint does not tell.
+fn times(place: Place, table: &[[u32; 8]], tag: u32, e: usize) -> u32
+    ensures { λ r. ⌜ r ≡ timesOf (now (table .entry)) place tag e ⌝ }
+{
+    if e == 0 {
+        return 0;
+    }
+    if entry(table, e % 256, TAG) != tag {
+        return 0;
+    }
+    if e < 4096 {
+        return 1;
+    }
+    if e < 8192 {
+        return more(place, table, e);
+    }
+    if used_up(place, table) {
+        return more(place, table, e);
+    }
+    0
+}
+
+// The place of the next segment, by its tag: that of the hint, or by the placing rule where the hint does not tell.
+pub fn quick_step(place: Place, table: &[[u32; 8]], hints: &[u64], tag: u32) -> Stepped
+    ensures { λ r. ⌜ r ≡ quickOf (now (table .entry)) (now (hints .entry)) place tag ⌝ }
+{
+    let row = place.row;
+    let e = hint(hints, row, tag);
+    let n = times(place, table, tag, e);
+    if n == 0 {
+        return place.step(table, tag);
+    }
+    let r = e % 256;
+    Stepped::Placed(reached(place, e / 256 % 16, n, r, level_of(table, r)))
+}
