@@ -1,3 +1,6 @@
 pub mod Hint
 pub mod SkdupdHints
 pub mod TsdupdHints
+pub mod Ways
+pub mod Told
+pub mod Right
