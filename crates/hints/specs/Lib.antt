@@ -4,3 +4,4 @@ pub mod TsdupdHints
 pub mod Ways
 pub mod Told
 pub mod Right
+pub mod Laws
