@@ -1,5 +1,5 @@
 -- What a hint is, and the step that goes by hints. Any words make hints. Assumes nothing.
--- A hint says where a row is left for: the row reached, the level at which it is entered, and of which of the placing rule's choices it is.
+-- A hint says to which place a row is left: the place's row, the level at which it is entered, and which of the placing rule's choices it is.
 use Prim.Native.Nat.{ℕ, _+_, _-_, _*_, _/_, _%_, _^_}
 use mathlib.Core.Bool.{Bool}
 use mathlib.Core.List.{List}
@@ -9,22 +9,28 @@ use Rattle.laws.specs.Choice.{pick}
 use Rattle.placing.specs.declared.Place.{Place}
 use Rattle.placing.specs.declared.Stepped.{Stepped}
 use Rattle.placing.specs.declared.Stepped.the-variants.{Placed}
-use Rattle.placing.specs.Table.{Table, tagAt, most, levelOf}
+use Rattle.placing.specs.Table.{Table, tagAt, most}
 use Rattle.placing.specs.Place.{countAt, reachedOf}
 use Rattle.placing.specs.Rule.{stepOf}
 
--- the kinds: "a later place of the same group"; the same place again or the group once more; and the group once more where the place itself is used up
+-- "a later place of the same group", a segment or a group; "the same place again"; "the group once more", be it after its head was used up
 abbrev pub none : ℕ
 none = 0
 
 abbrev pub later : ℕ → ℕ → ℕ
 later level row = level * 256 + row
 
+abbrev pub laterGroup : ℕ → ℕ → ℕ
+laterGroup level row = 4096 + level * 256 + row
+
 abbrev pub again : ℕ → ℕ → ℕ
-again level row = 4096 + level * 256 + row
+again level row = 8192 + level * 256 + row
+
+abbrev pub onceMore : ℕ → ℕ → ℕ
+onceMore level row = 12288 + level * 256 + row
 
 abbrev pub anew : ℕ → ℕ → ℕ
-anew level row = 8192 + level * 256 + row
+anew level row = 20480 + level * 256 + row
 
 -- four hints are a word
 abbrev pub word : ℕ → ℕ → ℕ → ℕ → ℕ
@@ -39,40 +45,46 @@ rowIn e = e % 256
 abbrev pub levelIn : ℕ → ℕ
 levelIn e = e / 256 % 16
 
+-- 1 where the place is a group: its head is reached then, in the row below, one level deeper
+abbrev pub deeperIn : ℕ → ℕ
+deeperIn e = e / 4096 % 2
+
+abbrev pub headIn : ℕ → ℕ
+headIn e = rowIn e + deeperIn e
+
+abbrev pub lastIn : ℕ → ℕ
+lastIn e = levelIn e + deeperIn e
+
 abbrev pub laneOf : ℕ → ℕ → ℕ
 laneOf w k = w / 2 ^ (16 * k) % 65536
 
--- which of a row's sixteen hints may tell of a tag: any number would do, since a hint is taken for its own row's tag alone
+-- which of a row's sixteen hints may tell of a tag: any number would do, since a hint is taken for the tag of the row it leads to alone
 abbrev pub slotOf : ℕ → ℕ
 slotOf tag = tag * 12510139 / 2 ^ 21 % 16
 
 unfoldable pub hintAt : List ℕ → ℕ → ℕ → ℕ
 hintAt hints row tag = pick (ltb row (length hints / 4)) (laneOf (getD hints (row * 4 + slotOf tag / 4) 0) (slotOf tag % 4)) 0
 
--- the row that is entered once more: a group's row stands before its head's
-abbrev pub countedOf : Table → ℕ → ℕ → ℕ
-countedOf t level r = pick (ltb level (levelOf t r)) (r - 1) r
-
--- how often it is entered then, 0 where its number does not allow it
+-- how often the place of a hint is entered with this time, 0 where its number does not allow it
 unfoldable pub moreOf : Table → Place → ℕ → ℕ
-moreOf t p e = pick (ltb (countAt p (levelIn e)) (most t (countedOf t (levelIn e) (rowIn e)))) (countAt p (levelIn e) + 1) 0
+moreOf t p e = pick (ltb (countAt p (levelIn e)) (most t (rowIn e))) (countAt p (levelIn e) + 1) 0
 
--- the number of the place reached does not allow the same place again
-abbrev pub usedUp : Table → Place → Bool
-usedUp t p = leb (most t (p .row)) (countAt p (levelOf t (p .row)))
+-- one level deeper than a hint's, the number of the row reached does not allow it again
+abbrev pub usedUp : Table → Place → ℕ → Bool
+usedUp t p e = leb (most t (p .row)) (countAt p (levelIn e + 1))
 
 -- for the how manieth time the place of a hint is entered with a tag, 0 where the hint does not tell
 unfoldable pub timesOf : Table → Place → ℕ → ℕ → ℕ
 timesOf t p tag e =
     pick (eqb e 0) 0
-    (pick (eqb (tagAt t (rowIn e)) tag)
-    (pick (ltb e 4096) 1
-    (pick (ltb e 8192) (moreOf t p e)
-    (pick (usedUp t p) (moreOf t p e) 0)))
+    (pick (eqb (tagAt t (headIn e)) tag)
+    (pick (ltb e 8192) 1
+    (pick (ltb e 16384) (moreOf t p e)
+    (pick (usedUp t p e) (moreOf t p e) 0)))
     0)
 
 abbrev pub quickBy : Table → Place → ℕ → ℕ → ℕ → Stepped
-quickBy t p tag e n = pick (eqb n 0) (stepOf t p tag) (Placed (reachedOf p (levelIn e) n (rowIn e) (levelOf t (rowIn e))))
+quickBy t p tag e n = pick (eqb n 0) (stepOf t p tag) (Placed (reachedOf p (levelIn e) n (headIn e) (lastIn e)))
 
 -- where the next segment goes, by its tag: the hint's place, or by the placing rule where the hint does not tell
 unfoldable pub quickOf : Table → List ℕ → Place → ℕ → Stepped

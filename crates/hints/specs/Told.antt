@@ -3,13 +3,13 @@ use Prim.Native.Nat.{ℕ, zero, suc, _+_, _-_, _/_}
 use mathlib.Core.Bool.{Bool, true, false}
 use mathlib.Core.List.{List, [], _∷_}
 use lib.Dec.{eqb, ltb, leb}
-use Rattle.laws.specs.Choice.{pick, both}
+use Rattle.laws.specs.Choice.{pick, both, either}
 use Rattle.laws.specs.Sweep.{below}
 use Rattle.placing.specs.declared.Fit.{Fit}
 use Rattle.placing.specs.declared.Fit.the-variants.{At, Nowhere}
 use Rattle.placing.specs.Table.{Table, tagAt, levelOf, outer, later}
 use Rattle.placing.specs.Rule.{reachable, noneLeft, firstFit, fits}
-use Rattle.hints.specs.Hint.{rowIn, levelIn, laneOf, countedOf}
+use Rattle.hints.specs.Hint.{rowIn, levelIn, headIn, lastIn, laneOf}
 
 -- the place of a row at a level once more, which leads to a row with so many levels left below it; a later place of a level, likewise; or nothing
 pub data Told : Type 0 where
@@ -49,18 +49,22 @@ toldOf true t tag row = toldFrom (levelOf t row) t tag row
 toldOf false t tag row = anewFrom (levelOf t row) t tag row
 
 -- a hint says what is told
-abbrev pub says : Table → ℕ → ℕ → ℕ → ℕ → Bool
-says t e level r d = both (eqb level (levelIn e)) (both (eqb r (rowIn e)) (eqb (4 - d) (levelOf t r)))
+abbrev pub says : ℕ → ℕ → ℕ → ℕ → Bool
+says e level r d = both (eqb level (levelIn e)) (both (eqb r (headIn e)) (eqb (4 - d) (lastIn e)))
 
-abbrev pub agrees : Table → ℕ → Told → Bool
-agrees t e (More row level r d) = both (leb 4096 e) (both (eqb row (countedOf t level r)) (says t e level r d))
-agrees t e (Next level r d) = both (ltb e 4096) (says t e level r d)
-agrees t e Silent = false
+abbrev pub agrees : ℕ → Told → Bool
+agrees e (More row level r d) = both (leb 8192 e) (both (eqb row (rowIn e)) (says e level r d))
+agrees e (Next level r d) = both (ltb e 8192) (says e level r d)
+agrees e Silent = false
 
--- a hint is right that is none, or that says what is told for its own row's tag
+-- what the row itself is asked for stands one level deeper than the hint's place
+abbrev pub deeper : Table → ℕ → ℕ → Bool
+deeper t row e = either (ltb e 16384) (eqb (levelOf t row) (levelIn e + 1))
+
+-- a hint is right that is none, or that says what is told for the tag of the row it leads to
 abbrev pub rightBy : Bool → Table → ℕ → ℕ → Bool
 rightBy true t row e = true
-rightBy false t row e = agrees t e (toldOf (ltb e 8192) t (tagAt t (rowIn e)) row)
+rightBy false t row e = both (deeper t row e) (agrees e (toldOf (ltb e 16384) t (tagAt t (headIn e)) row))
 
 unfoldable pub hintRight : Table → ℕ → ℕ → Bool
 hintRight t row e = rightBy (eqb e 0) t row e

@@ -2,8 +2,8 @@
 pub mod tables;
 
 ghost use mathlib.Core.Path.{_≡_};
-ghost use Rattle.hints.specs.Hint.{hintAt, countedOf, moreOf, usedUp, timesOf, quickOf};
-ghost use Rattle.placing.specs.Table.{entryOf, levelOf};
+ghost use Rattle.hints.specs.Hint.{hintAt, moreOf, usedUp, timesOf, quickOf};
+ghost use Rattle.placing.specs.Table.{entryOf};
 ghost use Rattle.placing.specs.Place.{countAt, keptOf, reachedOf};
 use placing::Place;
 use placing::Stepped;
@@ -12,8 +12,6 @@ use placing::Stepped;
 const TAG: usize = 1;
 
 const NUMBER: usize = 3;
-
-const LEVEL: usize = 5;
 
 // The number in a row's column, 0 past the last row.
 fn entry(table: &[[u32; 8]], row: usize, column: usize) -> u32
@@ -25,17 +23,6 @@ fn entry(table: &[[u32; 8]], row: usize, column: usize) -> u32
         }
     }
     0
-}
-
-// The level of a row, 4 at the deepest.
-fn level_of(table: &[[u32; 8]], row: usize) -> usize
-    ensures { λ r. ⌜ r ≡ levelOf (now (table .entry)) row ⌝ }
-{
-    let level = entry(table, row, LEVEL);
-    if level < 4 {
-        return level as usize;
-    }
-    4
 }
 
 // The count of level k where the place at a level is entered for the n-th time, and in it the first place of each level down to the last.
@@ -96,36 +83,24 @@ fn hint(hints: &[u64], row: usize, tag: u32) -> usize
     0
 }
 
-// The row whose number is counted: a group's row stands before its head's.
-fn counted(table: &[[u32; 8]], level: usize, row: usize) -> usize
-    ensures { λ r. ⌜ r ≡ countedOf (now (table .entry)) level row ⌝ }
-{
-    if level < level_of(table, row) {
-        return if 0 < row { row - 1 } else { 0 };
-    }
-    row
-}
-
-// How often the place of a hint is entered then, 0 where its number does not allow it once more.
+// How often the place of a hint is entered with this time, 0 where its number does not allow it.
 fn more(place: Place, table: &[[u32; 8]], e: usize) -> u32
     ensures { λ r. ⌜ r ≡ moreOf (now (table .entry)) place e ⌝ }
 {
-    let level = e / 256 % 16;
-    let n = count(place, level);
-    let row = counted(table, level, e % 256);
-    if n < entry(table, row, NUMBER) {
+    let n = count(place, e / 256 % 16);
+    if n < entry(table, e % 256, NUMBER) {
         n + 1
     } else {
         0
     }
 }
 
-// Whether the number of the place reached does not allow the same place again.
-fn used_up(place: Place, table: &[[u32; 8]]) -> bool
-    ensures { λ r. ⌜ r ≡ usedUp (now (table .entry)) place ⌝ }
+// Whether one level deeper than a hint's the number of the row reached does not allow it again.
+fn used_up(place: Place, table: &[[u32; 8]], e: usize) -> bool
+    ensures { λ r. ⌜ r ≡ usedUp (now (table .entry)) place e ⌝ }
 {
     let row = place.row;
-    entry(table, row, NUMBER) <= count(place, level_of(table, row))
+    entry(table, row, NUMBER) <= count(place, e / 256 % 16 + 1)
 }
 
 // For the how manieth time the place of a hint is entered with a tag, 0 where the hint does not tell.
@@ -135,16 +110,16 @@ fn times(place: Place, table: &[[u32; 8]], tag: u32, e: usize) -> u32
     if e == 0 {
         return 0;
     }
-    if entry(table, e % 256, TAG) != tag {
+    if entry(table, e % 256 + e / 4096 % 2, TAG) != tag {
         return 0;
     }
-    if e < 4096 {
+    if e < 8192 {
         return 1;
     }
-    if e < 8192 {
+    if e < 16384 {
         return more(place, table, e);
     }
-    if used_up(place, table) {
+    if used_up(place, table, e) {
         return more(place, table, e);
     }
     0
@@ -160,6 +135,7 @@ pub fn quick_step(place: Place, table: &[[u32; 8]], hints: &[u64], tag: u32) -> 
     if n == 0 {
         return place.step(table, tag);
     }
-    let r = e % 256;
-    Stepped::Placed(reached(place, e / 256 % 16, n, r, level_of(table, r)))
+    let level = e / 256 % 16;
+    let deeper = e / 4096 % 2;
+    Stepped::Placed(reached(place, level, n, e % 256 + deeper, level + deeper))
 }

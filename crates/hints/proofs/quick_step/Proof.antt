@@ -19,16 +19,19 @@ returns c =
     let a = c .before .before .before .before .before .args in
     quick-not (now (a .table)) (now (a .hints)) (a .place) (a .tag) (c .before .before .before .hint .result) (c .before .before .times .result) (c .before .before .before .hint .ensures) (c .before .before .times .ensures) (c .before .if1 .taken) (c .step .result) (c .step .ensures)
 
-level-of-requires : tie.Need-level-of-requires
-level-of-requires c κs = search needs
+add-reached : tie.Need-add-reached
+add-reached c = search needs
+
+add-reached-2 : tie.Need-add-reached-2
+add-reached-2 c = search needs
 
 reached-requires : tie.Need-reached-requires
 reached-requires c κs = search needs
 
 returns-2 : tie.Need-returns-2
 returns-2 c =
-    let a = c .before .before .before .before .before .before .args in
-    quick-told (now (a .table)) (now (a .hints)) (a .place) (a .tag) (c .before .before .before .before .hint .result) (c .before .before .before .times .result) (c .before .before .before .before .hint .ensures) (c .before .before .before .times .ensures) (c .before .before .if1 .left) (c .reached .result) (c .before .level-of .result) (c .before .level-of .ensures) (c .reached .ensures)
+    let a = c .before .before .before .before .before .args in
+    quick-told (now (a .table)) (now (a .hints)) (a .place) (a .tag) (c .before .before .before .hint .result) (c .before .before .times .result) (c .before .before .before .hint .ensures) (c .before .before .times .ensures) (c .before .if1 .left) (c .reached .result) (c .reached .ensures)
 
 pub quick-step-spec : {M : Type 1} → statement M
 quick-step-spec =
@@ -38,6 +41,7 @@ quick-step-spec =
     times-requires
     step-requires
     returns
-    level-of-requires
+    add-reached
+    add-reached-2
     reached-requires
     returns-2)

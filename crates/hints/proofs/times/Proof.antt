@@ -10,6 +10,9 @@ returns c =
     let a = c .before .args in
     times-none (now (a .table)) (a .place) (a .e) (a .tag) (c .if1 .taken)
 
+add-entry : tie.Need-add-entry
+add-entry c = search needs
+
 entry-requires : tie.Need-entry-requires
 entry-requires c κs = search needs
 
@@ -52,6 +55,7 @@ times-spec =
     tie.close
     (tie.spec
     returns
+    add-entry
     entry-requires
     returns-2
     returns-3
