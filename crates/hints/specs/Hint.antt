@@ -1,11 +1,12 @@
 -- What a hint is, and the step that goes by hints. Any words make hints. Assumes nothing.
--- A hint says to which place a row is left: the place's row, the level at which it is entered, and which of the placing rule's choices it is.
+-- A hint says for which row a row is left, the level at which it is entered, and which of the placing rule's choices it is.
 use Prim.Native.Nat.{ℕ, _+_, _-_, _*_, _/_, _%_, _^_}
 use mathlib.Core.Bool.{Bool}
 use mathlib.Core.List.{List}
-use lib.Dec.{eqb, ltb, leb}
+use lib.Dec.{eqb, ltb}
 use lib.ListN.{length, getD}
 use Rattle.laws.specs.Choice.{pick}
+use Rattle.hints.specs.declared.Pair.{Pair}
 use Rattle.placing.specs.declared.Place.{Place}
 use Rattle.placing.specs.declared.Stepped.{Stepped}
 use Rattle.placing.specs.declared.Stepped.the-variants.{Placed}
@@ -45,15 +46,16 @@ rowIn e = e % 256
 abbrev pub levelIn : ℕ → ℕ
 levelIn e = e / 256 % 16
 
--- 1 where the place is a group: its head is reached then, in the row below, one level deeper
+-- 1 where a group is entered: its head is reached then, one level deeper
 abbrev pub deeperIn : ℕ → ℕ
 deeperIn e = e / 4096 % 2
 
-abbrev pub headIn : ℕ → ℕ
-headIn e = rowIn e + deeperIn e
-
 abbrev pub lastIn : ℕ → ℕ
 lastIn e = levelIn e + deeperIn e
+
+-- the place entered: a group's row stands above its head's
+abbrev pub placeIn : ℕ → ℕ
+placeIn e = rowIn e - deeperIn e
 
 abbrev pub laneOf : ℕ → ℕ → ℕ
 laneOf w k = w / 2 ^ (16 * k) % 65536
@@ -65,26 +67,31 @@ slotOf tag = tag * 12510139 / 2 ^ 21 % 16
 unfoldable pub hintAt : List ℕ → ℕ → ℕ → ℕ
 hintAt hints row tag = pick (ltb row (length hints / 4)) (laneOf (getD hints (row * 4 + slotOf tag / 4) 0) (slotOf tag % 4)) 0
 
--- how often the place of a hint is entered with this time, 0 where its number does not allow it
-unfoldable pub moreOf : Table → Place → ℕ → ℕ
-moreOf t p e = pick (ltb (countAt p (levelIn e)) (most t (rowIn e))) (countAt p (levelIn e) + 1) 0
+-- the counts of a level and of the one below it
+abbrev pub countsOf : Place → ℕ → Pair
+countsOf p level = record { own = countAt p level; below = countAt p (level + 1) }
 
--- one level deeper than a hint's, the number of the row reached does not allow it again
-abbrev pub usedUp : Table → Place → ℕ → Bool
-usedUp t p e = leb (most t (p .row)) (countAt p (levelIn e + 1))
+-- a place entered so often, once more; 0 where its number does not allow it
+abbrev pub allowedOf : ℕ → ℕ → ℕ
+allowedOf n number = pick (ltb n number) (n + 1) 0
 
--- for the how manieth time the place of a hint is entered with a tag, 0 where the hint does not tell
+abbrev pub moreOf : Table → Place → ℕ → ℕ
+moreOf t p e = allowedOf (countAt p (levelIn e)) (most t (placeIn e))
+
+-- one level deeper than a hint's, the number of the row reached allows it again
+abbrev pub unused : Table → Place → ℕ → Bool
+unused t p e = ltb (countAt p (levelIn e + 1)) (most t (p .row))
+
+-- for the how manieth time the place of a hint is entered once more, 0 where the hint does not tell
+unfoldable pub repeatedOf : Table → Place → ℕ → ℕ
+repeatedOf t p e = pick (ltb e 16384) (moreOf t p e) (pick (unused t p e) 0 (moreOf t p e))
+
+-- the same with a tag, for any hint
 unfoldable pub timesOf : Table → Place → ℕ → ℕ → ℕ
-timesOf t p tag e =
-    pick (eqb e 0) 0
-    (pick (eqb (tagAt t (headIn e)) tag)
-    (pick (ltb e 8192) 1
-    (pick (ltb e 16384) (moreOf t p e)
-    (pick (usedUp t p e) (moreOf t p e) 0)))
-    0)
+timesOf t p tag e = pick (eqb e 0) 0 (pick (eqb (tagAt t (rowIn e)) tag) (pick (ltb e 8192) 1 (repeatedOf t p e)) 0)
 
 abbrev pub quickBy : Table → Place → ℕ → ℕ → ℕ → Stepped
-quickBy t p tag e n = pick (eqb n 0) (stepOf t p tag) (Placed (reachedOf p (levelIn e) n (headIn e) (lastIn e)))
+quickBy t p tag e n = pick (eqb n 0) (stepOf t p tag) (Placed (reachedOf p (levelIn e) n (rowIn e) (lastIn e)))
 
 -- where the next segment goes, by its tag: the hint's place, or by the placing rule where the hint does not tell
 unfoldable pub quickOf : Table → List ℕ → Place → ℕ → Stepped

@@ -22,9 +22,9 @@ use Rattle.placing.specs.Rule.{reachable, noneLeft, orFit, firstFit, fits, go, 
 use Rattle.placing.specs.Walks.{first-append, first-pick-none, more-fits, more-none, step-start}
 use Rattle.placing.specs.Skdupd.{skdupdTable}
 use Rattle.placing.specs.Tsdupd.{tsdupdTable}
-use Rattle.hints.specs.Hint.{rowIn, levelIn, headIn, lastIn, laneOf, slotOf, hintAt, moreOf, usedUp, timesOf, quickBy, quickOf}
+use Rattle.hints.specs.Hint.{rowIn, levelIn, lastIn, placeIn, laneOf, slotOf, hintAt, moreOf, unused, timesOf, quickBy, quickOf}
 use Rattle.hints.specs.Told.{Told, More, Next, Silent, nextBy, toldBy, laterFit, passed, toldFrom, anewFrom, toldOf, says, agrees, deeper, rightBy, hintRight, wordBy, rightFrom, right}
-use Rattle.hints.specs.Ways.{more-allowed, more-forbidden, times-none, times-other, times-later, times-again, times-anew, times-left}
+use Rattle.hints.specs.Ways.{repeated-again, repeated-unused, repeated-anew, times-none, times-other, times-later, times-repeated}
 use Rattle.hints.specs.SkdupdHints.{skdupdHints}
 use Rattle.hints.specs.TsdupdHints.{tsdupdHints}
 use Rattle.hints.specs.Right.{skdupd-right, tsdupd-right}
@@ -117,33 +117,33 @@ holds false h = absurd h
 module _ (t : Table) (p : Place) (e : ℕ) (s : Stepped) where
   -- the place that a hint says
   abbrev Said : ℕ → Type 0
-  Said n = s ≡ Placed (reachedOf p (levelIn e) n (headIn e) (lastIn e))
+  Said n = s ≡ Placed (reachedOf p (levelIn e) n (rowIn e) (lastIn e))
 
   level-said : (level r d : ℕ) → T (says e level r d) → level ≡ levelIn e
-  level-said level r d h = eqb-true level (levelIn e) (holds _ (both-left (eqb level (levelIn e)) (both (eqb r (headIn e)) (eqb (4 - d) (lastIn e))) h))
+  level-said level r d h = eqb-true level (levelIn e) (holds _ (both-left (eqb level (levelIn e)) (both (eqb r (rowIn e)) (eqb (4 - d) (lastIn e))) h))
 
   said-is : (level r d n : ℕ) → T (says e level r d) → s ≡ Placed (reachedOf p level n r (4 - d)) → Said n
   said-is level r d n h q =
       let a = level-said level r d h in
-      let k = both-right (eqb level (levelIn e)) (both (eqb r (headIn e)) (eqb (4 - d) (lastIn e))) h in
-      let b = eqb-true r (headIn e) (holds _ (both-left (eqb r (headIn e)) (eqb (4 - d) (lastIn e)) k)) in
-      let c = eqb-true (4 - d) (lastIn e) (holds _ (both-right (eqb r (headIn e)) (eqb (4 - d) (lastIn e)) k)) in
-      q ∙ ap (λ x. Placed (reachedOf p level n r x)) c ∙ ap (λ x. Placed (reachedOf p level n x (lastIn e))) b ∙ ap (λ x. Placed (reachedOf p x n (headIn e) (lastIn e))) a
+      let k = both-right (eqb level (levelIn e)) (both (eqb r (rowIn e)) (eqb (4 - d) (lastIn e))) h in
+      let b = eqb-true r (rowIn e) (holds _ (both-left (eqb r (rowIn e)) (eqb (4 - d) (lastIn e)) k)) in
+      let c = eqb-true (4 - d) (lastIn e) (holds _ (both-right (eqb r (rowIn e)) (eqb (4 - d) (lastIn e)) k)) in
+      q ∙ ap (λ x. Placed (reachedOf p level n r x)) c ∙ ap (λ x. Placed (reachedOf p level n x (lastIn e))) b ∙ ap (λ x. Placed (reachedOf p x n (rowIn e) (lastIn e))) a
 
   next-said : (x : Told) → T (agrees e x) → Meets t p x s → e < 8192 → Said 1
   next-said (More row level r d) h m l =
-      let k = leb-true 8192 e (holds _ (both-left (leb 8192 e) (both (eqb row (rowIn e)) (says e level r d)) h)) in
+      let k = leb-true 8192 e (holds _ (both-left (leb 8192 e) (both (eqb row (placeIn e)) (says e level r d)) h)) in
       absurd (omega arith)
   next-said (Next level r d) h m l = said-is level r d 1 (both-right (ltb e 8192) (says e level r d) h) m
   next-said Silent h m l = absurd h
 
-  more-said : (x : Told) → T (agrees e x) → Meets t p x s → 8192 ≤ e → countAt p (levelIn e) < most t (rowIn e) → Said (countAt p (levelIn e) + 1)
+  more-said : (x : Told) → T (agrees e x) → Meets t p x s → 8192 ≤ e → countAt p (levelIn e) < most t (placeIn e) → Said (countAt p (levelIn e) + 1)
   more-said (More row level r d) h m g l =
-      let k = both-right (leb 8192 e) (both (eqb row (rowIn e)) (says e level r d)) h in
-      let w = eqb-true row (rowIn e) (holds _ (both-left (eqb row (rowIn e)) (says e level r d) k)) in
-      let y = both-right (eqb row (rowIn e)) (says e level r d) k in
+      let k = both-right (leb 8192 e) (both (eqb row (placeIn e)) (says e level r d)) h in
+      let w = eqb-true row (placeIn e) (holds _ (both-left (eqb row (placeIn e)) (says e level r d) k)) in
+      let y = both-right (eqb row (placeIn e)) (says e level r d) k in
       let a = level-said level r d y in
-      let l₁ = subst (λ x. countAt p x < most t (rowIn e)) (sym a) l in
+      let l₁ = subst (λ x. countAt p x < most t (placeIn e)) (sym a) l in
       let l₂ = subst (λ x. countAt p level < most t x) (sym w) l₁ in
       subst (λ x. Said (countAt p x + 1)) a (said-is level r d (countAt p level + 1) y (m l₂))
   more-said (Next level r d) h m g l =
@@ -165,52 +165,55 @@ module _ (t : Table) (p : Place) (tag e : ℕ) where
 
   told-more : (x : Told) → T (agrees e x) → Meets t p x (stepOf t p tag) → 8192 ≤ e → moreOf t p e ≡ timesOf t p tag e → Right
   told-more x h m g q =
-      elim (decLt (countAt p (levelIn e)) (most t (rowIn e))) [
+      elim (decLt (countAt p (levelIn e)) (most t (placeIn e))) [
         | yes l ↦
-            let w = more-allowed t p e (countAt p (levelIn e)) (most t (rowIn e)) refl refl l in
+            let w : countAt p (levelIn e) + 1 ≡ moreOf t p e = rw (lt-ltb (countAt p (levelIn e)) (most t (placeIn e)) l) in
             told (countAt p (levelIn e) + 1) (w ∙ q) (omega arith) (more-said t p e (stepOf t p tag) x h m g l)
-        | no l ↦ untold (more-forbidden t p e (countAt p (levelIn e)) (most t (rowIn e)) refl refl (omega arith) ∙ q)
+        | no l ↦
+            let k : most t (placeIn e) ≤ countAt p (levelIn e) = omega arith in
+            let w : 0 ≡ moreOf t p e = rw (le-ltb (countAt p (levelIn e)) (most t (placeIn e)) k) in
+            untold (w ∙ q)
       ]
 
   told-step : Meets t p (toldFrom (levelOf t (p .row)) t tag (p .row)) (stepOf t p tag)
   told-step = rw (sym (step-start t p tag (levelOf t (p .row)) refl)) (told-meets t p tag (levelOf t (p .row)) (p .row))
 
-  anew-step : levelOf t (p .row) ≡ levelIn e + 1 → usedUp t p e ≡ true → Meets t p (anewFrom (levelOf t (p .row)) t tag (p .row)) (stepOf t p tag)
-  anew-step k u =
-      let l = leb-true (most t (p .row)) (countAt p (levelIn e + 1)) u in
+  anew-step : levelOf t (p .row) ≡ levelIn e + 1 → most t (p .row) ≤ countAt p (levelIn e + 1) → Meets t p (anewFrom (levelOf t (p .row)) t tag (p .row)) (stepOf t p tag)
+  anew-step k l =
       rw (sym (step-start t p tag (levelOf t (p .row)) refl))
       (anew-meets t p tag (levelOf t (p .row)) (p .row) (subst (λ x. most t (p .row) ≤ countAt p x) (sym k) l))
 
   deeper-is : T (deeper t (p .row) e) → ltb e 16384 ≡ false → levelOf t (p .row) ≡ levelIn e + 1
   deeper-is h b = eqb-true (levelOf t (p .row)) (levelIn e + 1) (holds _ (rw b at h))
 
-  right-told : T (deeper t (p .row) e) → T (agrees e (toldOf (ltb e 16384) t tag (p .row))) → (e ≡ 0 → ⊥) → tagAt t (headIn e) ≡ tag → Right
+  right-told : T (deeper t (p .row) e) → T (agrees e (toldOf (ltb e 16384) t tag (p .row))) → (e ≡ 0 → ⊥) → tagAt t (rowIn e) ≡ tag → Right
   right-told d h z k =
       choose (ltb e 8192) (λ a.
       let l = ltb-true e 8192 a in
       let b : ltb e 16384 ≡ true = lt-ltb e 16384 (omega arith) in
-      told 1 (times-later t p e tag z (tagAt t (headIn e)) refl k l) (omega arith)
+      told 1 (times-later t p e tag z (tagAt t (rowIn e)) refl k l) (omega arith)
       (next-said t p e (stepOf t p tag) (toldFrom (levelOf t (p .row)) t tag (p .row)) (rw b at h) told-step l)) (λ a.
       let g = ltb-false e 8192 a in
+      let r = times-repeated t p e tag z (tagAt t (rowIn e)) refl k g in
       choose (ltb e 16384) (λ b.
-      told-more (toldFrom (levelOf t (p .row)) t tag (p .row)) (rw b at h) told-step g
-      (times-again t p e tag z (tagAt t (headIn e)) refl k g (ltb-true e 16384 b) (moreOf t p e) refl)) (λ b.
-      choose (usedUp t p e) (λ u.
-      told-more (anewFrom (levelOf t (p .row)) t tag (p .row)) (rw b at h) (anew-step (deeper-is d b) u) g
-      (times-anew t p e tag z (tagAt t (headIn e)) refl k g (ltb-false e 16384 b) (usedUp t p e) refl u (moreOf t p e) refl)) (λ u.
-      untold (times-left t p e tag z (tagAt t (headIn e)) refl k g (ltb-false e 16384 b) (usedUp t p e) refl u))))
+      told-more (toldFrom (levelOf t (p .row)) t tag (p .row)) (rw b at h) told-step g (repeated-again t p e (ltb-true e 16384 b) ∙ r)) (λ b.
+      let w = ltb-false e 16384 b in
+      choose (unused t p e) (λ u.
+      untold (repeated-unused t p e w (ltb-true (countAt p (levelIn e + 1)) (most t (p .row)) u) ∙ r)) (λ u.
+      let l = ltb-false (countAt p (levelIn e + 1)) (most t (p .row)) u in
+      told-more (anewFrom (levelOf t (p .row)) t tag (p .row)) (rw b at h) (anew-step (deeper-is d b) l) g (repeated-anew t p e w l ∙ r))))
 
   right-hint : T (hintRight t (p .row) e) → Right
   unfolding hintRight
   right-hint h =
       choose (eqb e 0) (λ z. untold (times-none t p e tag (eqb-true e 0 z))) (λ z.
       let n = eqb-false e 0 z in
-      let d = both-left (deeper t (p .row) e) (agrees e (toldOf (ltb e 16384) t (tagAt t (headIn e)) (p .row))) (rw z at h) in
-      let m = both-right (deeper t (p .row) e) (agrees e (toldOf (ltb e 16384) t (tagAt t (headIn e)) (p .row))) (rw z at h) in
-      choose (eqb (tagAt t (headIn e)) tag) (λ k.
-      let q = eqb-true (tagAt t (headIn e)) tag k in
+      let d = both-left (deeper t (p .row) e) (agrees e (toldOf (ltb e 16384) t (tagAt t (rowIn e)) (p .row))) (rw z at h) in
+      let m = both-right (deeper t (p .row) e) (agrees e (toldOf (ltb e 16384) t (tagAt t (rowIn e)) (p .row))) (rw z at h) in
+      choose (eqb (tagAt t (rowIn e)) tag) (λ k.
+      let q = eqb-true (tagAt t (rowIn e)) tag k in
       right-told d (subst (λ x. T (agrees e (toldOf (ltb e 16384) t x (p .row)))) q m) n q) (λ k.
-      untold (times-other t p e tag n (tagAt t (headIn e)) refl (eqb-false (tagAt t (headIn e)) tag k))))
+      untold (times-other t p e tag n (tagAt t (rowIn e)) refl (eqb-false (tagAt t (rowIn e)) tag k))))
 
 -- Every hint of a list
 

@@ -9,7 +9,7 @@ use Rattle.placing.specs.declared.Fit.{Fit}
 use Rattle.placing.specs.declared.Fit.the-variants.{At, Nowhere}
 use Rattle.placing.specs.Table.{Table, tagAt, levelOf, outer, later}
 use Rattle.placing.specs.Rule.{reachable, noneLeft, firstFit, fits}
-use Rattle.hints.specs.Hint.{rowIn, levelIn, headIn, lastIn, laneOf}
+use Rattle.hints.specs.Hint.{rowIn, levelIn, lastIn, placeIn, laneOf}
 
 -- the place of a row at a level once more, which leads to a row with so many levels left below it; a later place of a level, likewise; or nothing
 pub data Told : Type 0 where
@@ -50,10 +50,10 @@ toldOf false t tag row = anewFrom (levelOf t row) t tag row
 
 -- a hint says what is told
 abbrev pub says : ℕ → ℕ → ℕ → ℕ → Bool
-says e level r d = both (eqb level (levelIn e)) (both (eqb r (headIn e)) (eqb (4 - d) (lastIn e)))
+says e level r d = both (eqb level (levelIn e)) (both (eqb r (rowIn e)) (eqb (4 - d) (lastIn e)))
 
 abbrev pub agrees : ℕ → Told → Bool
-agrees e (More row level r d) = both (leb 8192 e) (both (eqb row (rowIn e)) (says e level r d))
+agrees e (More row level r d) = both (leb 8192 e) (both (eqb row (placeIn e)) (says e level r d))
 agrees e (Next level r d) = both (ltb e 8192) (says e level r d)
 agrees e Silent = false
 
@@ -64,7 +64,7 @@ deeper t row e = either (ltb e 16384) (eqb (levelOf t row) (levelIn e + 1))
 -- a hint is right that is none, or that says what is told for the tag of the row it leads to
 abbrev pub rightBy : Bool → Table → ℕ → ℕ → Bool
 rightBy true t row e = true
-rightBy false t row e = both (deeper t row e) (agrees e (toldOf (ltb e 16384) t (tagAt t (headIn e)) row))
+rightBy false t row e = both (deeper t row e) (agrees e (toldOf (ltb e 16384) t (tagAt t (rowIn e)) row))
 
 unfoldable pub hintRight : Table → ℕ → ℕ → Bool
 hintRight t row e = rightBy (eqb e 0) t row e

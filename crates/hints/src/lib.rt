@@ -2,11 +2,17 @@
 pub mod tables;
 
 ghost use mathlib.Core.Path.{_≡_};
-ghost use Rattle.hints.specs.Hint.{hintAt, moreOf, usedUp, timesOf, quickOf};
+ghost use Rattle.hints.specs.Hint.{hintAt, placeIn, countsOf, allowedOf, repeatedOf, timesOf, quickOf};
 ghost use Rattle.placing.specs.Table.{entryOf};
-ghost use Rattle.placing.specs.Place.{countAt, keptOf, reachedOf};
+ghost use Rattle.placing.specs.Place.{keptOf, reachedOf};
 use placing::Place;
 use placing::Stepped;
+
+// How often the place of a level has been entered, and that of the level below.
+struct Pair {
+    own: u32,
+    below: u32,
+}
 
 // The columns of a row that are read here.
 const TAG: usize = 1;
@@ -38,23 +44,38 @@ fn kept(own: u32, k: usize, level: usize, n: u32, last: usize) -> u32
     if k <= last { 1 } else { 0 }
 }
 
-// How often the place of a level has been entered.
-fn count(place: Place, level: usize) -> u32
-    ensures { λ r. ⌜ r ≡ countAt place level ⌝ }
+// The counts of a level and of the one below it.
+fn counts(place: Place, level: usize) -> Pair
+    ensures { λ r. ⌜ r ≡ countsOf place level ⌝ }
 {
     if level == 0 {
-        return place.c0;
+        return Pair {
+            own: place.c0,
+            below: place.c1,
+        };
     }
     if level == 1 {
-        return place.c1;
+        return Pair {
+            own: place.c1,
+            below: place.c2,
+        };
     }
     if level == 2 {
-        return place.c2;
+        return Pair {
+            own: place.c2,
+            below: place.c3,
+        };
     }
     if level == 3 {
-        return place.c3;
+        return Pair {
+            own: place.c3,
+            below: place.c4,
+        };
     }
-    if level == 4 { place.c4 } else { 0 }
+    Pair {
+        own: if level == 4 { place.c4 } else { 0 },
+        below: 0,
+    }
 }
 
 // The place in a row: that of a level entered for the n-th time, the levels below it anew.
@@ -83,24 +104,36 @@ fn hint(hints: &[u64], row: usize, tag: u32) -> usize
     0
 }
 
-// How often the place of a hint is entered with this time, 0 where its number does not allow it.
-fn more(place: Place, table: &[[u32; 8]], e: usize) -> u32
-    ensures { λ r. ⌜ r ≡ moreOf (now (table .entry)) place e ⌝ }
+// The place that a hint enters: a group's row stands above its head's.
+fn place_in(e: usize) -> usize
+    ensures { λ r. ⌜ r ≡ placeIn e ⌝ }
 {
-    let n = count(place, e / 256 % 16);
-    if n < entry(table, e % 256, NUMBER) {
-        n + 1
-    } else {
-        0
-    }
+    let row = e % 256;
+    let deeper = e / 4096 % 2;
+    if deeper < row { row - deeper } else { 0 }
 }
 
-// Whether one level deeper than a hint's the number of the row reached does not allow it again.
-fn used_up(place: Place, table: &[[u32; 8]], e: usize) -> bool
-    ensures { λ r. ⌜ r ≡ usedUp (now (table .entry)) place e ⌝ }
+// A place entered so often, once more; 0 where its number does not allow it.
+fn allowed(n: u32, number: u32) -> u32
+    ensures { λ r. ⌜ r ≡ allowedOf n number ⌝ }
+{
+    if n < number { n + 1 } else { 0 }
+}
+
+// For the how manieth time the place of a hint is entered once more, 0 where the hint does not tell.
+fn repeated(place: Place, table: &[[u32; 8]], e: usize) -> u32
+    ensures { λ r. ⌜ r ≡ repeatedOf (now (table .entry)) place e ⌝ }
 {
     let row = place.row;
-    entry(table, row, NUMBER) <= count(place, e / 256 % 16 + 1)
+    let c = counts(place, e / 256 % 16);
+    let n = allowed(c.own, entry(table, place_in(e), NUMBER));
+    if e < 16384 {
+        return n;
+    }
+    if c.below < entry(table, row, NUMBER) {
+        return 0;
+    }
+    n
 }
 
 // For the how manieth time the place of a hint is entered with a tag, 0 where the hint does not tell.
@@ -110,19 +143,13 @@ fn times(place: Place, table: &[[u32; 8]], tag: u32, e: usize) -> u32
     if e == 0 {
         return 0;
     }
-    if entry(table, e % 256 + e / 4096 % 2, TAG) != tag {
+    if entry(table, e % 256, TAG) != tag {
         return 0;
     }
     if e < 8192 {
         return 1;
     }
-    if e < 16384 {
-        return more(place, table, e);
-    }
-    if used_up(place, table, e) {
-        return more(place, table, e);
-    }
-    0
+    repeated(place, table, e)
 }
 
 // The place of the next segment, by its tag: that of the hint, or by the placing rule where the hint does not tell.
@@ -136,6 +163,6 @@ pub fn quick_step(place: Place, table: &[[u32; 8]], hints: &[u64], tag: u32) -> 
         return place.step(table, tag);
     }
     let level = e / 256 % 16;
-    let deeper = e / 4096 % 2;
-    Stepped::Placed(reached(place, level, n, e % 256 + deeper, level + deeper))
+    let last = level + e / 4096 % 2;
+    Stepped::Placed(reached(place, level, n, e % 256, last))
 }

@@ -19,11 +19,8 @@ returns c =
     let a = c .before .before .before .before .before .args in
     quick-not (now (a .table)) (now (a .hints)) (a .place) (a .tag) (c .before .before .before .hint .result) (c .before .before .times .result) (c .before .before .before .hint .ensures) (c .before .before .times .ensures) (c .before .if1 .taken) (c .step .result) (c .step .ensures)
 
-add-reached : tie.Need-add-reached
-add-reached c = search needs
-
-add-reached-2 : tie.Need-add-reached-2
-add-reached-2 c = search needs
+add-last : tie.Need-add-last
+add-last c = search needs
 
 reached-requires : tie.Need-reached-requires
 reached-requires c κs = search needs
@@ -41,7 +38,6 @@ quick-step-spec =
     times-requires
     step-requires
     returns
-    add-reached
-    add-reached-2
+    add-last
     reached-requires
     returns-2)
