@@ -1,0 +1,98 @@
+-- What a hint is, and the step that goes by hints. Any words make hints. Assumes nothing.
+-- A hint says for which row a row is left, the level at which it is entered, and which of the placing rule's choices it is.
+use Prim.Native.Nat.{ℕ, _+_, _-_, _*_, _/_, _%_, _^_}
+use mathlib.Core.Bool.{Bool}
+use mathlib.Core.List.{List}
+use lib.Dec.{eqb, ltb}
+use lib.ListN.{length, getD}
+use Rattle.laws.specs.Choice.{pick}
+use Rattle.hints.specs.declared.Pair.{Pair}
+use Rattle.placing.specs.declared.Place.{Place}
+use Rattle.placing.specs.declared.Stepped.{Stepped}
+use Rattle.placing.specs.declared.Stepped.the-variants.{Placed}
+use Rattle.placing.specs.Table.{Table, tagAt, most}
+use Rattle.placing.specs.Place.{countAt, reachedOf}
+use Rattle.placing.specs.Rule.{stepOf}
+
+-- "a later place of the same group", a segment or a group; "the same place again"; "the group once more", be it after its head was used up
+abbrev pub none : ℕ
+none = 0
+
+abbrev pub later : ℕ → ℕ → ℕ
+later level row = level * 256 + row
+
+abbrev pub laterGroup : ℕ → ℕ → ℕ
+laterGroup level row = 4096 + level * 256 + row
+
+abbrev pub again : ℕ → ℕ → ℕ
+again level row = 8192 + level * 256 + row
+
+abbrev pub onceMore : ℕ → ℕ → ℕ
+onceMore level row = 12288 + level * 256 + row
+
+abbrev pub anew : ℕ → ℕ → ℕ
+anew level row = 20480 + level * 256 + row
+
+-- four hints are a word
+abbrev pub word : ℕ → ℕ → ℕ → ℕ → ℕ
+word a b c d = a + b * 65536 + c * 4294967296 + d * 281474976710656
+
+abbrev pub wordless : ℕ
+wordless = 0
+
+abbrev pub rowIn : ℕ → ℕ
+rowIn e = e % 256
+
+abbrev pub levelIn : ℕ → ℕ
+levelIn e = e / 256 % 16
+
+-- 1 where a group is entered: its head is reached then, one level deeper
+abbrev pub deeperIn : ℕ → ℕ
+deeperIn e = e / 4096 % 2
+
+abbrev pub lastIn : ℕ → ℕ
+lastIn e = levelIn e + deeperIn e
+
+-- the place entered: a group's row stands above its head's
+abbrev pub placeIn : ℕ → ℕ
+placeIn e = rowIn e - deeperIn e
+
+abbrev pub laneOf : ℕ → ℕ → ℕ
+laneOf w k = w / 2 ^ (16 * k) % 65536
+
+-- which of a row's sixteen hints may tell of a tag: any number would do, since a hint is taken for the tag of the row it leads to alone
+abbrev pub slotOf : ℕ → ℕ
+slotOf tag = tag * 12510139 / 2 ^ 21 % 16
+
+unfoldable pub hintAt : List ℕ → ℕ → ℕ → ℕ
+hintAt hints row tag = pick (ltb row (length hints / 4)) (laneOf (getD hints (row * 4 + slotOf tag / 4) 0) (slotOf tag % 4)) 0
+
+-- the counts of a level and of the one below it
+abbrev pub countsOf : Place → ℕ → Pair
+countsOf p level = record { own = countAt p level; below = countAt p (level + 1) }
+
+-- a place entered so often, once more; 0 where its number does not allow it
+abbrev pub allowedOf : ℕ → ℕ → ℕ
+allowedOf n number = pick (ltb n number) (n + 1) 0
+
+abbrev pub moreOf : Table → Place → ℕ → ℕ
+moreOf t p e = allowedOf (countAt p (levelIn e)) (most t (placeIn e))
+
+-- one level deeper than a hint's, the number of the row reached allows it again
+abbrev pub unused : Table → Place → ℕ → Bool
+unused t p e = ltb (countAt p (levelIn e + 1)) (most t (p .row))
+
+-- for the how manieth time the place of a hint is entered once more, 0 where the hint does not tell
+unfoldable pub repeatedOf : Table → Place → ℕ → ℕ
+repeatedOf t p e = pick (ltb e 16384) (moreOf t p e) (pick (unused t p e) 0 (moreOf t p e))
+
+-- the same with a tag, for any hint
+unfoldable pub timesOf : Table → Place → ℕ → ℕ → ℕ
+timesOf t p tag e = pick (eqb e 0) 0 (pick (eqb (tagAt t (rowIn e)) tag) (pick (ltb e 8192) 1 (repeatedOf t p e)) 0)
+
+abbrev pub quickBy : Table → Place → ℕ → ℕ → ℕ → Stepped
+quickBy t p tag e n = pick (eqb n 0) (stepOf t p tag) (Placed (reachedOf p (levelIn e) n (rowIn e) (lastIn e)))
+
+-- where the next segment goes, by its tag: the hint's place, or by the placing rule where the hint does not tell
+unfoldable pub quickOf : Table → List ℕ → Place → ℕ → Stepped
+quickOf t hints p tag = quickBy t p tag (hintAt hints (p .row) tag) (timesOf t p tag (hintAt hints (p .row) tag))

@@ -1,0 +1,7 @@
+pub mod Hint
+pub mod SkdupdHints
+pub mod TsdupdHints
+pub mod Ways
+pub mod Told
+pub mod Right
+pub mod Laws
