@@ -20,6 +20,10 @@ use Rattle.placing.specs.Skdupd.{skdupdTable}
 use Rattle.placing.specs.Tsdupd.{tsdupdTable}
 use Rattle.placing.specs.Rule.{stepOf, groupOf}
 use Rattle.placing.specs.Table.{Table}
+use Rattle.hints.specs.Hint.{quickOf}
+use Rattle.hints.specs.SkdupdHints.{skdupdHints}
+use Rattle.hints.specs.TsdupdHints.{tsdupdHints}
+use Rattle.hints.specs.Laws.{quick-skdupd, quick-tsdupd}
 use Rattle.period.specs.declared.Period.{Period}
 use Rattle.period.specs.declared.Period.the-variants as period
 use Rattle.period.specs.Period.{periodOf}
@@ -108,6 +112,16 @@ open-inside f e = ap isClosed e
 
 onward-moved : (st : State) (p q : Place) (k : ℕ) → st .phase ≡ Inside → onwardState (movedState st p k) q ≡ movedState st q (oneMore k)
 onward-moved st p q k i = rw i
+
+-- hints by which the step is the rule's own
+abbrev pub Hinted : Table → List ℕ → Type 0
+Hinted t hints = (p : Place) (tag : ℕ) → quickOf t hints p tag ≡ stepOf t p tag
+
+pub skdupd-hinted : (t : Table) (hints : List ℕ) → t ≡ skdupdTable → hints ≡ skdupdHints → Hinted t hints
+skdupd-hinted t hints e h p tag = rw (e, h) (quick-skdupd p tag)
+
+pub tsdupd-hinted : (t : Table) (hints : List ℕ) → t ≡ tsdupdTable → hints ≡ tsdupdHints → Hinted t hints
+tsdupd-hinted t hints e h p tag = rw (e, h) (quick-tsdupd p tag)
 
 -- the table of a message
 pub for-skdupd : (t : Table) (kind : ℕ) → t ≡ skdupdTable → kind ≡ 0 → t ≡ tableOf skdupdTable tsdupdTable kind

@@ -9,6 +9,8 @@ use crate::state::Row;
 use crate::state::State;
 use crate::state::Step;
 use crate::step::step_segment;
+use hints::tables::skdupd_hints;
+use hints::tables::tsdupd_hints;
 use parts::Part;
 use parts::bytes_of;
 use placing::tables::skdupd;
@@ -30,6 +32,8 @@ ghost use Rattle.interchange.specs.Step.{segmentStep};
 ghost use Rattle.syntax.specs.Segment.{bodyAt, segmentAt};
 ghost use Rattle.placing.specs.Skdupd.{skdupdTable};
 ghost use Rattle.placing.specs.Tsdupd.{tsdupdTable};
+ghost use Rattle.hints.specs.SkdupdHints.{skdupdHints};
+ghost use Rattle.hints.specs.TsdupdHints.{tsdupdHints};
 
 /// What reading an interchange comes to.
 pub enum Answer {
@@ -140,10 +144,12 @@ fn run_on(
     at: usize,
     skdupd: &[[u32; 8]],
     tsdupd: &[[u32; 8]],
+    skdupd_hints: &[u64],
+    tsdupd_hints: &[u64],
     room: &mut [u32],
     numbers: usize,
 ) -> Ran
-    requires { ⌜ (now skdupd ≡ skdupdTable) × (now tsdupd ≡ tsdupdTable) × (length (now s) ≤ 60000) × (length (now room) ≡ 192) × (numbers ≤ 192) ⌝ }
+    requires { ⌜ (now skdupd ≡ skdupdTable) × (now tsdupd ≡ tsdupdTable) × (now «skdupd_hints» ≡ skdupdHints) × (now «tsdupd_hints» ≡ tsdupdHints) × (length (now s) ≤ 60000) × (length (now room) ≡ 192) × (numbers ≤ 192) ⌝ }
     ensures { λ r. ⌜ Moved (now (s .entry)) st at numbers (now (room .entry)) (movedState st (r .place) (r .segments)) (r .at) (r .numbers) (now (room .exit)) × (r .numbers ≤ 192) ⌝ }
 {
     let place = st.place;
@@ -157,9 +163,9 @@ fn run_on(
         };
     }
     if st.kind == 0 {
-        return run(s, st, at, skdupd, room, numbers);
+        return run(s, st, at, skdupd, skdupd_hints, room, numbers);
     }
-    run(s, st, at, tsdupd, room, numbers)
+    run(s, st, at, tsdupd, tsdupd_hints, room, numbers)
 }
 
 // The segments one after the other, their rows into a room of the reader's own, until it is full.
@@ -169,9 +175,11 @@ fn gather(
     from: usize,
     skdupd: &[[u32; 8]],
     tsdupd: &[[u32; 8]],
+    skdupd_hints: &[u64],
+    tsdupd_hints: &[u64],
     room: &mut [u32],
 ) -> Gathered
-    requires { ⌜ (now skdupd ≡ skdupdTable) × (now tsdupd ≡ tsdupdTable) × (length (now s) ≤ 60000) × (length (now room) ≡ 192) × (from ≤ length (now s)) ⌝ }
+    requires { ⌜ (now skdupd ≡ skdupdTable) × (now tsdupd ≡ tsdupdTable) × (now «skdupd_hints» ≡ skdupdHints) × (now «tsdupd_hints» ≡ tsdupdHints) × (length (now s) ≤ 60000) × (length (now room) ≡ 192) × (from ≤ length (now s)) ⌝ }
     ensures { λ r. ⌜ Chunk (now (s .entry)) start from r (now (room .exit)) × (length (now (room .exit)) ≡ 192) ⌝ }
 {
     let mut st = start;
@@ -191,7 +199,17 @@ fn gather(
         match take_turn(s, st, at, skdupd, tsdupd) {
             Turn::On(next, row, then) => {
                 put_row(room, numbers, at as u32, row);
-                let ran = run_on(s, next, then, skdupd, tsdupd, room, numbers + 3);
+                let ran = run_on(
+                    s,
+                    next,
+                    then,
+                    skdupd,
+                    tsdupd,
+                    skdupd_hints,
+                    tsdupd_hints,
+                    room,
+                    numbers + 3,
+                );
                 let place = ran.place;
                 st = next.moved(place, ran.segments);
                 at = ran.at;
@@ -234,15 +252,26 @@ fn read_on(
     at: usize,
     skdupd: &[[u32; 8]],
     tsdupd: &[[u32; 8]],
+    skdupd_hints: &[u64],
+    tsdupd_hints: &[u64],
     rows: &mut [u32],
     behind: usize,
     calls: usize,
 ) -> Answer
-    requires { ⌜ (now skdupd ≡ skdupdTable) × (now tsdupd ≡ tsdupdTable) × (length (now s) ≤ 60000) × (at ≤ length (now s)) × (4 * behind ≤ 3 * at) × (length (now s) < at + 250 * calls) ⌝ }
+    requires { ⌜ (now skdupd ≡ skdupdTable) × (now tsdupd ≡ tsdupdTable) × (now «skdupd_hints» ≡ skdupdHints) × (now «tsdupd_hints» ≡ tsdupdHints) × (length (now s) ≤ 60000) × (at ≤ length (now s)) × (4 * behind ≤ 3 * at) × (length (now s) < at + 250 * calls) ⌝ }
     ensures { λ r. ⌜ Behind behind (wholeFrom (now (s .entry)) st at) (now (rows .entry)) r (now (rows .exit)) ⌝ }
 {
     let mut room = [0u32; 192];
-    match gather(s, st, at, skdupd, tsdupd, &mut room) {
+    match gather(
+        s,
+        st,
+        at,
+        skdupd,
+        tsdupd,
+        skdupd_hints,
+        tsdupd_hints,
+        &mut room,
+    ) {
         Gathered::Numbers(n) => {
             if rows.len() < behind + n {
                 return Answer::Refused(Refusal {
@@ -259,6 +288,8 @@ fn read_on(
             then,
             skdupd,
             tsdupd,
+            skdupd_hints,
+            tsdupd_hints,
             rows,
             behind + n,
             calls - 1,
@@ -281,5 +312,18 @@ fn read_sized(s: &[u8], rows: &mut [u32]) -> Answer
 {
     let skd = skdupd();
     let tsd = tsdupd();
-    read_on(s, State::opening(), 0, &skd, &tsd, rows, 0, 241)
+    let skd_hints = skdupd_hints();
+    let tsd_hints = tsdupd_hints();
+    read_on(
+        s,
+        State::opening(),
+        0,
+        &skd,
+        &tsd,
+        &skd_hints,
+        &tsd_hints,
+        rows,
+        0,
+        241,
+    )
 }

@@ -7,6 +7,7 @@ use crate::state::Row;
 use crate::state::State;
 use crate::state::one_more;
 use crate::step::is_period;
+use hints::quick_step;
 use parts::Part;
 use period::Period;
 use period::read_period;
@@ -24,7 +25,7 @@ ghost use Rattle.placing.specs.Tsdupd.{tsdupdTable};
 ghost use Rattle.interchange.specs.State.{movedState};
 ghost use Rattle.interchange.specs.Step.{tableOf};
 ghost use Rattle.interchange.specs.Moves.{Moved};
-ghost use Rattle.interchange.specs.Runs.{goodPart};
+ghost use Rattle.interchange.specs.Runs.{goodPart, Hinted};
 
 const UIT: u32 = 0x554954;
 
@@ -56,10 +57,11 @@ pub(crate) fn run(
     st: State,
     from: usize,
     table: &[[u32; 8]],
+    hints: &[u64],
     room: &mut [u32],
     gathered: usize,
 ) -> Ran
-    requires { ⌜ (st .phase ≡ Phase.Inside) × (now table ≡ tableOf skdupdTable tsdupdTable (st .kind)) × (length (now s) ≤ 60000) × (length (now room) ≡ 192) × (gathered ≤ 192) ⌝ }
+    requires { ⌜ (st .phase ≡ Phase.Inside) × (now table ≡ tableOf skdupdTable tsdupdTable (st .kind)) × Hinted (now table) (now hints) × (length (now s) ≤ 60000) × (length (now room) ≡ 192) × (gathered ≤ 192) ⌝ }
     ensures { λ r. ⌜ Moved (now (s .entry)) st from gathered (now (room .entry)) (movedState st (r .place) (r .segments)) (r .at) (r .numbers) (now (room .exit)) × (r .numbers ≤ 192) ⌝ }
 {
     let mut place = st.place;
@@ -84,7 +86,7 @@ pub(crate) fn run(
                 numbers,
             };
         }
-        let Stepped::Placed(next) = place.step(table, tag) else {
+        let Stepped::Placed(next) = quick_step(place, table, hints, tag) else {
             return Ran {
                 place,
                 segments,

@@ -23,14 +23,14 @@ use Rattle.interchange.proofs.rows.copy_rows.Reads as copy-rows-reads
 use Rattle.interchange.proofs.reader.+read_on.{statement}
 use Rattle.interchange.proofs.reader.+read_on.Tie.{close}
 
-abbrev μ-read-on : Measures 4 read-on-kinds.ps ℕ
-μ-read-on κs a = a .1 .1 .1 .1 .1 .1 .1 .0
+abbrev μ-read-on : Measures 6 read-on-kinds.ps ℕ
+μ-read-on κs a = a .1 .1 .1 .1 .1 .1 .1 .1 .1 .0
 
-abbrev read-on-at : ℕ → In 4 read-on-kinds.ps
-read-on-at t = and 4 read-on-kinds.ps (is 4 read-on-kinds.ps μ-read-on t) read-on.Pre
+abbrev read-on-at : ℕ → In 6 read-on-kinds.ps
+read-on-at t = and 6 read-on-kinds.ps (is 6 read-on-kinds.ps μ-read-on t) read-on.Pre
 
-abbrev read-on-below : ℕ → In 4 read-on-kinds.ps
-read-on-below t = and 4 read-on-kinds.ps (falls 4 read-on-kinds.ps _<_ μ-read-on t) read-on.Pre
+abbrev read-on-below : ℕ → In 6 read-on-kinds.ps
+read-on-below t = and 6 read-on-kinds.ps (falls 6 read-on-kinds.ps _<_ μ-read-on t) read-on.Pre
 
 -- what was gathered
 abbrev After-gather : ℕ → Type 0
@@ -52,7 +52,7 @@ module _ (t : ℕ) (g : After-gather t) where
     read-on-below t,
     read-on.Post,
   ) (read-on-at t) read-on.Post
-  start = g .before .before .before .before
+  start = g .before .before .before .before .before .before
 
   abbrev list : List ℕ
   list = now (start .args .s)
@@ -61,7 +61,7 @@ module _ (t : ℕ) (g : After-gather t) where
   whole = wholeFrom list (start .args .st) (start .args .at)
 
   abbrev room : List ℕ
-  room = g .gather .last .1 .1 .1 .1 .1 .0
+  room = g .gather .last .1 .1 .1 .1 .1 .1 .1 .0
 
   chunk : (x : Gathered) → g .gather .result ≡ x → Chunk list (start .args .st) (start .args .at) x room
   chunk x e = chunk-as list (start .args .st) (start .args .at) (g .gather .result) x room e (g .gather .ensures .0)
@@ -139,7 +139,7 @@ module _ (t : ℕ) (r : After-rest t) where
   behind = start t (full t filled) .args .behind
 
   abbrev after : List ℕ
-  after = r .read-on .last .1 .1 .1 .1 .1 .0
+  after = r .read-on .last .1 .1 .1 .1 .1 .1 .1 .0
 
   abbrev rest : Outcome
   rest = wholeFrom (list t (full t filled)) (next t filled) (then t filled)
@@ -166,8 +166,8 @@ read-on-gather-requires : (t : ℕ) → read-on-lts.Need-gather-requires (
   read-on.Post,
 ) (read-on-at t) read-on.Post
 read-on-gather-requires t c κs =
-    let p = c .before .before .before .pre .1 in
-    (p .0, p .1, p .2, length-replicate {A = ℕ} 192 0, p .3)
+    let p = c .before .before .before .before .before .pre .1 in
+    (p .0, p .1, p .2, p .3, p .4, length-replicate {A = ℕ} 192 0, p .5)
 
 read-on-enum-known-n : (t : ℕ) → read-on-lts.Need-enum-known-n (
   gather-reads.Asked,
@@ -230,7 +230,7 @@ read-on-copy-rows-requires t c κs =
     let a = all t k .1 in
     (omega arith, c .before .before .if1 .left)
 
-read-on-add-t21 : (t : ℕ) → read-on-lts.Need-add-t21 (
+read-on-add-t23 : (t : ℕ) → read-on-lts.Need-add-t23 (
   gather-reads.Asked,
   gather-reads.Learnt,
   copy-rows-reads.Asked,
@@ -238,7 +238,7 @@ read-on-add-t21 : (t : ℕ) → read-on-lts.Need-add-t21 (
   read-on-below t,
   read-on.Post,
 ) (read-on-at t) read-on.Post
-read-on-add-t21 t c =
+read-on-add-t23 t c =
     let k = c .before .before .before .before .before .before in
     let g = last t k in
     let p = start t g .pre .1 in
@@ -297,7 +297,7 @@ read-on-read-on-requires t c κs =
     let a = part t k in
     let b = a .3 in
     let d = a .4 in
-    (omega arith, (p .0, p .1, p .2, a .2, omega arith, omega arith))
+    (omega arith, (p .0, p .1, p .2, p .3, p .4, a .2, omega arith, omega arith))
 
 read-on-enum-known-m : (t : ℕ) → read-on-lts.Need-enum-known-m (
   gather-reads.Asked,
@@ -466,7 +466,7 @@ pub +read-on-spec : {M : Type 1} → statement M
     (read-on-returns t)
     (read-on-slice-aggregate-copy-rows t)
     (read-on-copy-rows-requires t)
-    (read-on-add-t21 t)
+    (read-on-add-t23 t)
     (read-on-enum-known-next t)
     (read-on-add-read-on t)
     (read-on-sub-read-on t)

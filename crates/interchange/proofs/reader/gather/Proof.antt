@@ -30,21 +30,21 @@ use Rattle.interchange.specs.Moves.{Moved, moved-none, moved-both, moved
 use Rattle.interchange.specs.Chunks.{endedAt, chunk-as, chunk-past, chunk-stop, chunk-ended, chunk-full}
 
 abbrev Inv-loop : tie.InvT-loop
-Inv-loop s from skdupd tsdupd room₀ st₀ at₀ numbers₀ room st at numbers = Moved s st₀ from 0 room₀ st at numbers room × (numbers ≤ 192) × (at ≤ length s)
+Inv-loop s from skdupd tsdupd skdupd-hints tsdupd-hints room₀ st₀ at₀ numbers₀ room st at numbers = Moved s st₀ from 0 room₀ st at numbers room × (numbers ≤ 192) × (at ≤ length s)
 
 abbrev μ-loop : tie.MeasureT-loop
-μ-loop s from skdupd tsdupd room₀ st₀ at₀ numbers₀ room st at numbers = 192 - numbers
+μ-loop s from skdupd tsdupd skdupd-hints tsdupd-hints room₀ st₀ at₀ numbers₀ room st at numbers = 192 - numbers
 
 -- where the loop stands
 module _ (o : tie.At-loop Inv-loop μ-loop) where
   abbrev start : tie.Start Inv-loop μ-loop
-  start = o .before .before .before
+  start = o .before .before .before .before .before
 
   abbrev list : List ℕ
   list = now (start .args .s)
 
   size : length (o .loop .room) ≡ 192
-  size = o .loop .inv .0 .sized ∙ start .pre .3
+  size = o .loop .inv .0 .sized ∙ start .pre .5
 
 -- the turn that was taken
 module _ (t : tie.After-take-turn Inv-loop μ-loop) where
@@ -110,9 +110,9 @@ module _ (p : tie.After-put-row Inv-loop μ-loop) where
 
 loop-holds : tie.Need-loop-holds Inv-loop μ-loop
 loop-holds c =
-    let s = c .before .before in
+    let s = c .before .before .before .before in
     let a = s .args in
-    (moved-none (now (a .s)) (a .start) (a .from) 0 (now (a .room)), omega arith, s .pre .4)
+    (moved-none (now (a .s)) (a .start) (a .from) 0 (now (a .room)), omega arith, s .pre .6)
 
 ended-requires : tie.Need-ended-requires Inv-loop μ-loop
 ended-requires c κs = search needs
@@ -154,7 +154,7 @@ enum-known-next c = search needs
 cast-put-row : tie.Need-cast-put-row Inv-loop μ-loop
 cast-put-row c =
     let o = own (taken (c .before)) in
-    let p = start o .pre .2 in
+    let p = start o .pre .4 in
     let l = inside (taken (c .before)) in
     omega arith
 
@@ -174,7 +174,7 @@ run-on-requires c κs =
     let q = start (here p) .pre in
     let l = fits (known p) in
     let w = size (here p) in
-    (q .0, q .1, q .2, put-size p, omega arith)
+    (q .0, q .1, q .2, q .3, q .4, put-size p, omega arith)
 
 moved-requires : tie.Need-moved-requires Inv-loop μ-loop
 moved-requires c κs = search needs
@@ -197,7 +197,7 @@ loop-again c =
     let a = start h .args in
     let e = r .run-on .ensures in
     let m = moved-as (list h) (c .moved .ensures) refl (moved-both (list h) (put-moved p) (e .0)) in
-    (m, e .1, m .within (start h .pre .4))
+    (m, e .1, m .within (start h .pre .6))
 
 enum-known-refusal : tie.Need-enum-known-refusal Inv-loop μ-loop
 enum-known-refusal c = search needs

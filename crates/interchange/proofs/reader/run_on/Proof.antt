@@ -9,24 +9,24 @@ use mathlib.Core.Path.{sym, _∙_}
 use borrow.Author.Tests.{not-false}
 use denote.Ref.{now}
 use Rattle.interchange.specs.Moves.{moved-none}
-use Rattle.interchange.specs.Runs.{inside-is, for-skdupd, for-tsdupd}
+use Rattle.interchange.specs.Runs.{inside-is, for-skdupd, for-tsdupd, skdupd-hinted, tsdupd-hinted}
 
 is-inside-requires : tie.Need-is-inside-requires
 is-inside-requires c κs = search needs
 
 returns : tie.Need-returns
 returns c =
-    let s = c .before .before .before .before .before in
+    let s = c .before .before .before .before .before .before .before in
     let a = s .args in
-    (moved-none (now (a .s)) (a .st) (a .at) (a .numbers) (now (a .room)), s .pre .4)
+    (moved-none (now (a .s)) (a .st) (a .at) (a .numbers) (now (a .room)), s .pre .6)
 
 run-requires : tie.Need-run-requires
 run-requires c κs =
     let i = c .before .before .before in
-    let s = i .before .before .before .before .before in
+    let s = i .before .before .before .before .before .before .before in
     let a = s .args in
     let p = s .pre in
-    (inside-is (a .st .phase) (sym (i .before .is-inside .ensures) ∙ not-false (i .before .is-inside .result) (i .if1 .left)), for-skdupd (now (a .skdupd)) (a .st .kind) (p .0) (c .before .if2 .taken), p .2, p .3, p .4)
+    (inside-is (a .st .phase) (sym (i .before .is-inside .ensures) ∙ not-false (i .before .is-inside .result) (i .if1 .left)), for-skdupd (now (a .skdupd)) (a .st .kind) (p .0) (c .before .if2 .taken), skdupd-hinted (now (a .skdupd)) (now (a .skdupd-hints)) (p .0) (p .2), p .4, p .5, p .6)
 
 same-length : tie.Need-same-length
 same-length c = search needs
@@ -37,10 +37,10 @@ returns-2 c = search needs
 run-requires-2 : tie.Need-run-requires-2
 run-requires-2 c κs =
     let i = c .before .before .before in
-    let s = i .before .before .before .before .before in
+    let s = i .before .before .before .before .before .before .before in
     let a = s .args in
     let p = s .pre in
-    (inside-is (a .st .phase) (sym (i .before .is-inside .ensures) ∙ not-false (i .before .is-inside .result) (i .if1 .left)), for-tsdupd (now (a .tsdupd)) (a .st .kind) (p .1) (c .before .if2 .left), p .2, p .3, p .4)
+    (inside-is (a .st .phase) (sym (i .before .is-inside .ensures) ∙ not-false (i .before .is-inside .result) (i .if1 .left)), for-tsdupd (now (a .tsdupd)) (a .st .kind) (p .1) (c .before .if2 .left), tsdupd-hinted (now (a .tsdupd)) (now (a .tsdupd-hints)) (p .1) (p .3), p .4, p .5, p .6)
 
 same-length-2 : tie.Need-same-length-2
 same-length-2 c = search needs

@@ -6,7 +6,7 @@ use Rattle.interchange.proofs.rows.put_row.Reads as put-row-reads
 use Rattle.interchange.proofs.run.is_good.Reads as is-good-reads
 use Rattle.interchange.proofs.state.one_more.Reads as one-more-reads
 use Rattle.placing.proofs.Place.group.Reads as group-reads
-use Rattle.placing.proofs.Place.step.Reads as step-reads
+use Rattle.hints.proofs.quick_step.Reads as quick-step-reads
 use Rattle.syntax.proofs.segment.read_segment.Reads as read-segment-reads
 use Rattle.syntax.proofs.segment.tag_at.Reads as tag-at-reads
 use mathlib.Core.Path.{_≡_, refl, sym, ap, _∙_}
@@ -27,16 +27,16 @@ use Rattle.interchange.specs.Moves.{Moved, moved-none, moved-as}
 use Rattle.interchange.specs.Runs.{moved-inside}
 
 abbrev Inv-loop : tie.InvT-loop
-Inv-loop s st from table room₀ gathered place₀ segments₀ at₀ numbers₀ room place segments at numbers =
+Inv-loop s st from table hints room₀ gathered place₀ segments₀ at₀ numbers₀ room place segments at numbers =
     Moved s st from gathered room₀ (movedState st place segments) at numbers room × (numbers ≤ 192)
 
 abbrev μ-loop : tie.MeasureT-loop
-μ-loop s st from table room₀ gathered place₀ segments₀ at₀ numbers₀ room place segments at numbers = 192 - numbers
+μ-loop s st from table hints room₀ gathered place₀ segments₀ at₀ numbers₀ room place segments at numbers = 192 - numbers
 
 -- where the loop stands
 module _ (o : tie.At-loop Inv-loop μ-loop) where
   abbrev start : tie.Start Inv-loop μ-loop
-  start = o .before .before .before .before
+  start = o .before .before .before .before .before
 
   abbrev list : List ℕ
   list = now (start .args .s)
@@ -56,12 +56,12 @@ module _ (t : tie.After-tag-at Inv-loop μ-loop) where
   within = end-within (list own) (own .loop .at) last ended
 
   size : length (own .loop .room) ≡ 192
-  size = own .loop .inv .0 .sized ∙ start own .pre .3
+  size = own .loop .inv .0 .sized ∙ start own .pre .4
 
 loop-holds : tie.Need-loop-holds Inv-loop μ-loop
 loop-holds c =
-    let a = c .before .before .before .args in
-    (moved-none (now (a .s)) (a .st) (a .from) (a .gathered) (now (a .room)), c .before .before .before .pre .4)
+    let a = c .before .before .before .before .args in
+    (moved-none (now (a .s)) (a .st) (a .from) (a .gathered) (now (a .room)), c .before .before .before .before .pre .5)
 
 read-segment-requires : tie.Need-read-segment-requires Inv-loop μ-loop
 read-segment-requires c κs = search needs
@@ -84,8 +84,8 @@ same-length-2 c = own (c .before) .loop .inv .0 .sized
 returns-2 : tie.Need-returns-2 Inv-loop μ-loop
 returns-2 c = own (c .before) .loop .inv
 
-step-requires : tie.Need-step-requires Inv-loop μ-loop
-step-requires c κs = search needs
+quick-step-requires : tie.Need-quick-step-requires Inv-loop μ-loop
+quick-step-requires c κs = search needs
 
 enum-known-next : tie.Need-enum-known-next Inv-loop μ-loop
 enum-known-next c = search needs
@@ -115,7 +115,7 @@ cast-put-row : tie.Need-cast-put-row Inv-loop μ-loop
 cast-put-row c =
     let t = c .before .before .before .before .before .before .before .before .before in
     let w = within t in
-    let p = start (own t) .pre .2 in
+    let p = start (own t) .pre .3 in
     omega arith
 
 put-row-requires : tie.Need-put-row-requires Inv-loop μ-loop
@@ -132,7 +132,7 @@ add-at : tie.Need-add-at Inv-loop μ-loop
 add-at c =
     let t = c .before .before .before .before .before .before .before .before .before .before .before .before in
     let w = within t in
-    let p = start (own t) .pre .2 in
+    let p = start (own t) .pre .3 in
     omega arith
 
 one-more-requires : tie.Need-one-more-requires Inv-loop μ-loop
@@ -157,7 +157,7 @@ loop-again c =
           (moved-inside (now (a .s)) (a .st) (a .from) (a .gathered) (now (a .room)) (a .st) (p .0)
           (o .loop .place) (o .loop .segments) (o .loop .at) (o .loop .numbers) (o .loop .room) (o .loop .inv .0)
           (last t) (ended t) (now (a .table)) (p .1) (t .tag-at .result) (t .tag-at .ensures) (n .before .before .before .if1 .left)
-          (n .next .given .0 .0) (sym (n .before .before .step .ensures) ∙ n .next .given .1) (j .group .result) (j .group .ensures)
+          (n .next .given .0 .0) (sym (p .2 (o .loop .place) (t .tag-at .result)) ∙ sym (n .before .before .quick-step .ensures) ∙ n .next .given .1) (j .group .result) (j .group .ensures)
           (sym (k .is-good .ensures) ∙ not-false (k .is-good .result) (d .before .before .if2 .left))
           (omega arith) (d .put-row .last .0) (d .put-row .ensures)),
       omega arith,
@@ -183,7 +183,7 @@ run-spec =
     tag-at-requires
     same-length-2
     returns-2
-    step-requires
+    quick-step-requires
     enum-known-next
     enum-told
     same-length-3
