@@ -1,5 +1,6 @@
 -- What a hint is, and the step that goes by hints. Any words make hints. Assumes nothing.
--- A hint says for which row a row is left, the level at which it is entered, and which of the placing rule's choices it is.
+-- A hint says which row follows on a row, the level at which it is entered, and which of the placing rule's choices it is:
+-- the row in its lowest eight bits, the level in the next four, the choice in the three above.
 use Prim.Native.Nat.{ℕ, _+_, _-_, _*_, _/_, _%_, _^_}
 use mathlib.Core.Bool.{Bool}
 use mathlib.Core.List.{List}
@@ -14,7 +15,8 @@ use Rattle.placing.specs.Table.{Table, tagAt, most}
 use Rattle.placing.specs.Place.{countAt, reachedOf}
 use Rattle.placing.specs.Rule.{stepOf}
 
--- "a later place of the same group", a segment or a group; "the same place again"; "the group once more", be it after its head was used up
+-- no hint; "a later place of the same group", a segment or a group; "the same place again"; "the group once more";
+-- and the group once more after its own head, whose number does not allow it again
 abbrev pub none : ℕ
 none = 0
 
@@ -60,7 +62,7 @@ placeIn e = rowIn e - deeperIn e
 abbrev pub laneOf : ℕ → ℕ → ℕ
 laneOf w k = w / 2 ^ (16 * k) % 65536
 
--- which of a row's sixteen hints may tell of a tag: any number would do, since a hint is taken for the tag of the row it leads to alone
+-- which of a row's sixteen hints may tell of a tag: any number below 16 would be right, since a hint is taken for no tag but that of its row
 abbrev pub slotOf : ℕ → ℕ
 slotOf tag = tag * 12510139 / 2 ^ 21 % 16
 
@@ -82,11 +84,11 @@ moreOf t p e = allowedOf (countAt p (levelIn e)) (most t (placeIn e))
 abbrev pub unused : Table → Place → ℕ → Bool
 unused t p e = ltb (countAt p (levelIn e + 1)) (most t (p .row))
 
--- for the how manieth time the place of a hint is entered once more, 0 where the hint does not tell
+-- the count of a hint's place when it is entered once more, 0 where the hint does not tell
 unfoldable pub repeatedOf : Table → Place → ℕ → ℕ
 repeatedOf t p e = pick (ltb e 16384) (moreOf t p e) (pick (unused t p e) 0 (moreOf t p e))
 
--- the same with a tag, for any hint
+-- the count of a hint's place when it is entered with a tag, 0 where the hint does not tell
 unfoldable pub timesOf : Table → Place → ℕ → ℕ → ℕ
 timesOf t p tag e = pick (eqb e 0) 0 (pick (eqb (tagAt t (rowIn e)) tag) (pick (ltb e 8192) 1 (repeatedOf t p e)) 0)
 

@@ -1,5 +1,5 @@
 -- The hints for SKDUPD: for each row of its table sixteen, four to a word. Assumes nothing.
--- That each is right is Right.antt's.
+-- That each is right is the law in Right.antt. MES after POR has none: its place is taken by the one for TRF.
 use mathlib.Core.List.{List, [], _∷_}
 use Prim.Native.Nat.{ℕ}
 use Rattle.hints.specs.Hint.{word, wordless, none, later, laterGroup, again, onceMore, anew}

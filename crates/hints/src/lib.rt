@@ -120,7 +120,7 @@ fn allowed(n: u32, number: u32) -> u32
     if n < number { n + 1 } else { 0 }
 }
 
-// For the how manieth time the place of a hint is entered once more, 0 where the hint does not tell.
+// The count of a hint's place when it is entered once more, 0 where the hint does not tell.
 fn repeated(place: Place, table: &[[u32; 8]], e: usize) -> u32
     ensures { λ r. ⌜ r ≡ repeatedOf (now (table .entry)) place e ⌝ }
 {
@@ -136,7 +136,7 @@ fn repeated(place: Place, table: &[[u32; 8]], e: usize) -> u32
     n
 }
 
-// For the how manieth time the place of a hint is entered with a tag, 0 where the hint does not tell.
+// The count of a hint's place when it is entered with a tag, 0 where the hint does not tell.
 fn times(place: Place, table: &[[u32; 8]], tag: u32, e: usize) -> u32
     ensures { λ r. ⌜ r ≡ timesOf (now (table .entry)) place tag e ⌝ }
 {

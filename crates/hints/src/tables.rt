@@ -1,4 +1,4 @@
-//! For each row of the two segment tables and each tag that may follow it, the row where the placing rule of document 01 comes to first.
+//! For each row of the two segment tables and each tag that may follow on it, the row to which the placing rule of document 01 leads.
 ghost use mathlib.Core.Path.{_≡_};
 ghost use Rattle.hints.specs.SkdupdHints.{skdupdHints};
 ghost use Rattle.hints.specs.TsdupdHints.{tsdupdHints};
