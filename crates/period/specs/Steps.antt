@@ -1,15 +1,16 @@
 -- The steps of the loops over a part: what is left of its text begins with the byte b and goes on as l, or is empty.
 -- Assumes nothing.
 use mathlib.Core.Path.{_≡_, refl, sym}
-use mathlib.Core.Bool.{true, false}
+use mathlib.Core.Bool.{Bool, true, false}
 use mathlib.Core.List.{List, [], _∷_}
-use Prim.Native.Nat.{ℕ, zero, suc, _-_, _<_, _≤_}
+use Prim.Native.Nat.{ℕ, zero, suc, _+_, _-_, _<_, _≤_}
 use native.Mathlib.Omega.{arith}
 use native.Mathlib.Decide.{ℕ-discrete}
 use lib.Dec.{eqb}
-use lib.ListN.{length, getD}
+use lib.ListN.{length, getD, drop}
 use borrow.Author.Tests.{eq-eqb, ne-eqb, lt-ltb, le-ltb, le-leb, lt-leb}
-use Rattle.laws.specs.Choice.{both-false, among}
+use Rattle.laws.specs.Choice.{both, all, both-true, both-false, both-assoc, among}
+use Rattle.laws.specs.Lists.{drop-here, drop-past}
 use Rattle.period.specs.Period.{present, zeroOrOne, dayString, rising}
 
 eqb-next : (a b : ℕ) → eqb (suc a) (suc b) ≡ eqb a b
@@ -100,3 +101,13 @@ module _ (t : List ℕ) (f : t ≡ []) where
 
   pub found-none : (x : ℕ) → false ≡ among x t
   found-none x = rw f
+
+-- a whole text of such characters, at an index of it
+module _ (g : List ℕ) (i : ℕ) where
+  pub days-go : i < length g → (good : Bool) {day r : Bool} → day ≡ zeroOrOne (getD g i 0) → r ≡ both good day
+      → both r (all zeroOrOne (drop (i + 1) g)) ≡ both good (all zeroOrOne (drop i g))
+  days-go h good {day} {r} p q =
+      rw (drop-here g i h, q, p) (both-assoc good (zeroOrOne (getD g i 0)) (all zeroOrOne (drop (i + 1) g)))
+
+  pub days-end : length g ≤ i → (good : Bool) → both good (all zeroOrOne (drop i g)) ≡ good
+  days-end h good = rw (drop-past g i h) (both-true good)
