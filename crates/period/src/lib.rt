@@ -1,5 +1,7 @@
 //! A POP of SKDUPD's group 4: the days on which a service runs, read from the segment's parts.
 
+use characters::character_at;
+use characters::has_character;
 use dates::Date;
 use dates::Made;
 use dates::Number;
@@ -14,7 +16,7 @@ ghost use mathlib.Core.Path.{_≡_};
 ghost use lib.Dec.{eqb};
 ghost use Prim.Native.Nat.{_≤_};
 ghost use lib.ListN.{length, getD, drop};
-ghost use Rattle.laws.specs.Choice.{both, all, among};
+ghost use Rattle.laws.specs.Choice.{both, all};
 ghost use Rattle.syntax.specs.Bytes.{plain};
 ghost use Rattle.syntax.specs.Pieces.{partOf};
 ghost use Rattle.parts.specs.Places.{bytesOf};
@@ -303,22 +305,15 @@ fn written_span(g: &[u8]) -> Span
     span_between(first, last)
 }
 
-// Whether a byte is the character of a day.
-fn is_day(b: u8) -> bool
-    ensures { λ r. ⌜ r ≡ zeroOrOne b ⌝ }
+// A test that held so far, and that a byte is the character of a day.
+fn still_days(good: bool, b: u8) -> bool
+    ensures { λ r. ⌜ r ≡ both good (zeroOrOne b) ⌝ }
 {
     if b == b'0' {
-        return true;
+        return good;
     }
-    b == b'1'
-}
-
-// Whether two tests both hold.
-fn holds(a: bool, b: bool) -> bool
-    ensures { λ r. ⌜ r ≡ both a b ⌝ }
-{
-    if a {
-        return b;
+    if b == b'1' {
+        return good;
     }
     false
 }
@@ -330,7 +325,7 @@ fn are_days(g: &[u8], from: usize) -> bool
     let mut i = from;
     let mut good = true;
     while i < g.len() {
-        good = holds(good, is_day(g[i]));
+        good = still_days(good, g[i]);
         i += 1;
     }
     good
@@ -417,50 +412,6 @@ pub fn read_period(s: &[u8], segment: Part) -> Period
         Period::Good(first, count, form) => Period::Good(first, count, form),
         Period::Wrong(_) => read_any(s, segment),
     }
-}
-
-// Character k of a part, 0 where it has none.
-fn character_at(part: &[u8], k: usize) -> u8
-    ensures { λ r. ⌜ r ≡ getD (plain (now (part .entry))) k 0 ⌝ }
-{
-    let mut i = 0;
-    let mut left = k;
-    while i < part.len() {
-        match next_byte(part, i) {
-            Next::Byte(b, next) => {
-                if left == 0 {
-                    return b;
-                }
-                i = next;
-                left -= 1;
-            }
-            Next::Done => {
-                return 0;
-            }
-        }
-    }
-    0
-}
-
-// Whether a character is one of a part's.
-fn has_character(part: &[u8], character: u8) -> bool
-    ensures { λ r. ⌜ r ≡ among character (plain (now (part .entry))) ⌝ }
-{
-    let mut i = 0;
-    while i < part.len() {
-        match next_byte(part, i) {
-            Next::Byte(b, k) => {
-                if character == b {
-                    return true;
-                }
-                i = k;
-            }
-            Next::Done => {
-                return false;
-            }
-        }
-    }
-    false
 }
 
 // Whether the day k days after the first runs by a form.

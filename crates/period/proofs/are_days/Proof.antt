@@ -21,14 +21,11 @@ abbrev μ-loop : tie.MeasureT-loop
 loop-holds : tie.Need-loop-holds Inv-loop μ-loop
 loop-holds c = refl
 
-shared-slice-read-is-day : tie.Need-shared-slice-read-is-day Inv-loop μ-loop
-shared-slice-read-is-day c = search needs
+shared-slice-read-still-days : tie.Need-shared-slice-read-still-days Inv-loop μ-loop
+shared-slice-read-still-days c = search needs
 
-is-day-requires : tie.Need-is-day-requires Inv-loop μ-loop
-is-day-requires c κs = search needs
-
-holds-requires : tie.Need-holds-requires Inv-loop μ-loop
-holds-requires c κs = search needs
+still-days-requires : tie.Need-still-days-requires Inv-loop μ-loop
+still-days-requires c κs = search needs
 
 add-i : tie.Need-add-i Inv-loop μ-loop
 add-i c = search needs
@@ -38,10 +35,9 @@ loop-less c = omega arith
 
 loop-again : tie.Need-loop-again Inv-loop μ-loop
 loop-again c =
-    let d = c .before in
-    let t = d .before .before in
+    let t = c .before .before in
     let o = t .before in
-    days-go (now (o .before .before .args .g)) (o .loop .i) (t .loop-test .taken) (o .loop .good) (d .is-day .ensures) (c .holds .ensures) ∙ o .loop .inv
+    days-go (now (o .before .before .args .g)) (o .loop .i) (t .loop-test .taken) (o .loop .good) (c .still-days .ensures) ∙ o .loop .inv
 
 returns : tie.Need-returns Inv-loop μ-loop
 returns c =
@@ -50,4 +46,4 @@ returns c =
 
 pub are-days-spec : {M : Type 1} → statement M
 are-days-spec =
-    tie.close (tie.spec Inv-loop μ-loop loop-holds shared-slice-read-is-day is-day-requires holds-requires add-i loop-less loop-again returns)
+    tie.close (tie.spec Inv-loop μ-loop loop-holds shared-slice-read-still-days still-days-requires add-i loop-less loop-again returns)
