@@ -7,7 +7,7 @@ use Prim.Native.Nat.{ℕ, _+_, _≤_}
 use native.Mathlib.Omega.{arith}
 use lib.Dec.{eqb, leb}
 use lib.ListN.{length, getD}
-use borrow.Author.Tests.{eq-eqb, leb-true}
+use borrow.Author.Tests.{leb-true}
 use Rattle.laws.specs.Choice.{pick, both, both-parts}
 use Rattle.dates.specs.Dates.{valid, number}
 use Rattle.dates.specs.Laws.{number-below}

@@ -1,21 +1,19 @@
 -- A POP as most are written, `POP+273:first/last` and then a form of days or neither: what its bytes say is its period.
 -- Assumes nothing.
 use mathlib.Core.Path.{_≡_, refl, sym, ap, subst, _∙_}
-use mathlib.Core.Bool.{Bool, true, false}
-use mathlib.Core.List.{List, [], _∷_, _++_, append-nil, append-assoc}
-use Prim.Native.Nat.{ℕ, zero, suc, _+_, _-_, _*_, _≤_, _<_}
+use mathlib.Core.Bool.{true}
+use mathlib.Core.List.{List, [], _∷_, _++_, append-nil}
+use Prim.Native.Nat.{ℕ, zero, suc, _+_, _-_, _*_, _≤_}
 use native.Mathlib.Omega.{arith}
 use lib.Dec.{eqb, leb, ltb}
 use lib.ListN.{length, getD, drop, length-drop}
-use borrow.Author.Tests.{eq-eqb, ne-eqb, le-leb, lt-leb, lt-ltb, le-ltb, leb-true, ltb-true, eqb-true}
-use Rattle.laws.specs.Choice.{pick, both, either, all, both-parts, choose}
+use borrow.Author.Tests.{eq-eqb, le-leb, leb-true, ltb-true, eqb-true}
+use Rattle.laws.specs.Choice.{both, all, both-parts, choose}
 use Rattle.laws.specs.Lists.{drop-here, drop-past}
 use Rattle.syntax.specs.Bytes.{plain, plainOn}
 use Rattle.values.specs.Values.{sameText}
-use Rattle.dates.specs.Dates.{madeOf}
-use Rattle.dates.specs.Text.{isDigit, twoDigits, digitsAt, fourDigits, with, dateAt}
+use Rattle.dates.specs.Text.{isDigit, twoDigits, digitsAt, dateAt}
 use Rattle.dates.specs.declared.Date.{Date}
-use Rattle.dates.specs.declared.Made.{Made}
 use Rattle.dates.specs.declared.Made.the-variants.{Valid, NoDate}
 use Rattle.free_texts.specs.Free.{all-append, all-weaker, numeric, plain-all, no-release}
 use Rattle.free_texts.specs.Parts.{Cut, oneElement, twoElements, withString, withoutString, string-cut, week-cut, passed-cut, alone-cut}

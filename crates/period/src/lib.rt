@@ -336,16 +336,16 @@ fn are_rising(g: &[u8], from: usize) -> bool
     ensures { λ r. ⌜ r ≡ rising 48 (drop from (now (g .entry))) ⌝ }
 {
     let mut i = from;
-    let mut low = b'0';
+    let mut last = b'0';
     while i < g.len() {
         let b = g[i];
-        if b <= low {
+        if b <= last {
             return false;
         }
         if b'7' < b {
             return false;
         }
-        low = b;
+        last = b;
         i += 1;
     }
     true

@@ -9,12 +9,10 @@ use lib.Dec.{eqb}
 use lib.ListN.{length, getD, take, drop}
 use borrow.Author.Tests.{eq-eqb, le-leb, lt-ltb}
 use Rattle.laws.specs.Choice.{pick, both, either, all}
-use Rattle.syntax.specs.Bytes.{plain, plainOn}
 use Rattle.syntax.specs.Segment.{bodyAt, segmentAt}
 use Rattle.syntax.specs.declared.segment.Scanned.the-variants.{End}
-use Rattle.values.specs.Values.{sameText}
 use Rattle.dates.specs.Dates.{number}
-use Rattle.dates.specs.Text.{digit, dateText, dateAt}
+use Rattle.dates.specs.Text.{digit, dateText}
 use Rattle.dates.specs.Again.{read-text}
 use Rattle.dates.specs.declared.Date.{Date}
 use Rattle.calendar.specs.Days.{day}

@@ -1,8 +1,8 @@
 -- `are_rising` meets its contract.
 -- Assumes nothing.
-use mathlib.Core.Path.{_≡_, refl, sym, _∙_}
+use mathlib.Core.Path.{_≡_, refl, _∙_}
 use mathlib.Core.List.{List, _∷_}
-use Prim.Native.Nat.{ℕ, _+_, _-_, _<_}
+use Prim.Native.Nat.{ℕ, _+_, _-_}
 use native.Mathlib.Omega.{arith}
 use borrow.Author.Needs.{needs}
 use denote.Ref.{now}
@@ -14,10 +14,10 @@ use Rattle.period.proofs.are_rising.Statement.{statement}
 use Rattle.period.proofs.are_rising.Tie as tie
 
 abbrev Inv-loop : tie.InvT-loop
-Inv-loop g from i₀ low₀ i low = rising low (drop i g) ≡ rising 48 (drop from g)
+Inv-loop g from i₀ last₀ i last = rising last (drop i g) ≡ rising 48 (drop from g)
 
 abbrev μ-loop : tie.MeasureT-loop
-μ-loop g from i₀ low₀ i low = length g - i
+μ-loop g from i₀ last₀ i last = length g - i
 
 loop-holds : tie.Need-loop-holds Inv-loop μ-loop
 loop-holds c = refl
@@ -42,12 +42,12 @@ module _ (t : tie.In-loop Inv-loop μ-loop) where
 returns : tie.Need-returns Inv-loop μ-loop
 returns c =
     let t = c .before .before in
-    rises-not (drop (at t) (list t)) (drop (at t + 1) (list t)) (getD (list t) (at t) 0) (here t) (own t .loop .low) (c .if1 .taken) ∙ own t .loop .inv
+    rises-not (drop (at t) (list t)) (drop (at t + 1) (list t)) (getD (list t) (at t) 0) (here t) (own t .loop .last) (c .if1 .taken) ∙ own t .loop .inv
 
 returns-2 : tie.Need-returns-2 Inv-loop μ-loop
 returns-2 c =
     let t = c .before .before .before in
-    rises-past (drop (at t) (list t)) (drop (at t + 1) (list t)) (getD (list t) (at t) 0) (here t) (own t .loop .low) (c .before .if1 .left) (c .if2 .taken) ∙ own t .loop .inv
+    rises-past (drop (at t) (list t)) (drop (at t + 1) (list t)) (getD (list t) (at t) 0) (here t) (own t .loop .last) (c .before .if1 .left) (c .if2 .taken) ∙ own t .loop .inv
 
 add-i : tie.Need-add-i Inv-loop μ-loop
 add-i c = search needs
@@ -58,13 +58,12 @@ loop-less c = omega arith
 loop-again : tie.Need-loop-again Inv-loop μ-loop
 loop-again c =
     let t = c .before .before .before in
-    rises-goes (drop (at t) (list t)) (drop (at t + 1) (list t)) (getD (list t) (at t) 0) (here t) (own t .loop .low) (c .before .if1 .left) (c .if2 .left) ∙ own t .loop .inv
+    rises-goes (drop (at t) (list t)) (drop (at t + 1) (list t)) (getD (list t) (at t) 0) (here t) (own t .loop .last) (c .before .if1 .left) (c .if2 .left) ∙ own t .loop .inv
 
 returns-3 : tie.Need-returns-3 Inv-loop μ-loop
 returns-3 c =
     let o = c .before in
-    let l = now (o .before .args .g) in
-    rises-ends (drop (o .loop .i) (now (o .before .args .g))) (drop-past (now (o .before .args .g)) (o .loop .i) (c .loop-test .left)) (o .loop .low) ∙ o .loop .inv
+    rises-ends (drop (o .loop .i) (now (o .before .args .g))) (drop-past (now (o .before .args .g)) (o .loop .i) (c .loop-test .left)) (o .loop .last) ∙ o .loop .inv
 
 pub are-rising-spec : {M : Type 1} → statement M
 are-rising-spec =
