@@ -7,7 +7,7 @@ use Prim.Native.Nat.{ℕ, _+_, _≤_}
 use native.Mathlib.Omega.{arith}
 use lib.Dec.{eqb, leb}
 use lib.ListN.{length, getD}
-use borrow.Author.Tests.{eq-eqb, leb-true}
+use borrow.Author.Tests.{leb-true}
 use Rattle.laws.specs.Choice.{pick, both, both-parts}
 use Rattle.dates.specs.Dates.{valid, number}
 use Rattle.dates.specs.Laws.{number-below}
@@ -120,20 +120,3 @@ good-bounds g f n form e =
 
 pub good-rising : (g : List ℕ) (f n : ℕ) (form : Form) → periodOf g ≡ Good f n form → rising 48 (weekText g) ≡ true
 good-rising g f n form e = form-told n (dayText g) (weekText g) form (good-told g f n form e .told) .rises
-
--- a POP that passes each test is a good period
-pub record Passes (g : List ℕ) (a b : Date) : Type 0 where
-  pub in-length : length (firstLast g) ≡ 21
-  pub stroke : getD (firstLast g) 10 0 ≡ 47
-  pub first-read : dateAt (firstLast g) 0 ≡ Valid a
-  pub last-read : dateAt (firstLast g) 11 ≡ Valid b
-  pub good-span : goodPeriod a b ≡ true
-  pub string-fits : fitsDays (dayCount a b) (dayText g) ≡ true
-  pub weekdays-rise : rising 48 (weekText g) ≡ true
-  pub not-both : both (present (dayText g)) (present (weekText g)) ≡ false
-  pub rest : restGood g ≡ true
-
-pub passes-good : (g : List ℕ) (a b : Date) → Passes g a b → periodOf g ≡ Good (number a) (dayCount a b) (formOf (dayText g) (weekText g))
-unfolding periodOf spanIn spanBetween formedOf
-passes-good g a b p =
-    rw (eq-eqb (length (firstLast g)) 21 (p .in-length), eq-eqb (getD (firstLast g) 10 0) 47 (p .stroke), p .first-read, p .last-read, p .good-span, p .string-fits, p .weekdays-rise, p .not-both, p .rest)

@@ -2,3 +2,4 @@ pub mod Period
 pub mod Tests
 pub mod Steps
 pub mod Facts
+pub mod Written

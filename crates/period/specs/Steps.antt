@@ -1,15 +1,16 @@
 -- The steps of the loops over a part: what is left of its text begins with the byte b and goes on as l, or is empty.
 -- Assumes nothing.
 use mathlib.Core.Path.{_≡_, refl, sym}
-use mathlib.Core.Bool.{true, false}
+use mathlib.Core.Bool.{Bool, true, false}
 use mathlib.Core.List.{List, [], _∷_}
-use Prim.Native.Nat.{ℕ, zero, suc, _-_, _<_, _≤_}
+use Prim.Native.Nat.{ℕ, zero, suc, _+_, _-_, _<_, _≤_}
 use native.Mathlib.Omega.{arith}
 use native.Mathlib.Decide.{ℕ-discrete}
 use lib.Dec.{eqb}
-use lib.ListN.{length, getD}
+use lib.ListN.{length, getD, drop}
 use borrow.Author.Tests.{eq-eqb, ne-eqb, lt-ltb, le-ltb, le-leb, lt-leb}
-use Rattle.laws.specs.Choice.{both-false, among}
+use Rattle.laws.specs.Choice.{both, all, both-true, both-false, both-assoc}
+use Rattle.laws.specs.Lists.{drop-here, drop-past}
 use Rattle.period.specs.Period.{present, zeroOrOne, dayString, rising}
 
 eqb-next : (a b : ℕ) → eqb (suc a) (suc b) ≡ eqb a b
@@ -68,20 +69,6 @@ module _ (t l : List ℕ) (b : ℕ) (f : t ≡ b ∷ l) where
   unfolding rising
   rises-goes before h k = rw (f, lt-ltb before b h, le-leb b 55 k)
 
-  -- a character by its index, and one of some
-  pub character-here : (k : ℕ) → k ≡ 0 → b ≡ getD t k 0
-  character-here k e = rw (f, e)
-
-  pub character-goes : (k : ℕ) → (k ≡ 0 → ⊥) → getD l (k - 1) 0 ≡ getD t k 0
-  character-goes zero z = absurd (z refl)
-  character-goes (suc k) z = let e : suc k - 1 ≡ k = omega arith in rw (f, e)
-
-  pub found-here : (x : ℕ) → x ≡ b → true ≡ among x t
-  found-here x e = rw (f, eq-eqb x b e)
-
-  pub found-goes : (x : ℕ) → (x ≡ b → ⊥) → among x l ≡ among x t
-  found-goes x e = rw (f, ne-eqb x b e)
-
 module _ (t : List ℕ) (f : t ≡ []) where
   pub text-absent : false ≡ present t
   text-absent = rw f
@@ -95,8 +82,12 @@ module _ (t : List ℕ) (f : t ≡ []) where
   unfolding rising
   rises-ends before = rw f
 
-  pub character-none : (k : ℕ) → 0 ≡ getD t k 0
-  character-none k = rw f
+-- a whole text of such characters, at an index of it
+module _ (g : List ℕ) (i : ℕ) where
+  pub days-go : i < length g → (good : Bool) {r : Bool} → r ≡ both good (zeroOrOne (getD g i 0))
+      → both r (all zeroOrOne (drop (i + 1) g)) ≡ both good (all zeroOrOne (drop i g))
+  days-go h good {r} q =
+      rw (drop-here g i h, q) (both-assoc good (zeroOrOne (getD g i 0)) (all zeroOrOne (drop (i + 1) g)))
 
-  pub found-none : (x : ℕ) → false ≡ among x t
-  found-none x = rw f
+  pub days-end : length g ≤ i → (good : Bool) → both good (all zeroOrOne (drop i g)) ≡ good
+  days-end h good = rw (drop-past g i h) (both-true good)

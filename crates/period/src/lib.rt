@@ -1,5 +1,7 @@
 //! A POP of SKDUPD's group 4: the days on which a service runs, read from the segment's parts.
 
+use characters::character_at;
+use characters::has_character;
 use dates::Date;
 use dates::Made;
 use dates::Number;
@@ -12,12 +14,14 @@ use values::Next;
 use values::next_byte;
 ghost use mathlib.Core.Path.{_≡_};
 ghost use lib.Dec.{eqb};
-ghost use lib.ListN.{getD};
-ghost use Rattle.laws.specs.Choice.{among};
+ghost use Prim.Native.Nat.{_≤_};
+ghost use lib.ListN.{length, getD, drop};
+ghost use Rattle.laws.specs.Choice.{both, all};
 ghost use Rattle.syntax.specs.Bytes.{plain};
 ghost use Rattle.syntax.specs.Pieces.{partOf};
 ghost use Rattle.parts.specs.Places.{bytesOf};
-ghost use Rattle.period.specs.Period.{present, spanBetween, spanIn, dayString, fitsDays, rising, formWithout, formedOf, restGood, periodOf, faultNumber, runsBy, runsIn};
+ghost use Rattle.period.specs.Period.{present, spanBetween, spanIn, zeroOrOne, dayString, fitsDays, rising, formWithout, formedOf, restGood, periodOf, faultNumber, runsBy, runsIn};
+ghost use Rattle.period.specs.Written.{Begins, spanTold, periodTold, Word};
 
 /// What tells the days of a period.
 pub enum Form {
@@ -248,8 +252,8 @@ fn is_rest_good(s: &[u8], segment: Part) -> bool
     !is_repeated(s, segment, 2)
 }
 
-/// The period that a POP gives, the segment without its terminator.
-pub fn read_period(s: &[u8], segment: Part) -> Period
+// The period of a POP written in any way, part by part.
+fn read_any(s: &[u8], segment: Part) -> Period
     ensures { λ r. ⌜ r ≡ periodOf (bytesOf (now (s .entry)) segment) ⌝ }
 {
     let Span::Days(first, count) = read_dates(part_of(s, segment, 1, 2)) else {
@@ -269,48 +273,145 @@ pub fn read_period(s: &[u8], segment: Part) -> Period
     }
 }
 
-// Character k of a part, 0 where it has none.
-fn character_at(part: &[u8], k: usize) -> u8
-    ensures { λ r. ⌜ r ≡ getD (plain (now (part .entry))) k 0 ⌝ }
+// Four bytes as one number.
+fn word(a: u8, b: u8, c: u8, d: u8) -> u32
+    ensures { λ r. ⌜ Word r a b c d ⌝ }
 {
-    let mut i = 0;
-    let mut left = k;
-    while i < part.len() {
-        match next_byte(part, i) {
-            Next::Byte(b, next) => {
-                if left == 0 {
-                    return b;
-                }
-                i = next;
-                left -= 1;
-            }
-            Next::Done => {
-                return 0;
-            }
-        }
-    }
-    0
+    a as u32 + b as u32 * 256 + c as u32 * 65536 + d as u32 * 16777216
 }
 
-// Whether a character is one of a part's.
-fn has_character(part: &[u8], character: u8) -> bool
-    ensures { λ r. ⌜ r ≡ among character (plain (now (part .entry))) ⌝ }
+// The days of a POP that begins as most are written, `POP+273:first/last`.
+fn written_span(g: &[u8]) -> Span
+    ensures { λ r. ⌜ spanTold (now (g .entry)) r ⌝ }
 {
-    let mut i = 0;
-    while i < part.len() {
-        match next_byte(part, i) {
-            Next::Byte(b, k) => {
-                if character == b {
-                    return true;
-                }
-                i = k;
-            }
-            Next::Done => {
-                return false;
-            }
-        }
+    if g.len() < 29 {
+        return Span::NoSpan;
+    }
+    if word(g[0], g[1], g[2], g[3]) != word(b'P', b'O', b'P', b'+') {
+        return Span::NoSpan;
+    }
+    if word(g[4], g[5], g[6], g[7]) != word(b'2', b'7', b'3', b':') {
+        return Span::NoSpan;
+    }
+    if g[18] != b'/' {
+        return Span::NoSpan;
+    }
+    let Made::Valid(first) = dates::read_date(g, 8) else {
+        return Span::NoSpan;
+    };
+    let Made::Valid(last) = dates::read_date(g, 19) else {
+        return Span::NoSpan;
+    };
+    span_between(first, last)
+}
+
+// A test that held so far, and that a byte is the character of a day.
+fn still_days(good: bool, b: u8) -> bool
+    ensures { λ r. ⌜ r ≡ both good (zeroOrOne b) ⌝ }
+{
+    if b == b'0' {
+        return good;
+    }
+    if b == b'1' {
+        return good;
     }
     false
+}
+
+// Whether the bytes from an index on are `0` and `1`. All are passed, so that many can be at once.
+fn are_days(g: &[u8], from: usize) -> bool
+    ensures { λ r. ⌜ r ≡ all zeroOrOne (drop from (now (g .entry))) ⌝ }
+{
+    let mut i = from;
+    let mut good = true;
+    while i < g.len() {
+        good = still_days(good, g[i]);
+        i += 1;
+    }
+    good
+}
+
+// Whether the bytes from an index on are weekdays that rise.
+fn are_rising(g: &[u8], from: usize) -> bool
+    ensures { λ r. ⌜ r ≡ rising 48 (drop from (now (g .entry))) ⌝ }
+{
+    let mut i = from;
+    let mut last = b'0';
+    while i < g.len() {
+        let b = g[i];
+        if b <= last {
+            return false;
+        }
+        if b'7' < b {
+            return false;
+        }
+        last = b;
+        i += 1;
+    }
+    true
+}
+
+// The period of a POP that goes on with a `+` behind its dates. Where the second element is empty, what follows is not read.
+fn read_weekdays(g: &[u8], first: usize, count: usize) -> Period
+    requires { ⌜ Begins (now g) first count × (31 ≤ length (now g)) × (getD (now g) 29 0 ≡ 43) ⌝ }
+    ensures { λ r. ⌜ periodTold (now (g .entry)) r ⌝ }
+{
+    if g[30] == b'+' {
+        return Period::Good(first, count, Form::Every);
+    }
+    if are_rising(g, 30) {
+        return Period::Good(first, count, Form::ByWeekdays);
+    }
+    Period::Wrong(Fault::BadWeekdays)
+}
+
+// The period of a POP whose dates are known, by what stands behind them.
+fn read_behind(g: &[u8], first: usize, count: usize) -> Period
+    requires { ⌜ Begins (now g) first count ⌝ }
+    ensures { λ r. ⌜ periodTold (now (g .entry)) r ⌝ }
+{
+    if g.len() == 29 {
+        return Period::Good(first, count, Form::Every);
+    }
+    if g.len() < 31 {
+        return Period::Wrong(Fault::BadRest);
+    }
+    if g[29] == b'+' {
+        return read_weekdays(g, first, count);
+    }
+    if g[29] != b':' {
+        return Period::Wrong(Fault::BadRest);
+    }
+    if g[30] != b':' {
+        return Period::Wrong(Fault::BadRest);
+    }
+    if g.len() - 31 != count {
+        return Period::Wrong(Fault::BadDayString);
+    }
+    if are_days(g, 31) {
+        return Period::Good(first, count, Form::ByString);
+    }
+    Period::Wrong(Fault::BadDayString)
+}
+
+// The period of a POP in one of the usual forms; no fault it names is told, since the POP may be written in another way.
+fn read_written(g: &[u8]) -> Period
+    ensures { λ r. ⌜ periodTold (now (g .entry)) r ⌝ }
+{
+    match written_span(g) {
+        Span::Days(first, count) => read_behind(g, first, count),
+        Span::NoSpan => Period::Wrong(Fault::BadDates),
+    }
+}
+
+/// The period that a POP gives, the segment without its terminator.
+pub fn read_period(s: &[u8], segment: Part) -> Period
+    ensures { λ r. ⌜ r ≡ periodOf (bytesOf (now (s .entry)) segment) ⌝ }
+{
+    match read_written(bytes_of(s, segment)) {
+        Period::Good(first, count, form) => Period::Good(first, count, form),
+        Period::Wrong(_) => read_any(s, segment),
+    }
 }
 
 // Whether the day k days after the first runs by a form.

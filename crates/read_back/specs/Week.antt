@@ -22,9 +22,11 @@ use Rattle.calendar.specs.Written.{dayCount, goodCalendar, start, named, weekda
 use Rattle.period.specs.Period.{present, rising, runsBy, runsIn}
 use Rattle.period.specs.declared.Form.the-variants.{Every, ByWeekdays}
 use Rattle.period.specs.declared.Period.the-variants.{Good}
-use Rattle.read_back.specs.Free.{numeric}
-use Rattle.read_back.specs.Parts.{twoElements, withoutString, week-parts}
-use Rattle.read_back.specs.Written.{dates, numeric-dates, length-dates, period-read, weekdays-plain, ReadsBack}
+use Rattle.free_texts.specs.Free.{numeric}
+use Rattle.free_texts.specs.Parts.{twoElements, withoutString}
+use Rattle.period.specs.Written.{weekdays-plain}
+use Rattle.read_back.specs.Parts.{week-parts}
+use Rattle.read_back.specs.Written.{dates, numeric-dates, length-dates, period-read, ReadsBack}
 
 -- the digits of those of the m weekdays from v on of which a test holds
 module _ (t : ℕ → Bool) where
@@ -150,5 +152,5 @@ module _ (c : List ℕ) (first last : Date) (good : goodCalendar c first last �
         period = e;
         days = λ k i.
             rw (e, lt-ltb k (dayCount first last) i)
-            (ap (among (48 + weekdayOf (number first + k))) (weekdays-plain c first last f weekBody [] names p refl w) ∙ week-runs c (number first) (dayCount first last) h k i);
+            (ap (among (48 + weekdayOf (number first + k))) (weekdays-plain weekBody (dates first last) [] names (p .cut) (numeric-dates first last) refl w) ∙ week-runs c (number first) (dayCount first last) h k i);
       }

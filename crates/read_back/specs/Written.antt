@@ -9,25 +9,25 @@ use lib.Dec.{eqb}
 use lib.ListN.{length, getD, take, drop}
 use borrow.Author.Tests.{eq-eqb, le-leb, lt-ltb}
 use Rattle.laws.specs.Choice.{pick, both, either, all}
-use Rattle.syntax.specs.Bytes.{plain, plainOn}
 use Rattle.syntax.specs.Segment.{bodyAt, segmentAt}
 use Rattle.syntax.specs.declared.segment.Scanned.the-variants.{End}
-use Rattle.values.specs.Values.{sameText}
 use Rattle.dates.specs.Dates.{number}
-use Rattle.dates.specs.Text.{digit, dateText, dateAt}
+use Rattle.dates.specs.Text.{digit, dateText}
 use Rattle.dates.specs.Again.{read-text}
 use Rattle.dates.specs.declared.Date.{Date}
 use Rattle.calendar.specs.Days.{day}
 use Rattle.calendar.specs.Steps.{length-characters, character-at}
 use Rattle.calendar.specs.Good.{GoodCalendar, good-facts}
 use Rattle.calendar.specs.Written.{dayCount, goodPeriod, goodCalendar, start, dayCharacter, dayCharacters, dayStringText}
-use Rattle.period.specs.Period.{firstLast, dayText, weekText, present, zeroOrOne, dayString, fitsDays, rising, formOf, restGood, periodOf, runsBy, runsIn, runs}
-use Rattle.period.specs.Facts.{passes-good}
+use Rattle.period.specs.Period.{present, spanBetween, zeroOrOne, dayString, fitsDays, rising, formOf, formedOf, periodOf, runsBy, runsIn, runs}
+use Rattle.period.specs.Tests.{two-dates}
+use Rattle.period.specs.Written.{string-plain, cut-good}
 use Rattle.period.specs.declared.Form.{Form}
 use Rattle.period.specs.declared.Form.the-variants.{Every, ByString}
 use Rattle.period.specs.declared.Period.the-variants.{Good}
-use Rattle.read_back.specs.Free.{all-append, numeric, plain-all, no-release}
-use Rattle.read_back.specs.Parts.{Parts, oneElement, withString, string-parts}
+use Rattle.free_texts.specs.Free.{all-append, numeric}
+use Rattle.free_texts.specs.Parts.{oneElement, withString}
+use Rattle.read_back.specs.Parts.{Parts, string-parts}
 
 -- the bytes of the parts
 all-cons : (f : ℕ → Bool) (b : ℕ) (l : List ℕ) → f b ≡ true → all f l ≡ true → all f (b ∷ l) ≡ true
@@ -73,37 +73,13 @@ module _ (c : List ℕ) (a b : Date) (good : GoodCalendar c a b) where
 
   -- a POP whose parts are these dates and a form that is told is a good period
   module _ (g s w : List ℕ) (p : Parts g (dates a b) s w) (ns : all numeric s ≡ true) (nw : all numeric w ≡ true) where
-    dates-plain : firstLast g ≡ dates a b
-    dates-plain = ap plain (p .dates-are) ∙ plain-all (dates a b) (no-release (dates a b) (numeric-dates a b))
-
-    pub string-plain : dayText g ≡ s
-    string-plain = ap plain (p .string-is) ∙ plain-all s (no-release s ns)
-
-    pub weekdays-plain : weekText g ≡ w
-    weekdays-plain = ap plain (p .weekdays-are) ∙ plain-all w (no-release w nw)
-
-    rest-read : restGood g ≡ true
-    unfolding restGood sameText plainOn
-    rest-read =
-        rw (p .first-once, p .second-once)
-        (ap (λ (x : List ℕ). both (sameText (plain x) (50 ∷ 55 ∷ 51 ∷ [])) true) (p .qualifier-is))
-
     pub period-read : fitsDays (dayCount a b) s ≡ true → rising 48 w ≡ true → both (present s) (present w) ≡ false
         → periodOf g ≡ Good (number a) (dayCount a b) (formOf s w)
+    unfolding spanBetween formedOf
     period-read f r n =
-        passes-good g a b (record {
-          in-length = ap length dates-plain ∙ length-dates a b;
-          stroke = ap (λ (x : List ℕ). getD x 10 0) dates-plain ∙ stroke-in a b;
-          first-read = ap (λ (x : List ℕ). dateAt x 0) dates-plain ∙ read-text a (good .first-date) (dates a b) 0 (first-in a b);
-          last-read = ap (λ (x : List ℕ). dateAt x 11) dates-plain ∙ read-text b (good .last-date) (dates a b) 11 (last-in a b);
-          good-span = good-span;
-          string-fits = ap (fitsDays (dayCount a b)) string-plain ∙ f;
-          weekdays-rise = ap (rising 48) weekdays-plain ∙ r;
-          not-both = ap (λ (x : List ℕ). both (present x) (present (weekText g))) string-plain ∙ ap (λ (x : List ℕ). both (present s) (present x)) weekdays-plain ∙ n;
-          rest = rest-read;
-        })
-        ∙ ap (λ (x : List ℕ). Good (number a) (dayCount a b) (formOf x (weekText g))) string-plain
-        ∙ ap (λ (x : List ℕ). Good (number a) (dayCount a b) (formOf s x)) weekdays-plain
+        sym (cut-good g (dates a b) s w (p .cut) (numeric-dates a b) ns nw
+        (sym (two-dates (dates a b) (length-dates a b) (stroke-in a b) (read-text a (good .first-date) (dates a b) 0 (first-in a b)) (read-text b (good .last-date) (dates a b) 11 (last-in a b))) ∙ rw good-span)
+        (rw (f, r, n)))
 
 -- the day string
 numeric-characters : (c : List ℕ) (k n : ℕ) → all numeric (dayCharacters c k n) ≡ true
@@ -192,5 +168,5 @@ module _ (c : List ℕ) (first last : Date) (good : goodCalendar c first last �
         period = e;
         days = λ k h.
             rw (e, lt-ltb k (dayCount first last) h)
-            (ap (λ (t : List ℕ). eqb (getD t k 0) 49) (string-plain c first last f stringBody string [] p s refl) ∙ string-runs c (dayCount first last) k h);
+            (ap (λ (t : List ℕ). eqb (getD t k 0) 49) (string-plain stringBody (dates first last) string [] (p .cut) (numeric-dates first last) s refl) ∙ string-runs c (dayCount first last) k h);
       }

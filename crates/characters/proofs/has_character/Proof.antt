@@ -10,9 +10,9 @@ use lib.ListN.{length, drop}
 use Rattle.syntax.specs.Bytes.{plain}
 use Rattle.values.specs.Values.{next-byte, next-done, plain-past, Follows}
 use Rattle.laws.specs.Choice.{among}
-use Rattle.period.specs.Steps.{found-here, found-goes, found-none}
-use Rattle.period.proofs.has_character.Statement.{statement}
-use Rattle.period.proofs.has_character.Tie as tie
+use Rattle.characters.specs.Steps.{found-here, found-goes, found-none}
+use Rattle.characters.proofs.has_character.Statement.{statement}
+use Rattle.characters.proofs.has_character.Tie as tie
 
 abbrev Inv-loop : tie.InvT-loop
 Inv-loop part character i₀ i = among character (plain (drop i part)) ≡ among character (plain part)

@@ -10,9 +10,9 @@ use lib.ListN.{length, drop}
 use Rattle.syntax.specs.Bytes.{plain}
 use Rattle.values.specs.Values.{next-byte, next-done, plain-past, Follows}
 use lib.ListN.{getD}
-use Rattle.period.specs.Steps.{character-here, character-goes, character-none}
-use Rattle.period.proofs.character_at.Statement.{statement}
-use Rattle.period.proofs.character_at.Tie as tie
+use Rattle.characters.specs.Steps.{character-here, character-goes, character-none}
+use Rattle.characters.proofs.character_at.Statement.{statement}
+use Rattle.characters.proofs.character_at.Tie as tie
 
 abbrev Inv-loop : tie.InvT-loop
 Inv-loop part k i₀ left₀ i left = getD (plain (drop i part)) left 0 ≡ getD (plain part) k 0

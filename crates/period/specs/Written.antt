@@ -1,0 +1,267 @@
+-- A POP as most are written, `POP+273:first/last` and then a form of days or neither: what its bytes say is its period.
+-- Assumes nothing.
+use mathlib.Core.Path.{_≡_, refl, sym, ap, subst, _∙_}
+use mathlib.Core.Bool.{true}
+use mathlib.Core.List.{List, [], _∷_, _++_, append-nil}
+use Prim.Native.Nat.{ℕ, zero, suc, _+_, _-_, _*_, _≤_}
+use native.Mathlib.Omega.{arith}
+use lib.Dec.{eqb, leb, ltb}
+use lib.ListN.{length, getD, drop, length-drop}
+use borrow.Author.Tests.{eq-eqb, le-leb, leb-true, ltb-true, eqb-true}
+use Rattle.laws.specs.Choice.{both, all, both-parts, choose}
+use Rattle.laws.specs.Lists.{drop-here, drop-past}
+use Rattle.syntax.specs.Bytes.{plain, plainOn}
+use Rattle.values.specs.Values.{sameText}
+use Rattle.dates.specs.Text.{isDigit, twoDigits, digitsAt, dateAt}
+use Rattle.dates.specs.declared.Date.{Date}
+use Rattle.dates.specs.declared.Made.the-variants.{Valid, NoDate}
+use Rattle.free_texts.specs.Free.{all-append, all-weaker, numeric, plain-all, no-release}
+use Rattle.free_texts.specs.Parts.{Cut, oneElement, twoElements, withString, withoutString, string-cut, week-cut, passed-cut, alone-cut}
+use Rattle.period.specs.declared.Form.{Form}
+use Rattle.period.specs.declared.Form.the-variants.{Every, ByString, ByWeekdays}
+use Rattle.period.specs.declared.Period.{Period}
+use Rattle.period.specs.declared.Period.the-variants.{Good, Wrong}
+use Rattle.period.specs.declared.Span.{Span}
+use Rattle.period.specs.declared.Span.the-variants.{Days, NoSpan}
+use Rattle.period.specs.declared.Formed.the-variants.{Told}
+use Rattle.period.specs.Period.{firstLast, dayText, weekText, present, spanBetween, spanIn, zeroOrOne, dayString, rising, formedOf, restGood, periodOf}
+use Rattle.period.specs.Facts.{span-told}
+use Rattle.period.specs.Tests.{two-dates, good-period}
+
+-- a POP cut into these parts is a good period where they are good
+module _ (g d s w : List ℕ) (p : Cut g d s w) (pd : all numeric d ≡ true) (ps : all numeric s ≡ true) (pw : all numeric w ≡ true) where
+  dates-plain : firstLast g ≡ d
+  dates-plain = ap plain (p .dates-are) ∙ plain-all d (no-release d pd)
+
+  pub string-plain : dayText g ≡ s
+  string-plain = ap plain (p .string-is) ∙ plain-all s (no-release s ps)
+
+  pub weekdays-plain : weekText g ≡ w
+  weekdays-plain = ap plain (p .weekdays-are) ∙ plain-all w (no-release w pw)
+
+  rest-read : restGood g ≡ true
+  unfolding restGood sameText plainOn
+  rest-read =
+      rw (p .first-once, p .second-once)
+      (ap (λ (x : List ℕ). both (sameText (plain x) (50 ∷ 55 ∷ 51 ∷ [])) true) (p .qualifier-is))
+
+  pub cut-good : {f n : ℕ} {form : Form} → spanIn d ≡ Days f n → formedOf n s w ≡ Told form → Good f n form ≡ periodOf g
+  cut-good {f} {n} {form} a b =
+      good-period g (ap spanIn dates-plain ∙ a)
+      (ap (λ (x : List ℕ). formedOf n x (weekText g)) string-plain ∙ ap (formedOf n s) weekdays-plain ∙ b)
+      rest-read
+
+-- the n elements from index k on, where there are so many
+firsts : List ℕ → ℕ → ℕ → List ℕ
+firsts g k zero = []
+firsts g k (suc n) = getD g k 0 ∷ firsts g (k + 1) n
+
+drop-firsts : (g : List ℕ) (n k : ℕ) → k + n ≤ length g → drop k g ≡ firsts g k n ++ drop (k + n) g
+unfolding firsts
+drop-firsts g zero k h = let e : k + 0 ≡ k = omega arith in rw e
+drop-firsts g (suc n) k h =
+    let e : k + suc n ≡ k + 1 + n = omega arith in
+    rw e (drop-here g k (omega arith) ∙ ap (λ (x : List ℕ). getD g k 0 ∷ x) (drop-firsts g n (k + 1) (omega arith)))
+
+-- the bytes of a date are digits and hyphens
+digit-numeric : (b : ℕ) → isDigit b ≡ true → numeric b ≡ true
+digit-numeric b p =
+    let u = both-parts (leb 48 b) (leb b 57) p in
+    let l = leb-true 48 b (u .0) in
+    rw (le-leb 45 b (omega arith), u .1)
+
+hyphen-numeric : (b : ℕ) → eqb b 45 ≡ true → numeric b ≡ true
+hyphen-numeric b p = rw (eqb-true b 45 p)
+
+pair-numeric : (t o : ℕ) → both (isDigit t) (isDigit o) ≡ true → (numeric t ≡ true) × (numeric o ≡ true)
+pair-numeric t o p = let u = both-parts (isDigit t) (isDigit o) p in (digit-numeric t (u .0), digit-numeric o (u .1))
+
+no-date : {a : Date} → NoDate ≡ Valid a → ⊥
+no-date e = let z : _≡_ {A = ℕ} 0 1 = cc in omega arith
+
+module _ (y₀ y₁ y₂ y₃ y₄ y₅ y₆ y₇ y₈ y₉ : ℕ) where
+  date-numeric : {a : Date} → dateAt (y₀ ∷ y₁ ∷ y₂ ∷ y₃ ∷ y₄ ∷ y₅ ∷ y₆ ∷ y₇ ∷ y₈ ∷ y₉ ∷ []) 0 ≡ Valid a
+      → all numeric (y₀ ∷ y₁ ∷ y₂ ∷ y₃ ∷ y₄ ∷ y₅ ∷ y₆ ∷ y₇ ∷ y₈ ∷ y₉ ∷ []) ≡ true
+  unfolding dateAt digitsAt twoDigits
+  date-numeric e =
+      choose (both (eqb y₄ 45) (eqb y₇ 45)) (λ h.
+      choose (both (isDigit y₀) (isDigit y₁)) (λ c.
+      choose (both (isDigit y₂) (isDigit y₃)) (λ y.
+      choose (both (isDigit y₅) (isDigit y₆)) (λ m.
+      choose (both (isDigit y₈) (isDigit y₉)) (λ d.
+      let u = both-parts (eqb y₄ 45) (eqb y₇ 45) h in
+      let v = pair-numeric y₀ y₁ c in
+      let w = pair-numeric y₂ y₃ y in
+      let x = pair-numeric y₅ y₆ m in
+      let z = pair-numeric y₈ y₉ d in
+      rw (v .0, v .1, w .0, w .1, hyphen-numeric y₄ (u .0), x .0, x .1, hyphen-numeric y₇ (u .1), z .0, z .1))
+      (λ n. absurd (no-date (rw (h, c, y, m, n) at e))))
+      (λ n. absurd (no-date (rw (h, c, y, n) at e))))
+      (λ n. absurd (no-date (rw (h, c, n) at e))))
+      (λ n. absurd (no-date (rw (h, n) at e))))
+      (λ n. absurd (no-date (rw n at e)))
+
+-- a POP that begins `POP+273:first/last`, with dates that give a period
+pub record Begins (g : List ℕ) (f n : ℕ) : Type 0 where
+  pub dates : List ℕ
+  pub long : 29 ≤ length g
+  pub split : g ≡ oneElement (withoutString (dates ++ drop 29 g))
+  pub numerics : all numeric dates ≡ true
+  pub span : spanIn dates ≡ Days f n
+
+-- days that were found are those of such a POP; where none were found nothing is said
+abbrev pub spanTold : List ℕ → Span → Type 0
+spanTold g (Days f n) = Begins g f n
+spanTold g NoSpan = Unit
+
+-- a good period that was found is the POP's; where none was found nothing is said
+abbrev pub periodTold : List ℕ → Period → Type 0
+periodTold g (Good f n form) = Good f n form ≡ periodOf g
+periodTold g (Wrong x) = Unit
+
+pub span-known : (g : List ℕ) {r : Span} {f n : ℕ} → spanTold g r → r ≡ Days f n → Begins g f n
+span-known g t e = subst (spanTold g) e t
+
+pub period-known : (g : List ℕ) {r : Period} {f n : ℕ} {form : Form} → periodTold g r → r ≡ Good f n form → Good f n form ≡ periodOf g
+period-known g t e = subst (periodTold g) e t
+
+-- four bytes as one number
+abbrev pub wordOf : ℕ → ℕ → ℕ → ℕ → ℕ
+wordOf a b c d = a + b * 256 + c * 65536 + d * 16777216
+
+pub record Same (a b c d x y z w : ℕ) : Type 0 where
+  pub one : a ≡ x
+  pub two : b ≡ y
+  pub three : c ≡ z
+  pub four : d ≡ w
+
+pub record Word (r a b c d : ℕ) : Type 0 where
+  pub is : r ≡ wordOf a b c d
+  pub first-byte : a ≤ 255
+  pub second-byte : b ≤ 255
+  pub third-byte : c ≤ 255
+  pub fourth-byte : d ≤ 255
+
+pub word-same : {r t a b c d x y z w : ℕ} → Word r a b c d → Word t x y z w → r ≡ t → Same a b c d x y z w
+word-same {r} {t} {a} {b} {c} {d} {x} {y} {z} {w} p q e =
+    let k : wordOf a b c d ≡ wordOf x y z w = sym (p .is) ∙ e ∙ q .is in
+    let a₁ = p .first-byte in
+    let b₁ = p .second-byte in
+    let c₁ = p .third-byte in
+    let d₁ = p .fourth-byte in
+    let x₁ = q .first-byte in
+    let y₁ = q .second-byte in
+    let z₁ = q .third-byte in
+    let w₁ = q .fourth-byte in
+    let four : d ≡ w = omega arith in
+    let three : c ≡ z = omega arith in
+    let two : b ≡ y = omega arith in
+    record { one = omega arith; two = two; three = three; four = four }
+
+four-same : {a b c d x y z w : ℕ} → Same a b c d x y z w → (l : List ℕ) → a ∷ b ∷ c ∷ d ∷ l ≡ x ∷ y ∷ z ∷ w ∷ l
+four-same s l = rw (s .one, s .two, s .three, s .four)
+
+module _ (g : List ℕ) (h : 29 ≤ length g) {a b : Date} (p : dateAt g 8 ≡ Valid a) (q : dateAt g 19 ≡ Valid b) (stroke : getD g 18 0 ≡ 47) where
+  abbrev ds : List ℕ
+  ds = firsts g 8 21
+
+  first-numeric : all numeric (firsts g 8 10) ≡ true
+  unfolding firsts dateAt digitsAt
+  first-numeric = date-numeric (getD g 8 0) (getD g 9 0) (getD g 10 0) (getD g 11 0) (getD g 12 0) (getD g 13 0) (getD g 14 0) (getD g 15 0) (getD g 16 0) (getD g 17 0) (rw (le-leb 18 (length g) (omega arith)) at p)
+
+  last-numeric : all numeric (firsts g 19 10) ≡ true
+  unfolding firsts dateAt digitsAt
+  last-numeric = date-numeric (getD g 19 0) (getD g 20 0) (getD g 21 0) (getD g 22 0) (getD g 23 0) (getD g 24 0) (getD g 25 0) (getD g 26 0) (getD g 27 0) (getD g 28 0) (rw (le-leb 29 (length g) (omega arith)) at q)
+
+  dates-numeric : all numeric (firsts g 8 21) ≡ true
+  unfolding firsts
+  dates-numeric = all-append numeric (firsts g 8 10) (firsts g 18 11) first-numeric (all-append numeric (getD g 18 0 ∷ []) (firsts g 19 10) (rw stroke) last-numeric)
+
+  dates-span : spanBetween a b ≡ spanIn (firsts g 8 21)
+  unfolding firsts dateAt digitsAt
+  dates-span = two-dates (firsts g 8 21) refl stroke (rw (le-leb 18 (length g) (omega arith)) at p) (rw (le-leb 29 (length g) (omega arith)) at q)
+
+  module _ (s : Same (getD g 0 0) (getD g 1 0) (getD g 2 0) (getD g 3 0) 80 79 80 43) (t : Same (getD g 4 0) (getD g 5 0) (getD g 6 0) (getD g 7 0) 50 55 51 58) where
+    begins-split : g ≡ oneElement (withoutString (firsts g 8 21 ++ drop 29 g))
+    unfolding firsts
+    begins-split =
+        drop-firsts g 8 0 (omega arith)
+        ∙ four-same s (getD g 4 0 ∷ getD g 5 0 ∷ getD g 6 0 ∷ getD g 7 0 ∷ drop 8 g)
+        ∙ ap oneElement (four-same t (drop 8 g))
+        ∙ ap (λ (x : List ℕ). oneElement (withoutString x)) (drop-firsts g 21 8 (omega arith))
+
+    pub begins-told : (r : Span) → r ≡ spanBetween a b → spanTold g r
+    begins-told NoSpan e = tt
+    begins-told (Days f n) e =
+        record { dates = firsts g 8 21; long = h; split = begins-split; numerics = dates-numeric; span = sym (e ∙ dates-span) }
+
+-- the characters of the forms
+day-numeric : (b : ℕ) → zeroOrOne b ≡ true → numeric b ≡ true
+day-numeric b p =
+    choose (eqb b 48) (λ q. rw (eqb-true b 48 q)) (λ q. rw (eqb-true b 49 (rw q at p)))
+
+rising-numeric : (low : ℕ) (l : List ℕ) → 45 ≤ low → rising low l ≡ true → all numeric l ≡ true
+unfolding rising
+rising-numeric low [] h p = refl
+rising-numeric low (b ∷ l) h p =
+    let u = both-parts (both (ltb low b) (leb b 55)) (rising b l) p in
+    let v = both-parts (ltb low b) (leb b 55) (u .0) in
+    let k = ltb-true low b (v .0) in
+    let m = leb-true b 55 (v .1) in
+    rw (le-leb 45 b (omega arith), le-leb b 57 (omega arith)) (rising-numeric b l (omega arith) (u .1))
+
+some-text : (l : List ℕ) → 1 ≤ length l → present l ≡ true
+some-text [] h = absurd (omega arith)
+some-text (b ∷ l) h = refl
+
+module _ (n : ℕ) (l : List ℕ) (k : present l ≡ true) where
+  told-weekdays : rising 48 l ≡ true → formedOf n [] l ≡ Told ByWeekdays
+  unfolding formedOf
+  told-weekdays r = rw (r, k)
+
+  told-string : length l ≡ n → all zeroOrOne l ≡ true → formedOf n l [] ≡ Told ByString
+  unfolding formedOf rising dayString
+  told-string e z = rw (k, eq-eqb (length l) n e, z)
+
+told-every : (n : ℕ) → formedOf n [] [] ≡ Told Every
+unfolding formedOf rising
+told-every n = refl
+
+-- what stands behind the dates tells the form
+module _ (g : List ℕ) {f n : ℕ} (b : Begins g f n) where
+  of-rest : (rest : List ℕ) (form : Form) → drop 29 g ≡ rest → Good f n form ≡ periodOf (oneElement (withoutString (b .dates ++ rest))) → Good f n form ≡ periodOf g
+  of-rest rest form e k = k ∙ ap (λ (x : List ℕ). periodOf (oneElement (withoutString (b .dates ++ x)))) (sym e) ∙ ap periodOf (sym (b .split))
+
+  pub alone-good : length g ≡ 29 → Good f n Every ≡ periodOf g
+  alone-good h =
+      of-rest [] Every (drop-past g 29 (omega arith))
+      (cut-good (oneElement (withoutString (b .dates))) (b .dates) [] [] (alone-cut (b .dates) (b .numerics)) (b .numerics) refl refl (b .span) (told-every n)
+      ∙ ap (λ (x : List ℕ). periodOf (oneElement (withoutString x))) (sym (append-nil (b .dates))))
+
+  module _ (h : 31 ≤ length g) where
+    two-more : (x y : ℕ) → getD g 29 0 ≡ x → getD g 30 0 ≡ y → drop 29 g ≡ x ∷ y ∷ drop 31 g
+    two-more x y p q =
+        drop-here g 29 (omega arith) ∙ ap (λ (l : List ℕ). getD g 29 0 ∷ l) (drop-here g 30 (omega arith))
+        ∙ rw (p, q)
+
+    pub passed-good : getD g 29 0 ≡ 43 → getD g 30 0 ≡ 43 → Good f n Every ≡ periodOf g
+    passed-good p q =
+        of-rest (43 ∷ 43 ∷ drop 31 g) Every (two-more 43 43 p q)
+        (cut-good (twoElements (withoutString (b .dates)) (43 ∷ drop 31 g)) (b .dates) [] [] (passed-cut (b .dates) (b .numerics) (drop 31 g)) (b .numerics) refl refl (b .span) (told-every n))
+
+    pub weekdays-good : getD g 29 0 ≡ 43 → rising 48 (drop 30 g) ≡ true → Good f n ByWeekdays ≡ periodOf g
+    weekdays-good p r =
+        let l = length-drop 30 g in
+        let k = rising-numeric 48 (drop 30 g) (omega arith) r in
+        of-rest (43 ∷ drop 30 g) ByWeekdays (drop-here g 29 (omega arith) ∙ rw p)
+        (cut-good (twoElements (withoutString (b .dates)) (drop 30 g)) (b .dates) [] (drop 30 g) (week-cut (b .dates) (b .numerics) (drop 30 g) k) (b .numerics) refl k (b .span)
+        (told-weekdays n (drop 30 g) (some-text (drop 30 g) (omega arith)) r))
+
+    pub string-good : getD g 29 0 ≡ 58 → getD g 30 0 ≡ 58 → length g - 31 ≡ n → all zeroOrOne (drop 31 g) ≡ true → Good f n ByString ≡ periodOf g
+    string-good p q m z =
+        let l = length-drop 31 g in
+        let c = span-told (b .dates) f n (b .span) .count in
+        let k = all-weaker zeroOrOne numeric (drop 31 g) day-numeric z in
+        of-rest (58 ∷ 58 ∷ drop 31 g) ByString (two-more 58 58 p q)
+        (cut-good (oneElement (withString (b .dates) (drop 31 g))) (b .dates) (drop 31 g) [] (string-cut (b .dates) (drop 31 g) (b .numerics) k) (b .numerics) k refl (b .span)
+        (told-string n (drop 31 g) (some-text (drop 31 g) (omega arith)) (omega arith) z))
