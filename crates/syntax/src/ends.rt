@@ -1,0 +1,128 @@
+//! Where a segment ends, found before its parts are counted.
+
+use crate::bytes::permitted;
+use passing::passes;
+ghost use mathlib.Core.Path.{_≡_};
+ghost use mathlib.Core.List.{List, [], _∷_};
+ghost use Prim.Native.Nat.{_+_};
+ghost use lib.Dec.{leb};
+ghost use lib.ListN.{length, drop};
+ghost use Rattle.laws.specs.Choice.{pick, both, all};
+ghost use Rattle.passing.specs.Passing.{goes};
+ghost use Rattle.syntax.specs.Bytes.{isMark};
+ghost use Rattle.syntax.specs.Passed.{passRun};
+ghost use Rattle.syntax.specs.Found.{endFrom};
+ghost use Rattle.syntax.specs.Few.{marksIn};
+
+// 1 where eight bytes are all passed over, else 0.
+fn all_pass(a: u8, b: u8, c: u8, d: u8, e: u8, f: u8, g: u8, h: u8) -> u8
+    ensures { λ r. ⌜ r ≡ pick (all goes (a ∷ b ∷ c ∷ d ∷ e ∷ f ∷ g ∷ h ∷ [])) 1 0 ⌝ }
+{
+    passes(a) & passes(b) & passes(c) & passes(d) & passes(e) & passes(f) & passes(g) & passes(h)
+}
+
+// How many of eight bytes are passed over before the first that is not.
+fn leading(a: u8, b: u8, c: u8, d: u8, e: u8, f: u8, g: u8, h: u8) -> u8
+    ensures { λ r. ⌜ r ≡ passRun (a ∷ b ∷ c ∷ d ∷ e ∷ f ∷ g ∷ h ∷ []) ⌝ }
+{
+    let one = passes(a);
+    let two = one & passes(b);
+    let three = two & passes(c);
+    let four = three & passes(d);
+    let five = four & passes(e);
+    let six = five & passes(f);
+    let seven = six & passes(g);
+    let eight = seven & passes(h);
+    one + two + three + four + five + six + seven + eight
+}
+
+// The index of the first byte from `from` on that is not passed over, or the input's length: byte by byte.
+fn last_run(s: &[u8], from: usize) -> usize
+    ensures { λ r. ⌜ r ≡ from + passRun (drop from (now (s .entry))) ⌝ }
+{
+    let mut i = from;
+    while i < s.len() {
+        if passes(s[i]) == 0 {
+            return i;
+        }
+        i += 1;
+    }
+    i
+}
+
+// The same, eight bytes at a time.
+fn run_end(s: &[u8], from: usize) -> usize
+    ensures { λ r. ⌜ r ≡ from + passRun (drop from (now (s .entry))) ⌝ }
+{
+    if s.len() < 8 {
+        return last_run(s, from);
+    }
+    let last = s.len() - 8;
+    let mut i = from;
+    while i <= last {
+        let a = s[i];
+        let b = s[i + 1];
+        let c = s[i + 2];
+        let d = s[i + 3];
+        let e = s[i + 4];
+        let f = s[i + 5];
+        let g = s[i + 6];
+        let h = s[i + 7];
+        if all_pass(a, b, c, d, e, f, g, h) == 0 {
+            return i + leading(a, b, c, d, e, f, g, h) as usize;
+        }
+        i += 8;
+    }
+    last_run(s, i)
+}
+
+/// The terminator's index where the segment goes on from `from`, is ended and has no byte that is not permitted; else the input's length.
+pub(crate) fn find_end(s: &[u8], from: usize) -> usize
+    ensures { λ r. ⌜ r ≡ endFrom (now (s .entry)) from ⌝ }
+{
+    let mut i = from;
+    while i < s.len() {
+        let j = run_end(s, i);
+        if s.len() <= j {
+            return s.len();
+        }
+        if s[j] == b'\'' {
+            return j;
+        }
+        if s[j] != b'?' {
+            return s.len();
+        }
+        let k = j + 1;
+        if s.len() <= k {
+            return s.len();
+        }
+        if !permitted(s[k]) {
+            return s.len();
+        }
+        i = k + 1;
+    }
+    s.len()
+}
+
+// 1 for `+`, `*` or `:`, 0 for any other byte.
+fn mark_of(b: u8) -> usize
+    ensures { λ r. ⌜ r ≡ pick (isMark b) 1 0 ⌝ }
+{
+    (b == b'+') as usize + (b == b'*') as usize + (b == b':') as usize
+}
+
+/// Whether a segment has too few characters and marks to pass a limit.
+pub(crate) fn is_small(p: &[u8]) -> bool
+    ensures { λ r. ⌜ r ≡ both (leb (length (now (p .entry))) 512) (leb (marksIn (now (p .entry))) 31) ⌝ }
+{
+    if 512 < p.len() {
+        return false;
+    }
+    let mut marks = 0;
+    let mut i = 0;
+    while i < p.len() {
+        marks += mark_of(p[i]);
+        i += 1;
+    }
+    marks <= 31
+}
