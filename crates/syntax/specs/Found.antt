@@ -1,21 +1,20 @@
 -- The end of a segment by a scan that counts no parts.
 -- Assumes nothing.
 use mathlib.Core.Path.{_≡_, refl, sym, ap, _∙_}
-use mathlib.Core.Bool.{Bool, true, false}
+use mathlib.Core.Bool.{Bool, true, false, not}
 use mathlib.Core.List.{List, [], _∷_}
 use Prim.Native.Nat.{ℕ, zero, suc, _+_, _-_, _≤_, _<_}
 use native.Mathlib.Omega.{arith}
 use native.Mathlib.Nat.{add-zero}
 use lib.Dec.{ltb, eqb}
-use borrow.Author.Tests.{le-ltb, lt-ltb, ltb-true, eqb-true, ne-eqb}
+use borrow.Author.Tests.{le-ltb, lt-ltb, not-true}
 use lib.ListN.{length, drop, getD, length-drop}
 use lib.Seq.{drop-drop, getD-drop}
-use Rattle.laws.specs.Choice.{pick, both, all, choose, both-parts, both-false, false≢true}
+use Rattle.laws.specs.Choice.{pick, both, all, choose, both-parts, both-true}
 use Rattle.laws.specs.Lists.{drop-here, drop-past}
-use Rattle.passing.specs.Passing.{goes}
 use Rattle.syntax.specs.Bytes.{permittedOf}
 use Rattle.syntax.specs.Pieces.{first}
-use Rattle.syntax.specs.Passed.{passRun}
+use Rattle.syntax.specs.Passed.{goes, passRun}
 
 -- the index past the body g that begins at index i, where g is ended in an input of n bytes and all its bytes are permitted; else n
 unfoldable pub endOf : ℕ → ℕ → List ℕ → ℕ
@@ -28,19 +27,16 @@ endFrom s i = endOf (length s) i (first 39 false (drop i s))
 -- a byte that is passed over is permitted and stands neither as terminator nor as release
 pub goes-quote : (b : ℕ) → goes b ≡ true → eqb b 39 ≡ false
 goes-quote b q =
-    choose (eqb b 39)
-    (λ p. let e = eqb-true b 39 p in absurd (false≢true (rw e at q)))
-    (λ p. p)
+    let w = both-parts (permittedOf b) (both (not (eqb b 39)) (not (eqb b 63))) q in
+    not-true _ (both-parts (not (eqb b 39)) (not (eqb b 63)) (w .1) .0)
 
 pub goes-question : (b : ℕ) → goes b ≡ true → eqb b 63 ≡ false
 goes-question b q =
-    choose (eqb b 63)
-    (λ p. let e = eqb-true b 63 p in absurd (false≢true (rw e at q)))
-    (λ p. p)
+    let w = both-parts (permittedOf b) (both (not (eqb b 39)) (not (eqb b 63))) q in
+    not-true _ (both-parts (not (eqb b 39)) (not (eqb b 63)) (w .1) .1)
 
 pub goes-fine : (b : ℕ) → eqb b 39 ≡ false → eqb b 63 ≡ false → goes b ≡ permittedOf b
-unfolding permittedOf
-goes-fine b p q = rw (p, q)
+goes-fine b p q = rw (p, q) (both-true (permittedOf b))
 
 fine-question : permittedOf 63 ≡ true
 unfolding permittedOf

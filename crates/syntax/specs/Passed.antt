@@ -1,21 +1,35 @@
 -- Runs of bytes that a scan for a segment's end passes over: permitted, and neither the terminator nor the release character.
 -- Assumes nothing.
 use mathlib.Core.Path.{_≡_, refl, sym, ap, _∙_}
-use mathlib.Core.Bool.{Bool, true, false}
+use mathlib.Core.Bool.{Bool, true, false, not}
 use mathlib.Core.List.{List, [], _∷_, _++_}
-use Prim.Native.Nat.{ℕ, zero, suc, _+_, _≤_, _<_}
+use Prim.Native.Nat.{ℕ, zero, suc, _+_, _/_, _%_, _^_, _≤_, _<_}
 use native.Mathlib.Numerals.{add-one}
 use native.Mathlib.Omega.{arith}
 use native.Mathlib.Nat.{zero-add}
-use lib.Dec.{eqb}
+use lib.Dec.{eqb, eqb→eq}
 use lib.Bits.{bitAnd, and-le-l}
 use lib.ListN.{length, getD, drop, drop-of-length-le}
 use lib.Seq.{drop-cons}
 use borrow.Author.Tests.{eqb-true}
 use Rattle.laws.specs.Choice.{pick, both, all, choose, false≢true}
 use Rattle.laws.specs.Lists.{drop-here}
-use Rattle.passing.specs.Passing.{goes}
+use Rattle.laws.specs.Sweep.{at}
 use Rattle.syntax.specs.Bytes.{permittedOf}
+
+abbrev pub goes : ℕ → Bool
+goes b = both (permittedOf b) (both (not (eqb b 39)) (not (eqb b 63)))
+
+-- their bits, of each quarter of the 256 bytes
+unfoldable pub quarterMask : ℕ → ℕ
+quarterMask q = pick (eqb q 0) 9223371379724779520 (pick (eqb q 1) 576460745995190270 (pick (eqb q 2) 0 (pick (eqb q 3) 0 1)))
+
+same : ℕ → Bool
+same b = eqb (quarterMask (b / 64) / 2 ^ (b % 64) % 2) (pick (goes b) 1 0)
+
+pub passed-bit : (b : ℕ) → b < 256 → quarterMask (b / 64) / 2 ^ (b % 64) % 2 ≡ pick (goes b) 1 0
+unfolding same quarterMask permittedOf
+passed-bit b h = eqb→eq _ _ (at same 256 tt b h)
 
 -- how many such bytes a list begins with
 unfoldable pub passRun : List ℕ → ℕ

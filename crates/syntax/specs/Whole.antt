@@ -11,7 +11,7 @@ use lib.ListN.{length, take, drop, getD, length-drop}
 use Rattle.laws.specs.Choice.{pick, both, all, choose, both-parts, false≢true}
 use Rattle.laws.specs.Sweep.{agree}
 use Rattle.laws.specs.Lists.{between}
-use Rattle.passing.specs.Passing.{goes}
+use Rattle.syntax.specs.Passed.{goes}
 use Rattle.syntax.specs.declared.segment.Scanned.{Scanned}
 use Rattle.syntax.specs.declared.segment.Scanned.the-variants.{End}
 use Rattle.syntax.specs.Bytes.{permittedOf, isMark}
@@ -24,6 +24,7 @@ use Rattle.syntax.specs.Few.{marksIn, marks-length, limits-few}
 
 -- a capital letter is passed over
 capital-goes : (b : ℕ) → capital b ≡ true → goes b ≡ true
+unfolding permittedOf
 capital-goes b q =
     let h = leb-true b 90 (both-parts (leb 65 b) (leb b 90) q .1) in
     let e = agree (λ b. both (capital b) (goes b)) capital 91 tt b (omega arith) in

@@ -1,18 +1,41 @@
 //! Where a segment ends, found before its parts are counted.
 
 use crate::bytes::permitted;
-use passing::passes;
 ghost use mathlib.Core.Path.{_≡_};
 ghost use mathlib.Core.List.{List, [], _∷_};
 ghost use Prim.Native.Nat.{_+_};
 ghost use lib.Dec.{leb};
 ghost use lib.ListN.{length, drop};
 ghost use Rattle.laws.specs.Choice.{pick, both, all};
-ghost use Rattle.passing.specs.Passing.{goes};
 ghost use Rattle.syntax.specs.Bytes.{isMark};
-ghost use Rattle.syntax.specs.Passed.{passRun};
+ghost use Rattle.syntax.specs.Passed.{goes, quarterMask, passRun};
 ghost use Rattle.syntax.specs.Found.{endFrom};
 ghost use Rattle.syntax.specs.Few.{marksIn};
+
+// The bits of the bytes that the scan passes over: permitted, and neither `'` nor `?`.
+const PASSED_LOW: u64 = 9223371379724779520;
+
+const PASSED_HIGH: u64 = 576460745995190270;
+
+// Those of a quarter of the 256 bytes, 0 to 3. All four have an arm, so that they are looked up with no test.
+fn passed_mask(quarter: u8) -> u64
+    ensures { λ r. ⌜ r ≡ quarterMask quarter ⌝ }
+{
+    match quarter {
+        0 => PASSED_LOW,
+        1 => PASSED_HIGH,
+        2 => 0,
+        3 => 0,
+        _ => 1,
+    }
+}
+
+// 1 for a byte that is passed over, 0 for any other.
+fn passes(b: u8) -> u8
+    ensures { λ r. ⌜ r ≡ pick (goes b) 1 0 ⌝ }
+{
+    ((passed_mask(b / 64) >> (b % 64)) & 1) as u8
+}
 
 // 1 where eight bytes are all passed over, else 0.
 fn all_pass(a: u8, b: u8, c: u8, d: u8, e: u8, f: u8, g: u8, h: u8) -> u8

@@ -1,13 +1,12 @@
 -- `all_pass` meets its contract.
 -- Assumes nothing.
-use Rattle.passing.specs.Passing.{goes}
-use Rattle.syntax.specs.Passed.{eight-and}
+use Rattle.syntax.specs.Passed.{goes, eight-and}
 use borrow.Author.Needs.{needs}
 use Rattle.syntax.proofs.ends.all_pass.Statement.{statement}
 use Rattle.syntax.proofs.ends.all_pass.Tie as tie
 use Rattle.syntax.proofs.ends.all_pass.Reads as reads
 use Rattle.syntax.proofs.ends.all_pass.Lts as lts
-use Rattle.passing.proofs.passes.Reads as passes-reads
+use Rattle.syntax.proofs.ends.passes.Reads as passes-reads
 
 passes-requires : tie.Need-passes-requires
 passes-requires c κs = search needs

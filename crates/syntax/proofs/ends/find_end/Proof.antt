@@ -9,7 +9,7 @@ use borrow.Author.Needs.{needs}
 use borrow.Author.Tests.{eq-eqb, ne-eqb, not-true, not-false}
 use denote.Ref.{now}
 use lib.ListN.{length, getD, drop}
-use Rattle.passing.specs.Passing.{goes}
+use Rattle.syntax.specs.Passed.{goes}
 use Rattle.syntax.specs.Found.{endFrom, end-run, end-stop, end-past, end-quote, end-other, end-question, end-released, end-released-bad}
 use Rattle.syntax.proofs.ends.find_end.Statement.{statement}
 use Rattle.syntax.proofs.ends.find_end.Tie as tie

@@ -11,7 +11,7 @@ use Rattle.syntax.proofs.ends.last_run.Statement.{statement}
 use Rattle.syntax.proofs.ends.last_run.Tie as tie
 use Rattle.syntax.proofs.ends.last_run.Reads as reads
 use Rattle.syntax.proofs.ends.last_run.Lts as lts
-use Rattle.passing.proofs.passes.Reads as passes-reads
+use Rattle.syntax.proofs.ends.passes.Reads as passes-reads
 
 abbrev Inv-loop : tie.InvT-loop
 Inv-loop s from i₀ i = i + passRun (drop i s) ≡ from + passRun (drop from s)

@@ -4,14 +4,13 @@ use mathlib.Core.Path.{_≡_}
 use Prim.Native.Nat.{_≤_}
 use native.Mathlib.Omega.{arith}
 use lib.Bits.{bitAnd}
-use Rattle.passing.specs.Passing.{goes}
-use Rattle.syntax.specs.Passed.{passRun, unit-bound, and-bound, eight-leading}
+use Rattle.syntax.specs.Passed.{goes, passRun, unit-bound, and-bound, eight-leading}
 use borrow.Author.Needs.{needs}
 use Rattle.syntax.proofs.ends.leading.Statement.{statement}
 use Rattle.syntax.proofs.ends.leading.Tie as tie
 use Rattle.syntax.proofs.ends.leading.Reads as reads
 use Rattle.syntax.proofs.ends.leading.Lts as lts
-use Rattle.passing.proofs.passes.Reads as passes-reads
+use Rattle.syntax.proofs.ends.passes.Reads as passes-reads
 
 passes-requires : tie.Need-passes-requires
 passes-requires c κs = search needs

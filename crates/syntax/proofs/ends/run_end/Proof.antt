@@ -5,10 +5,9 @@ use Prim.Native.Nat.{_+_, _-_, ℕ}
 use native.Mathlib.Omega.{arith}
 use borrow.Author.Needs.{needs}
 use Rattle.laws.specs.Choice.{all}
-use Rattle.passing.specs.Passing.{goes}
 use denote.Ref.{now}
 use lib.ListN.{length, drop}
-use Rattle.syntax.specs.Passed.{passRun, eightAt, eight-on, eight-ends, unit-no, unit-yes}
+use Rattle.syntax.specs.Passed.{goes, passRun, eightAt, eight-on, eight-ends, unit-no, unit-yes}
 use Rattle.syntax.proofs.ends.run_end.Statement.{statement}
 use Rattle.syntax.proofs.ends.run_end.Tie as tie
 use Rattle.syntax.proofs.ends.run_end.Reads as reads
