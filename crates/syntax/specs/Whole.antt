@@ -6,11 +6,11 @@ use mathlib.Core.List.{List, [], _∷_}
 use Prim.Native.Nat.{ℕ, zero, suc, _+_, _-_, _≤_, _<_}
 use native.Mathlib.Omega.{arith}
 use lib.Dec.{leb, ltb, eqb}
-use borrow.Author.Tests.{leb-true, leb-false, lt-ltb, ltb-true}
+use borrow.Author.Tests.{leb-true, leb-false, lt-ltb, ltb-true, eqb-true, ne-eqb}
 use lib.ListN.{length, take, drop, getD, length-drop}
 use Rattle.laws.specs.Choice.{pick, both, all, choose, both-parts, false≢true}
 use Rattle.laws.specs.Sweep.{agree}
-use Rattle.laws.specs.Lists.{between}
+use Rattle.laws.specs.Lists.{between, drop-here}
 use Rattle.syntax.specs.Passed.{goes}
 use Rattle.syntax.specs.declared.segment.Scanned.{Scanned}
 use Rattle.syntax.specs.declared.segment.Scanned.the-variants.{End}
@@ -19,7 +19,7 @@ use Rattle.syntax.specs.Pieces.{first}
 use Rattle.syntax.specs.Firsts.{first-take, first-length}
 use Rattle.syntax.specs.Segment.{bodyAt, capital, tagged, withinLimits, wellFormed, scanOf, segmentAt}
 use Rattle.syntax.specs.Tags.{tagCloses, tagAhead, tag-ahead, tag-four, tag-few, capital-other, first-capital, three}
-use Rattle.syntax.specs.Found.{endOf, endFrom, goes-on}
+use Rattle.syntax.specs.Found.{endOf, endFrom, goes-on, end-quote}
 use Rattle.syntax.specs.Few.{marksIn, marks-length, limits-few}
 
 -- a capital letter is passed over
@@ -36,6 +36,7 @@ pub record Tag (s : List ℕ) (at : ℕ) : Type 0 where
   pub a : capital (getD s at 0) ≡ true
   pub b : capital (getD s (at + 1) 0) ≡ true
   pub c : capital (getD s (at + 2) 0) ≡ true
+  pub d : tagCloses (getD s (at + 3) 0) ≡ true
 
 pub tag-facts : (s : List ℕ) (at : ℕ) → tagAhead (drop at s) ≡ true → Tag s at
 tag-facts s at q =
@@ -45,7 +46,7 @@ tag-facts s at q =
     let x = both-parts (capital (getD s at 0)) (both (capital (getD s (at + 1) 0)) (both (capital (getD s (at + 2) 0)) (tagCloses (getD s (at + 3) 0)))) (sym (tag-four s at h) ∙ q) in
     let y = both-parts (capital (getD s (at + 1) 0)) (both (capital (getD s (at + 2) 0)) (tagCloses (getD s (at + 3) 0))) (x .1) in
     let z = both-parts (capital (getD s (at + 2) 0)) (tagCloses (getD s (at + 3) 0)) (y .1) in
-    record { long = h; a = x .0; b = y .0; c = z .0 })
+    record { long = h; a = x .0; b = y .0; c = z .0; d = z .1 })
     (λ p. absurd (false≢true (sym (tag-few s at (leb-false (at + 4) (length s) p)) ∙ q)))
 
 -- an end that is found lies past where it is sought
@@ -80,6 +81,17 @@ module _ (s : List ℕ) (at : ℕ) (q : tagAhead (drop at s) ≡ true) where
       ∙ goes-on n (at + 1) y (z ∷ drop (at + 3) s) (capital-goes y (t .b))
       ∙ goes-on n (at + 1 + 1) z (drop (at + 3) s) (capital-goes z (t .c))
       ∙ ap (λ (k : ℕ). endOf n k (first 39 false (drop (at + 3) s))) e
+
+  -- and so is the `+` after it
+  pub end-after-plus : (getD s (at + 3) 0 ≡ 39 → ⊥) → endFrom s (at + 4) ≡ endFrom s (at + 3)
+  unfolding permittedOf
+  end-after-plus o =
+      let h = t .long in
+      let b = getD s (at + 3) 0 in
+      let p = t .d in
+      let r : eqb b 43 ≡ true = choose (eqb b 43) (λ y. y) (λ y. absurd (false≢true (rw (y, ne-eqb b 39 o) at p))) in
+      let e : at + 3 + 1 ≡ at + 4 = omega arith in
+      sym (rw (drop-here s (at + 3) (omega arith), eqb-true b 43 r, e) (goes-on (length s) (at + 3) 43 (drop (at + 4) s) refl ∙ rw e))
 
   no-mark : (b : ℕ) → capital b ≡ true → isMark b ≡ false
   unfolding isMark
@@ -132,3 +144,9 @@ module _ (s : List ℕ) (at : ℕ) (q : tagAhead (drop at s) ≡ true) where
         let i = ap length b in
         let j = ap marksIn b in
         whole (omega arith) (omega arith)
+
+  -- a segment that is its tag alone
+  pub whole-bare : getD s (at + 3) 0 ≡ 39 → End (at + 3) ≡ segmentAt s at
+  whole-bare e =
+      let h = t .long in
+      whole-short (at + 3) (sym (end-quote s (at + 3) (omega arith) e)) (omega arith) (omega arith)

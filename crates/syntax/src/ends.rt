@@ -128,10 +128,10 @@ pub(crate) fn find_end(s: &[u8], from: usize) -> usize
 }
 
 // 1 for `+`, `*` or `:`, 0 for any other byte.
-fn mark_of(b: u8) -> usize
+fn mark_of(b: u8) -> u8
     ensures { λ r. ⌜ r ≡ pick (isMark b) 1 0 ⌝ }
 {
-    (b == b'+') as usize + (b == b'*') as usize + (b == b':') as usize
+    (b == b'+') as u8 + (b == b'*') as u8 + (b == b':') as u8
 }
 
 /// Whether a segment has too few characters and marks to pass a limit.
@@ -141,10 +141,10 @@ pub(crate) fn is_small(p: &[u8]) -> bool
     if 512 < p.len() {
         return false;
     }
-    let mut marks = 0;
+    let mut marks: u16 = 0;
     let mut i = 0;
     while i < p.len() {
-        marks += mark_of(p[i]);
+        marks += mark_of(p[i]) as u16;
         i += 1;
     }
     marks <= 31

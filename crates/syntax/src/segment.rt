@@ -104,7 +104,10 @@ pub fn read_segment(s: &[u8], at: usize) -> Scanned
     ensures { λ r. ⌜ r ≡ segmentAt (now (s .entry)) at ⌝ }
 {
     if is_tagged(s, at) {
-        let end = find_end(s, at + 3);
+        if s[at + 3] == b'\'' {
+            return Scanned::End(at + 3);
+        }
+        let end = find_end(s, at + 4);
         if end < s.len() {
             if end - at <= 34 {
                 return Scanned::End(end);

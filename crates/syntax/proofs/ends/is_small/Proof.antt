@@ -36,6 +36,9 @@ shared-slice-read-mark-of c = omega arith
 mark-of-requires : tie.Need-mark-of-requires Inv-loop μ-loop
 mark-of-requires c κs = search needs
 
+cast-marks : tie.Need-cast-marks Inv-loop μ-loop
+cast-marks c = omega (arith, c .mark-of .ok)
+
 add-marks : tie.Need-add-marks Inv-loop μ-loop
 add-marks c =
     let o = c .before .before .before in
@@ -81,6 +84,7 @@ is-small-spec =
     loop-holds
     shared-slice-read-mark-of
     mark-of-requires
+    cast-marks
     add-marks
     add-i
     loop-less
