@@ -64,6 +64,18 @@ pass-part [] m q = absurd (false≢true (sym q))
 pass-part (b ∷ l) m q =
     choose (goes b) (λ p. rw p (ap suc (pass-part l m (rw p at q)))) (λ p. rw p)
 
+run-whole : (l : List ℕ) → length l ≤ passRun l → all goes l ≡ true
+unfolding passRun
+run-whole [] h = refl
+run-whole (b ∷ l) h =
+    choose (goes b) (λ p. rw p (run-whole l (let g = rw p at h in omega arith))) (λ p. let g = rw p at h in absurd (omega arith))
+
+run-part : (l : List ℕ) → passRun l < length l → all goes l ≡ false
+unfolding passRun
+run-part [] h = absurd (omega arith)
+run-part (b ∷ l) h =
+    choose (goes b) (λ p. rw p (run-part l (let g = rw p at h in omega arith))) (λ p. rw p)
+
 -- the eight bytes from an index on
 abbrev pub eightAt : List ℕ → ℕ → List ℕ
 eightAt s i =
@@ -82,13 +94,13 @@ module _ (s : List ℕ) (i : ℕ) (h : i + 8 ≤ length s) where
       (rw e at z)
       ∙ rw (next 1 (omega arith), next 2 (omega arith), next 3 (omega arith), next 4 (omega arith), next 5 (omega arith), next 6 (omega arith), next 7 (omega arith))
 
-  pub eight-on : all goes (eightAt s i) ≡ true → i + passRun (drop i s) ≡ i + 8 + passRun (drop (i + 8) s)
-  eight-on q =
-      let e = ap passRun eight ∙ pass-whole (eightAt s i) (drop (i + 8) s) q in
+  pub eight-on : (n : ℕ) → n ≡ passRun (eightAt s i) → 8 ≤ n → i + passRun (drop i s) ≡ i + 8 + passRun (drop (i + 8) s)
+  eight-on n q g =
+      let e = ap passRun eight ∙ pass-whole (eightAt s i) (drop (i + 8) s) (run-whole (eightAt s i) (omega arith)) in
       omega arith
 
-  pub eight-ends : all goes (eightAt s i) ≡ false → passRun (drop i s) ≡ passRun (eightAt s i)
-  eight-ends q = ap passRun eight ∙ pass-part (eightAt s i) (drop (i + 8) s) q
+  pub eight-ends : (n : ℕ) → n ≡ passRun (eightAt s i) → n < 8 → passRun (drop i s) ≡ n
+  eight-ends n q g = ap passRun eight ∙ pass-part (eightAt s i) (drop (i + 8) s) (run-part (eightAt s i) (omega arith)) ∙ sym q
 
 -- tests as numbers
 pub unit-at-most : (p : Bool) → pick p 1 0 ≤ 1
@@ -131,18 +143,6 @@ eight-sum true true true true true true false h = refl
 eight-sum true true true true true true true false = refl
 eight-sum true true true true true true true true = refl
 
-pub eight-all : (a b c d e f g h : Bool)
-    → both (both (both (both (both (both (both a b) c) d) e) f) g) h ≡ both a (both b (both c (both d (both e (both f (both g (both h true)))))))
-eight-all false b c d e f g h = refl
-eight-all true false c d e f g h = refl
-eight-all true true false d e f g h = refl
-eight-all true true true false e f g h = refl
-eight-all true true true true false f g h = refl
-eight-all true true true true true false g h = refl
-eight-all true true true true true true false h = refl
-eight-all true true true true true true true false = refl
-eight-all true true true true true true true true = refl
-
 pub unit-bound : (x : ℕ) (p : Bool) → x ≡ pick p 1 0 → x ≤ 1
 unit-bound x p q = let h = unit-at-most p in omega arith
 
@@ -155,6 +155,3 @@ module _ (x₁ x₂ x₃ x₄ x₅ x₆ x₇ x₈ : ℕ) (a b c d e f g h : Bool
   pub eight-leading : x₁ + bitAnd x₁ x₂ + bitAnd (bitAnd x₁ x₂) x₃ + bitAnd (bitAnd (bitAnd x₁ x₂) x₃) x₄ + bitAnd (bitAnd (bitAnd (bitAnd x₁ x₂) x₃) x₄) x₅ + bitAnd (bitAnd (bitAnd (bitAnd (bitAnd x₁ x₂) x₃) x₄) x₅) x₆ + bitAnd (bitAnd (bitAnd (bitAnd (bitAnd (bitAnd x₁ x₂) x₃) x₄) x₅) x₆) x₇ + bitAnd (bitAnd (bitAnd (bitAnd (bitAnd (bitAnd (bitAnd x₁ x₂) x₃) x₄) x₅) x₆) x₇) x₈
       ≡ eightTests a b c d e f g h
   eight-leading = rw (e₁, e₂, e₃, e₄, e₅, e₆, e₇, e₈, unit-and a b, unit-and (both a b) c, unit-and (both (both a b) c) d, unit-and (both (both (both a b) c) d) e, unit-and (both (both (both (both a b) c) d) e) f, unit-and (both (both (both (both (both a b) c) d) e) f) g, unit-and (both (both (both (both (both (both a b) c) d) e) f) g) h) (eight-sum a b c d e f g h)
-
-  pub eight-and : bitAnd (bitAnd (bitAnd (bitAnd (bitAnd (bitAnd (bitAnd x₁ x₂) x₃) x₄) x₅) x₆) x₇) x₈ ≡ pick (both a (both b (both c (both d (both e (both f (both g (both h true)))))))) 1 0
-  eight-and = rw (e₁, e₂, e₃, e₄, e₅, e₆, e₇, e₈, unit-and a b, unit-and (both a b) c, unit-and (both (both a b) c) d, unit-and (both (both (both a b) c) d) e, unit-and (both (both (both (both a b) c) d) e) f, unit-and (both (both (both (both (both a b) c) d) e) f) g, unit-and (both (both (both (both (both (both a b) c) d) e) f) g) h) (ap (λ p. pick p 1 0) (eight-all a b c d e f g h))

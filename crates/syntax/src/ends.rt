@@ -6,7 +6,7 @@ ghost use mathlib.Core.List.{List, [], _∷_};
 ghost use Prim.Native.Nat.{_+_};
 ghost use lib.Dec.{leb};
 ghost use lib.ListN.{length, drop};
-ghost use Rattle.laws.specs.Choice.{pick, both, all};
+ghost use Rattle.laws.specs.Choice.{pick, both};
 ghost use Rattle.syntax.specs.Bytes.{isMark};
 ghost use Rattle.syntax.specs.Passed.{goes, quarterMask, passRun};
 ghost use Rattle.syntax.specs.Found.{endFrom};
@@ -35,13 +35,6 @@ fn passes(b: u8) -> u8
     ensures { λ r. ⌜ r ≡ pick (goes b) 1 0 ⌝ }
 {
     ((passed_mask(b / 64) >> (b % 64)) & 1) as u8
-}
-
-// 1 where eight bytes are all passed over, else 0.
-fn all_pass(a: u8, b: u8, c: u8, d: u8, e: u8, f: u8, g: u8, h: u8) -> u8
-    ensures { λ r. ⌜ r ≡ pick (all goes (a ∷ b ∷ c ∷ d ∷ e ∷ f ∷ g ∷ h ∷ [])) 1 0 ⌝ }
-{
-    passes(a) & passes(b) & passes(c) & passes(d) & passes(e) & passes(f) & passes(g) & passes(h)
 }
 
 // How many of eight bytes are passed over before the first that is not.
@@ -91,8 +84,9 @@ fn run_end(s: &[u8], from: usize) -> usize
         let f = s[i + 5];
         let g = s[i + 6];
         let h = s[i + 7];
-        if all_pass(a, b, c, d, e, f, g, h) == 0 {
-            return i + leading(a, b, c, d, e, f, g, h) as usize;
+        let n = leading(a, b, c, d, e, f, g, h);
+        if n < 8 {
+            return i + n as usize;
         }
         i += 8;
     }

@@ -4,15 +4,13 @@ use mathlib.Core.Path.{_≡_, refl, sym, ap, _∙_}
 use Prim.Native.Nat.{_+_, _-_, ℕ}
 use native.Mathlib.Omega.{arith}
 use borrow.Author.Needs.{needs}
-use Rattle.laws.specs.Choice.{all}
 use denote.Ref.{now}
 use lib.ListN.{length, drop}
-use Rattle.syntax.specs.Passed.{goes, passRun, eightAt, eight-on, eight-ends, unit-no, unit-yes}
+use Rattle.syntax.specs.Passed.{passRun, eight-on, eight-ends}
 use Rattle.syntax.proofs.ends.run_end.Statement.{statement}
 use Rattle.syntax.proofs.ends.run_end.Tie as tie
 use Rattle.syntax.proofs.ends.run_end.Reads as reads
 use Rattle.syntax.proofs.ends.run_end.Lts as lts
-use Rattle.syntax.proofs.ends.all_pass.Reads as all-pass-reads
 use Rattle.syntax.proofs.ends.last_run.Reads as last-run-reads
 use Rattle.syntax.proofs.ends.leading.Reads as leading-reads
 
@@ -79,25 +77,20 @@ add-h c = omega arith
 shared-slice-read-h : tie.Need-shared-slice-read-h Inv-loop μ-loop
 shared-slice-read-h c = omega arith
 
-all-pass-requires : tie.Need-all-pass-requires Inv-loop μ-loop
-all-pass-requires c κs = search needs
-
 leading-requires : tie.Need-leading-requires Inv-loop μ-loop
 leading-requires c κs = search needs
 
 cast-result : tie.Need-cast-result Inv-loop μ-loop
-cast-result c = omega arith
+cast-result c = omega (arith, c .before .leading .ok)
 
 add-result : tie.Need-add-result Inv-loop μ-loop
-add-result c = omega (arith, c .leading .ok)
+add-result c = omega (arith, c .before .leading .ok)
 
 returns-2 : tie.Need-returns-2 Inv-loop μ-loop
 returns-2 c =
-    let o = c .before .before .before .before .before .before .before .before .before .before .before .before in
-    let s = now (o .before .before .before .args .s) in
+    let o = c .before .before .before .before .before .before .before .before .before .before .before in
     let v = o .loop .inv .1 in
-    let e = eight-ends s (o .loop .i) (omega arith) (unit-no (all goes (eightAt s (o .loop .i))) (sym (c .before .before .all-pass .ensures) ∙ c .before .if2 .taken)) in
-    let r = c .leading .ensures in
+    let e = eight-ends (now (o .before .before .before .args .s)) (o .loop .i) (omega arith) (c .before .leading .result) (c .before .leading .ensures) (c .if2 .taken) in
     omega arith
 
 add-i : tie.Need-add-i Inv-loop μ-loop
@@ -109,10 +102,9 @@ loop-less c = omega arith
 loop-again : tie.Need-loop-again Inv-loop μ-loop
 loop-again c =
     let o = c .before .before .before .before .before .before .before .before .before .before .before in
-    let s = now (o .before .before .before .args .s) in
     let v = o .loop .inv in (
       v .0,
-      sym (eight-on s (o .loop .i) (omega arith) (unit-yes (all goes (eightAt s (o .loop .i))) (λ e. c .if2 .left (c .before .all-pass .ensures ∙ e)))) ∙ v .1,
+      sym (eight-on (now (o .before .before .before .args .s)) (o .loop .i) (omega arith) (c .before .leading .result) (c .before .leading .ensures) (c .if2 .left)) ∙ v .1,
     )
 
 last-run-requires-2 : tie.Need-last-run-requires-2 Inv-loop μ-loop
@@ -146,7 +138,6 @@ run-end-spec =
     shared-slice-read-g
     add-h
     shared-slice-read-h
-    all-pass-requires
     leading-requires
     cast-result
     add-result
