@@ -10,3 +10,7 @@ pub mod Onward
 pub mod Scan
 pub mod Firsts
 pub mod Ends
+pub mod Passed
+pub mod Found
+pub mod Few
+pub mod Whole

@@ -93,7 +93,7 @@ dead₂ a b l q = ⊎-elim (λ w. rw (w .0)) (λ w. rw (w .1) (short₂ a b (w .
 dead₃ : (a b c : ℕ) (l : List ℕ) → capital c ≡ false → threeCapitals (a ∷ b ∷ ahead (c ∷ l)) ≡ false
 dead₃ a b c l q = ⊎-elim (λ w. rw (w .0)) (λ w. rw (w .1) (short₃ a b c (w .0) q)) (begins c l)
 
-first-capital : (b : ℕ) (l : List ℕ) → capital b ≡ true → first 39 false (b ∷ l) ≡ b ∷ first 39 false l
+pub first-capital : (b : ℕ) (l : List ℕ) → capital b ≡ true → first 39 false (b ∷ l) ≡ b ∷ first 39 false l
 unfolding first
 first-capital b l q = rw (capital-other b 39 (omega arith) q, capital-other b 63 (omega arith) q)
 
@@ -129,7 +129,7 @@ tag-ahead (a ∷ b ∷ l) h =
     (λ p. dead a (b ∷ l) p ∙ sym (none₂ a b l p))
 
 -- the first bytes from an index on
-three : (s : List ℕ) (at : ℕ) → at + 3 ≤ length s → drop at s ≡ getD s at 0 ∷ getD s (at + 1) 0 ∷ getD s (at + 2) 0 ∷ drop (at + 3) s
+pub three : (s : List ℕ) (at : ℕ) → at + 3 ≤ length s → drop at s ≡ getD s at 0 ∷ getD s (at + 1) 0 ∷ getD s (at + 2) 0 ∷ drop (at + 3) s
 three s at h =
     let one : at + 1 + 1 ≡ at + 2 = omega arith in
     let two : at + 2 + 1 ≡ at + 3 = omega arith in

@@ -1,5 +1,6 @@
 //! The syntax floor, ISO 9735 version 4 as document 01 reads it: bytes and segments.
 
 pub mod bytes;
+mod ends;
 mod limits;
 pub mod segment;

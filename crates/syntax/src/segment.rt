@@ -3,6 +3,8 @@
 use crate::bytes::is_mark;
 use crate::bytes::permitted;
 use crate::bytes::text_end;
+use crate::ends::find_end;
+use crate::ends::is_small;
 use crate::limits::Counts;
 ghost use mathlib.Core.Path.{_≡_};
 ghost use mathlib.Core.Bool.{not};
@@ -97,8 +99,29 @@ fn is_tagged(s: &[u8], at: usize) -> bool
     is_tag(s[at], s[at + 1], s[at + 2], s[at + 3])
 }
 
-/// The segment that starts at an offset: one pass over its bytes, a run of plain text at a time.
+/// The segment that starts at an offset. Its end is found first; its parts are counted only where it may pass a limit, or is to be refused.
 pub fn read_segment(s: &[u8], at: usize) -> Scanned
+    ensures { λ r. ⌜ r ≡ segmentAt (now (s .entry)) at ⌝ }
+{
+    if is_tagged(s, at) {
+        if s[at + 3] == b'\'' {
+            return Scanned::End(at + 3);
+        }
+        let end = find_end(s, at + 4);
+        if end < s.len() {
+            if end - at <= 34 {
+                return Scanned::End(end);
+            }
+            if is_small(&s[at..end]) {
+                return Scanned::End(end);
+            }
+        }
+    }
+    counted(s, at)
+}
+
+// The same in one pass over its bytes that counts its parts, a run of plain text at a time.
+fn counted(s: &[u8], at: usize) -> Scanned
     ensures { λ r. ⌜ r ≡ segmentAt (now (s .entry)) at ⌝ }
 {
     let tagged = is_tagged(s, at);

@@ -1,0 +1,149 @@
+-- `run_end` meets its contract.
+-- Assumes nothing.
+use mathlib.Core.Path.{_≡_, refl, sym, ap, _∙_}
+use Prim.Native.Nat.{_+_, _-_, ℕ}
+use native.Mathlib.Omega.{arith}
+use borrow.Author.Needs.{needs}
+use denote.Ref.{now}
+use lib.ListN.{length, drop}
+use Rattle.syntax.specs.Passed.{passRun, eight-on, eight-ends}
+use Rattle.syntax.proofs.ends.run_end.Statement.{statement}
+use Rattle.syntax.proofs.ends.run_end.Tie as tie
+use Rattle.syntax.proofs.ends.run_end.Reads as reads
+use Rattle.syntax.proofs.ends.run_end.Lts as lts
+use Rattle.syntax.proofs.ends.last_run.Reads as last-run-reads
+use Rattle.syntax.proofs.ends.leading.Reads as leading-reads
+
+abbrev Inv-loop : tie.InvT-loop
+Inv-loop s from last i₀ i = (last + 8 ≡ length s) × (i + passRun (drop i s) ≡ from + passRun (drop from s))
+
+abbrev μ-loop : tie.MeasureT-loop
+μ-loop s from last i₀ i = length s - i
+
+last-run-requires : tie.Need-last-run-requires Inv-loop μ-loop
+last-run-requires c κs = search needs
+
+returns : tie.Need-returns Inv-loop μ-loop
+returns c = c .last-run .ensures
+
+sub-last : tie.Need-sub-last Inv-loop μ-loop
+sub-last c = omega arith
+
+loop-holds : tie.Need-loop-holds Inv-loop μ-loop
+loop-holds c = (omega arith, refl)
+
+shared-slice-read-a : tie.Need-shared-slice-read-a Inv-loop μ-loop
+shared-slice-read-a c = omega arith
+
+add-b : tie.Need-add-b Inv-loop μ-loop
+add-b c = omega arith
+
+shared-slice-read-b : tie.Need-shared-slice-read-b Inv-loop μ-loop
+shared-slice-read-b c = omega arith
+
+add-c : tie.Need-add-c Inv-loop μ-loop
+add-c c = omega arith
+
+shared-slice-read-c : tie.Need-shared-slice-read-c Inv-loop μ-loop
+shared-slice-read-c c = omega arith
+
+add-d : tie.Need-add-d Inv-loop μ-loop
+add-d c = omega arith
+
+shared-slice-read-d : tie.Need-shared-slice-read-d Inv-loop μ-loop
+shared-slice-read-d c = omega arith
+
+add-e : tie.Need-add-e Inv-loop μ-loop
+add-e c = omega arith
+
+shared-slice-read-e : tie.Need-shared-slice-read-e Inv-loop μ-loop
+shared-slice-read-e c = omega arith
+
+add-f : tie.Need-add-f Inv-loop μ-loop
+add-f c = omega arith
+
+shared-slice-read-f : tie.Need-shared-slice-read-f Inv-loop μ-loop
+shared-slice-read-f c = omega arith
+
+add-g : tie.Need-add-g Inv-loop μ-loop
+add-g c = omega arith
+
+shared-slice-read-g : tie.Need-shared-slice-read-g Inv-loop μ-loop
+shared-slice-read-g c = omega arith
+
+add-h : tie.Need-add-h Inv-loop μ-loop
+add-h c = omega arith
+
+shared-slice-read-h : tie.Need-shared-slice-read-h Inv-loop μ-loop
+shared-slice-read-h c = omega arith
+
+leading-requires : tie.Need-leading-requires Inv-loop μ-loop
+leading-requires c κs = search needs
+
+cast-result : tie.Need-cast-result Inv-loop μ-loop
+cast-result c = omega (arith, c .before .leading .ok)
+
+add-result : tie.Need-add-result Inv-loop μ-loop
+add-result c = omega (arith, c .before .leading .ok)
+
+returns-2 : tie.Need-returns-2 Inv-loop μ-loop
+returns-2 c =
+    let o = c .before .before .before .before .before .before .before .before .before .before .before in
+    let v = o .loop .inv .1 in
+    let e = eight-ends (now (o .before .before .before .args .s)) (o .loop .i) (omega arith) (c .before .leading .result) (c .before .leading .ensures) (c .if2 .taken) in
+    omega arith
+
+add-i : tie.Need-add-i Inv-loop μ-loop
+add-i c = omega arith
+
+loop-less : tie.Need-loop-less Inv-loop μ-loop
+loop-less c = omega arith
+
+loop-again : tie.Need-loop-again Inv-loop μ-loop
+loop-again c =
+    let o = c .before .before .before .before .before .before .before .before .before .before .before in
+    let v = o .loop .inv in (
+      v .0,
+      sym (eight-on (now (o .before .before .before .args .s)) (o .loop .i) (omega arith) (c .before .leading .result) (c .before .leading .ensures) (c .if2 .left)) ∙ v .1,
+    )
+
+last-run-requires-2 : tie.Need-last-run-requires-2 Inv-loop μ-loop
+last-run-requires-2 c κs = search needs
+
+returns-3 : tie.Need-returns-3 Inv-loop μ-loop
+returns-3 c = c .last-run2 .ensures ∙ c .before .before .loop .inv .1
+
+pub run-end-spec : {M : Type 1} → statement M
+run-end-spec =
+    tie.close
+    (tie.spec
+    Inv-loop
+    μ-loop
+    last-run-requires
+    returns
+    sub-last
+    loop-holds
+    shared-slice-read-a
+    add-b
+    shared-slice-read-b
+    add-c
+    shared-slice-read-c
+    add-d
+    shared-slice-read-d
+    add-e
+    shared-slice-read-e
+    add-f
+    shared-slice-read-f
+    add-g
+    shared-slice-read-g
+    add-h
+    shared-slice-read-h
+    leading-requires
+    cast-result
+    add-result
+    returns-2
+    add-i
+    loop-less
+    loop-again
+    last-run-requires-2
+    returns-3)
