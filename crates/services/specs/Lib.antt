@@ -1,0 +1,4 @@
+pub mod Rows
+pub mod Marks
+pub mod Services
+pub mod Ways

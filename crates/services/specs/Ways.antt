@@ -1,0 +1,136 @@
+-- The ways through the code, a law for each; what a call answered has a name of its own.
+-- Assumes nothing.
+use Prim.Native.Nat.{ℕ, zero, suc, _+_, _-_, _≤_, _<_}
+use mathlib.Core.Path.{_≡_, refl, sym, ap, _∙_}
+use mathlib.Core.Bool.{Bool, true, false, not}
+use mathlib.Core.List.{List, [], _∷_}
+use native.Mathlib.Omega.{arith}
+use borrow.Author.Tests.{lt-ltb, le-ltb, le-leb, lt-leb, ltb-true, ltb-false}
+use lib.Dec.{ltb, leb}
+use lib.ListN.{length, drop}
+use Rattle.laws.specs.Choice.{pick, both, both-false, choose}
+use Rattle.syntax.specs.Bytes.{plain}
+use Rattle.syntax.specs.Pieces.{partOf}
+use Rattle.syntax.specs.Segment.{bodyAt}
+use Rattle.parts.specs.declared.Part.{Part}
+use Rattle.parts.specs.Places.{bytesOf, partAt}
+use Rattle.parts.specs.Located.{part-bytes}
+use Rattle.values.specs.Values.{sameText}
+use Rattle.placing.specs.Tags.{PRD, MSD, UIT}
+use Rattle.services.specs.declared.Service.{Service}
+use Rattle.services.specs.declared.Found.the-variants as found
+use Rattle.services.specs.declared.FoundPeriod.the-variants as period
+use Rattle.services.specs.declared.Tested.{Tested}
+use Rattle.services.specs.declared.Tested.the-variants.{Good, Refused}
+use Rattle.services.specs.declared.Counted.{Counted}
+use Rattle.services.specs.declared.Counted.the-variants as counted
+use Rattle.services.specs.Rows.{offsetAt, isRow, rowCount, firstOf, firstFrom, first-past, first-here, first-on}
+use Rattle.services.specs.Marks.{endsSegment, stopOf, by-between, body-end, first-by}
+use Rattle.services.specs.Services.{isService, isPeriod, numberOf, saysRemoval, removes, serviceAt, nextService, nextPeriod, hasPeriod, isWrong, isSame, isTwice, refuse, testedOf, servicesOn, servicesFrom, countOn, countedOf}
+
+-- the bytes of a segment
+pub segment-bytes : (s : List ℕ) (at to : ℕ) → to ≡ stopOf endsSegment s at → bytesOf s (record { from = at; to = to }) ≡ bodyAt s at
+segment-bytes s at to q = rw q (by-between endsSegment s at ∙ sym (first-by 39 false (drop at s)))
+
+pub removal-says : (s : List ℕ) (at to : ℕ) (p : Part) (t : List ℕ) (x : Bool) → to ≡ stopOf endsSegment s at → p ≡ partAt s (record { from = at; to = to }) 1 1 2 → t ≡ bytesOf s p
+    → x ≡ sameText (plain t) (53 ∷ 54 ∷ []) → x ≡ saysRemoval s at
+unfolding saysRemoval
+removal-says s at to p t x a b d e =
+    e
+    ∙ ap (λ (y : List ℕ). sameText (plain y) (53 ∷ 54 ∷ []))
+    (d ∙ ap (bytesOf s) b ∙ part-bytes s (record { from = at; to = to }) 1 1 2 ∙ ap (λ (y : List ℕ). partOf y 1 1 2) (segment-bytes s at to a))
+
+-- the first period
+module _ (rows : List ℕ) (i to n k : ℕ) (a : n ≡ rowCount rows to) (b : k ≡ firstFrom (isPeriod rows) i n) where
+  pub period-none : n ≤ k → period.NoMore ≡ nextPeriod rows i to
+  unfolding nextPeriod
+  period-none h = rw (sym a, sym b, le-ltb k n h)
+
+  pub period-some : (o : ℕ) → o ≡ offsetAt rows k → k < n → period.Pop k o ≡ nextPeriod rows i to
+  unfolding nextPeriod
+  period-some o e h = rw (sym a, sym b, lt-ltb k n h, e)
+
+  pub period-has : ltb k n ≡ hasPeriod rows i to
+  unfolding hasPeriod
+  period-has = rw (sym a, sym b)
+
+-- the MSD of a service
+module _ (s rows : List ℕ) (from to k : ℕ) (b : k ≡ firstFrom (isRow rows 2 MSD) from to) where
+  pub removes-none : to ≤ k → false ≡ removes s rows from to
+  unfolding removes
+  removes-none h = rw (sym b, le-ltb k to h)
+
+  pub removes-some : (o : ℕ) (x : Bool) → o ≡ offsetAt rows k → x ≡ saysRemoval s o → k < to → x ≡ removes s rows from to
+  unfolding removes
+  removes-some o x e f h = rw (sym b, lt-ltb k to h) (f ∙ ap (saysRemoval s) e)
+
+-- a service
+pub service-is : (s rows : List ℕ) (n k next to prd : ℕ) (number : Part) (removal : Bool)
+    → next ≡ firstFrom (isService rows) (k + 1) n → to ≡ firstFrom (isRow rows 0 UIT) (k + 1) next → prd ≡ offsetAt rows k → number ≡ numberOf s prd → removal ≡ removes s rows (k + 1) to
+    → record { prd = prd; number = number; removal = removal; from = k; to = to } ≡ serviceAt s rows n k
+unfolding serviceAt
+service-is s rows n k next to prd number removal a b d e f = rw (f, e, d, b, a)
+
+module _ (s rows : List ℕ) (i m n k : ℕ) (a : n ≡ rowCount rows m) (b : k ≡ firstFrom (isService rows) i n) where
+  pub next-none : n ≤ k → found.NoMore ≡ nextService s rows m i
+  unfolding nextService
+  next-none h = rw (sym a, sym b, le-ltb k n h)
+
+  pub next-some : (v : Service) → v ≡ serviceAt s rows n k → k < n → found.At v ≡ nextService s rows m i
+  unfolding nextService
+  next-some v e h = rw (sym a, sym b, lt-ltb k n h, e)
+
+-- 11
+module _ (s rows : List ℕ) (v : Service) (n : ℕ) (a : n ≡ length (plain (bytesOf s (v .number)))) where
+  pub wrong-short : n < 1 → true ≡ isWrong s rows v
+  unfolding isWrong
+  wrong-short h = rw (sym a, lt-leb 1 n h)
+
+  pub wrong-long : 10 < n → true ≡ isWrong s rows v
+  unfolding isWrong
+  wrong-long h = rw (sym a, le-leb 1 n (omega arith), lt-leb n 10 h)
+
+  module _ (h : 1 ≤ n) (l : n ≤ 10) (x : Bool) (b : x ≡ hasPeriod rows (v .from) (v .to)) where
+    pub wrong-removal : v .removal ≡ true → x ≡ isWrong s rows v
+    unfolding isWrong
+    wrong-removal q = rw (sym a, le-leb 1 n h, le-leb n 10 l, sym b, q) (choose x (λ p. rw p) (λ p. rw p))
+
+    pub wrong-put : v .removal ≡ false → not x ≡ isWrong s rows v
+    unfolding isWrong
+    wrong-put q = rw (sym a, le-leb 1 n h, le-leb n 10 l, sym b, q)
+
+-- 12
+module _ (s rows number : List ℕ) (i : ℕ) where
+  pub same-no : isRow rows 2 PRD i ≡ false → false ≡ isSame s rows number i
+  unfolding isSame
+  same-no q = rw q
+
+  pub same-yes : isRow rows 2 PRD i ≡ true → (o : ℕ) (p : Part) (t : List ℕ) (x : Bool) → o ≡ offsetAt rows i → p ≡ numberOf s o → t ≡ bytesOf s p → x ≡ sameText (plain t) (plain number)
+      → x ≡ isSame s rows number i
+  unfolding isSame
+  same-yes q o p t x a b d e =
+      rw q (e ∙ ap (λ (y : List ℕ). sameText (plain y) (plain number)) (d ∙ ap (bytesOf s) (b ∙ ap (numberOf s) a)))
+
+module _ (s rows number : List ℕ) (before n i : ℕ) (a : n ≡ rowCount rows before) (v : firstFrom (isSame s rows number) i n ≡ firstFrom (isSame s rows number) 0 n) where
+  pub twice-yes : i < n → isSame s rows number i ≡ true → true ≡ isTwice s rows number before
+  unfolding isTwice
+  twice-yes h q = rw (sym a, sym v, first-here (isSame s rows number) i n h q, lt-ltb i n h)
+
+  pub twice-no : n ≤ i → false ≡ isTwice s rows number before
+  unfolding isTwice
+  twice-no h = rw (sym a, sym v, first-past (isSame s rows number) i n h, le-ltb i n h)
+
+-- 11, then 12
+module _ (s rows : List ℕ) (v : Service) where
+  pub tested-wrong : isWrong s rows v ≡ true → refuse 11 (v .prd) ≡ testedOf s rows v
+  unfolding testedOf
+  tested-wrong p = rw p
+
+  module _ (p : isWrong s rows v ≡ false) (t : List ℕ) (e : t ≡ bytesOf s (v .number)) where
+    pub tested-twice : isTwice s rows t (v .from) ≡ true → refuse 12 (v .prd) ≡ testedOf s rows v
+    unfolding testedOf
+    tested-twice q = rw (p, sym e, q)
+
+    pub tested-good : isTwice s rows t (v .from) ≡ false → Good ≡ testedOf s rows v
+    unfolding testedOf
+    tested-good q = rw (p, sym e, q)
