@@ -10,9 +10,9 @@ use lib.ListN.{length, getD}
 use borrow.Author.Tests.{eq-eqb, ne-eqb, lt-ltb, le-ltb}
 use Rattle.laws.specs.Choice.{pick, both, both-false, both-true}
 
--- the offset of row i; what the buffer does not hold is 0
-abbrev pub offsetAt : List ℕ → ℕ → ℕ
-offsetAt rows i = getD rows (3 * i) 0
+-- the offset of row i, or 0 where the buffer does not hold the row
+unfoldable pub offsetAt : List ℕ → ℕ → ℕ
+offsetAt rows i = pick (ltb i (length rows / 3)) (getD rows (3 * i) 0) 0
 
 -- whether the buffer holds row i and it has a group and a tag
 unfoldable pub isRow : List ℕ → ℕ → ℕ → ℕ → Bool
@@ -30,6 +30,14 @@ firstOf f (suc k) i = pick (f i) i (firstOf f k (i + 1))
 -- the first number from i on and below n of which a test holds; where it holds of none, n, or i where i is not below n
 abbrev pub firstFrom : (ℕ → Bool) → ℕ → ℕ → ℕ
 firstFrom f i n = firstOf f (n - i) i
+
+pub offset-some : (rows : List ℕ) (i : ℕ) → i < length rows / 3 → getD rows (3 * i) 0 ≡ offsetAt rows i
+unfolding offsetAt
+offset-some rows i h = rw (lt-ltb i (length rows / 3) h)
+
+pub offset-none : (rows : List ℕ) (i : ℕ) → length rows / 3 ≤ i → 0 ≡ offsetAt rows i
+unfolding offsetAt
+offset-none rows i h = rw (le-ltb i (length rows / 3) h)
 
 -- the ways through the test of a row
 module _ (rows : List ℕ) (group tag i : ℕ) where

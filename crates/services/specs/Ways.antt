@@ -1,19 +1,20 @@
 -- The ways through the code, a law for each; what a call answered has a name of its own.
 -- Assumes nothing.
 use Prim.Native.Nat.{ℕ, zero, suc, _+_, _-_, _≤_, _<_}
-use mathlib.Core.Path.{_≡_, refl, sym, ap, _∙_}
+use mathlib.Core.Path.{_≡_, refl, sym, ap, subst, _∙_}
 use mathlib.Core.Bool.{Bool, true, false, not}
 use mathlib.Core.List.{List, [], _∷_}
 use native.Mathlib.Omega.{arith}
 use borrow.Author.Tests.{lt-ltb, le-ltb, le-leb, lt-leb, ltb-true, ltb-false}
 use lib.Dec.{ltb, leb}
-use lib.ListN.{length, drop}
+use lib.ListN.{length, getD, drop}
 use Rattle.laws.specs.Choice.{pick, both, both-false, choose}
+use Rattle.syntax.specs.declared.segment.Refusal.{Refusal}
 use Rattle.syntax.specs.Bytes.{plain}
 use Rattle.syntax.specs.Pieces.{partOf}
 use Rattle.syntax.specs.Segment.{bodyAt}
 use Rattle.parts.specs.declared.Part.{Part}
-use Rattle.parts.specs.Places.{bytesOf, partAt}
+use Rattle.parts.specs.Places.{absent, bytesOf, partAt}
 use Rattle.parts.specs.Located.{part-bytes}
 use Rattle.values.specs.Values.{sameText}
 use Rattle.placing.specs.Tags.{PRD, MSD, UIT}
@@ -25,7 +26,7 @@ use Rattle.services.specs.declared.Tested.the-variants.{Good, Refused}
 use Rattle.services.specs.declared.Counted.{Counted}
 use Rattle.services.specs.declared.Counted.the-variants as counted
 use Rattle.services.specs.Rows.{offsetAt, isRow, rowCount, firstOf, firstFrom, first-past, first-here, first-on}
-use Rattle.services.specs.Marks.{endsSegment, stopOf, by-between, body-end, first-by}
+use Rattle.services.specs.Marks.{endsSegment, endsElement, endsComponent, stopOf, by-between, first-by, part-none, part-past, part-some}
 use Rattle.services.specs.Services.{isService, isPeriod, numberOf, saysRemoval, removes, serviceAt, nextService, nextPeriod, hasPeriod, isWrong, isSame, isTwice, refuse, testedOf, servicesOn, servicesFrom, countOn, countedOf}
 
 -- the bytes of a segment
@@ -39,6 +40,20 @@ removal-says s at to p t x a b d e =
     e
     ∙ ap (λ (y : List ℕ). sameText (plain y) (53 ∷ 54 ∷ []))
     (d ∙ ap (bytesOf s) b ∙ part-bytes s (record { from = at; to = to }) 1 1 2 ∙ ap (λ (y : List ℕ). partOf y 1 1 2) (segment-bytes s at to a))
+
+-- where a number stands
+module _ (s : List ℕ) (at e : ℕ) (q : e ≡ stopOf endsElement s at) where
+  pub number-none : (getD s e 0 ≡ 43 → ⊥) → absent ≡ numberOf s at
+  unfolding numberOf
+  number-none h = part-none s at e q h
+
+  pub number-past : length s ≤ e → absent ≡ numberOf s at
+  unfolding numberOf
+  number-past h = part-past s at e q h
+
+  pub number-some : (t : ℕ) → t ≡ stopOf endsComponent s (e + 1) → e < length s → getD s e 0 ≡ 43 → record { from = e + 1; to = t } ≡ numberOf s at
+  unfolding numberOf
+  number-some t w l h = part-some s at e q t w l h
 
 -- the first period
 module _ (rows : List ℕ) (i to n k : ℕ) (a : n ≡ rowCount rows to) (b : k ≡ firstFrom (isPeriod rows) i n) where
@@ -134,3 +149,95 @@ module _ (s rows : List ℕ) (v : Service) where
     pub tested-good : isTwice s rows t (v .from) ≡ false → Good ≡ testedOf s rows v
     unfolding testedOf
     tested-good q = rw (p, sym e, q)
+
+-- a search ends at or behind its start, and at or before its end
+pub first-bounds : (f : ℕ → Bool) (k i : ℕ) → (i ≤ firstOf f k i) × (firstOf f k i ≤ i + k)
+unfolding firstOf
+first-bounds f zero i = (omega arith, omega arith)
+first-bounds f (suc k) i =
+    let w = first-bounds f k (i + 1) in
+    choose (f i) (λ q. rw q (omega arith, omega arith)) (λ q. rw q (omega arith, omega arith))
+
+-- the services of k rows from i on begin with the one that a search finds
+module _ (s rows : List ℕ) (n : ℕ) where
+  services-none : (k i : ℕ) → i + k ≤ firstOf (isService rows) k i → servicesOn s rows n k i ≡ []
+  unfolding firstOf servicesOn
+  services-none zero i h = refl
+  services-none (suc k) i h =
+      choose (isService rows i) (λ q. let g = rw q at h in absurd (omega arith))
+      (λ q. let g = rw q at h in rw q (services-none k (i + 1) (omega arith)))
+
+  services-some : (k i m : ℕ) → firstOf (isService rows) k i < i + k → i + k ≡ m
+      → servicesOn s rows n k i ≡ serviceAt s rows n (firstOf (isService rows) k i) ∷ servicesOn s rows n (m - (firstOf (isService rows) k i + 1)) (firstOf (isService rows) k i + 1)
+  unfolding firstOf servicesOn
+  services-some zero i m h z = absurd (omega arith)
+  services-some (suc k) i m h z =
+      choose (isService rows i)
+      (λ q.
+      let e : m - (i + 1) ≡ k = omega arith in
+      rw (q, e))
+      (λ q. let g = rw q at h in rw q (services-some k (i + 1) m (omega arith) (omega arith)))
+
+none≢at : (v : Service) → found.NoMore ≡ found.At v → ⊥
+none≢at v q = let z : _≡_ {A = ℕ} 0 1 = cc in omega arith
+
+at-is : (u v : Service) → found.At u ≡ found.At v → u ≡ v
+at-is u v q = cc
+
+-- what the next service tells of those that are left
+pub record Next (s rows : List ℕ) (m i : ℕ) (v : Service) : Type 0 where
+  pub rest : servicesFrom s rows (rowCount rows m) i ≡ v ∷ servicesFrom s rows (rowCount rows m) (v .from + 1)
+  pub further : i ≤ v .from
+  pub inside : v .from < rowCount rows m
+
+module _ (s rows : List ℕ) (m i : ℕ) where
+  abbrev all : ℕ
+  all = rowCount rows m
+
+  abbrev place : ℕ
+  place = firstFrom (isService rows) i (rowCount rows m)
+
+  pub next-found : (v : Service) → nextService s rows m i ≡ found.At v → Next s rows m i v
+  unfolding nextService serviceAt
+  next-found v q =
+      choose (ltb place all)
+      (λ l.
+      let h = ltb-true place all l in
+      let w = first-bounds (isService rows) (all - i) i in
+      let e = at-is (serviceAt s rows all place) v (rw l at q) in
+      subst (Next s rows m i) e
+      (record {
+        rest = services-some s rows all (all - i) i all (omega arith) (omega arith);
+        further = w .0;
+        inside = h;
+      }))
+      (λ l. absurd (none≢at v (rw l at q)))
+
+  pub next-gone : nextService s rows m i ≡ found.NoMore → servicesFrom s rows all i ≡ []
+  unfolding nextService
+  next-gone q =
+      choose (ltb place all)
+      (λ l. absurd (none≢at (serviceAt s rows all place) (sym (rw l at q))))
+      (λ l.
+      let h = ltb-false place all l in
+      let w = first-bounds (isService rows) (all - i) i in
+      services-none s rows all (all - i) i (omega arith))
+
+-- the count goes on
+module _ (s rows : List ℕ) (l : List Service) (count : ℕ) where
+  pub count-none : l ≡ [] → countOn s rows l count ≡ counted.Services count
+  unfolding countOn
+  count-none e = rw e
+
+  module _ (v : Service) (rest : List Service) (e : l ≡ v ∷ rest) where
+    pub count-good : testedOf s rows v ≡ Good → countOn s rows l count ≡ countOn s rows rest (count + 1)
+    unfolding countOn
+    count-good q = rw (e, q)
+
+    pub count-stop : (x : Refusal) → testedOf s rows v ≡ Refused x → countOn s rows l count ≡ counted.Refused x
+    unfolding countOn
+    count-stop x q = rw (e, q)
+
+pub count-start : (s rows : List ℕ) (n : ℕ) → countOn s rows (servicesFrom s rows (rowCount rows n) 0) 0 ≡ countedOf s rows n
+unfolding countedOf
+count-start s rows n = refl

@@ -1,31 +1,31 @@
+-- `services::next_period` meets its contract.
+-- Assumes nothing.
+use denote.Ref.{now}
+use Rattle.services.specs.Ways.{period-none, period-some}
 use borrow.Author.Needs.{needs}
 use Rattle.services.proofs.next_period.Statement.{statement}
 use Rattle.services.proofs.next_period.Tie as tie
-use Rattle.services.proofs.next_period.Reads as reads
-use Rattle.services.proofs.next_period.Lts as lts
-use Rattle.services.proofs.rows.first_row.Reads as first-row-reads
-use Rattle.services.proofs.rows.offset_of.Reads as offset-of-reads
-use Rattle.services.proofs.rows.row_count.Reads as row-count-reads
 
--- src/lib.rt:118:9
 row-count-requires : tie.Need-row-count-requires
 row-count-requires c κs = search needs
 
--- src/lib.rt:119:9
 first-row-requires : tie.Need-first-row-requires
 first-row-requires c κs = search needs
 
--- src/lib.rt:121:9
 returns : tie.Need-returns
-returns c = ?
+returns c =
+    let f = c .before in
+    let a = f .before .before .before .args in
+    period-none (now (a .rows)) (a .i) (a .to) (f .before .row-count .result) (f .first-row .result) (f .before .row-count .ensures) (f .first-row .ensures) (c .if1 .taken)
 
--- src/lib.rt:123:25
 offset-of-requires : tie.Need-offset-of-requires
 offset-of-requires c κs = search needs
 
--- src/lib.rt:115:1
 returns-2 : tie.Need-returns-2
-returns-2 c = ?
+returns-2 c =
+    let f = c .before .before in
+    let a = f .before .before .before .args in
+    period-some (now (a .rows)) (a .i) (a .to) (f .before .row-count .result) (f .first-row .result) (f .before .row-count .ensures) (f .first-row .ensures) (c .offset-of .result) (c .offset-of .ensures) (c .before .if1 .left)
 
 pub next-period-spec : {M : Type 1} → statement M
 next-period-spec =
