@@ -1,4 +1,5 @@
 pub mod Rows
 pub mod Marks
+pub mod Same
 pub mod Services
 pub mod Ways

@@ -3,12 +3,12 @@
 use Prim.Native.Nat.{ℕ, zero, suc, _+_, _-_, _*_, _/_, _≤_, _<_, min}
 use mathlib.Core.Path.{_≡_, refl, ap, _∙_}
 use mathlib.Core.Bool.{Bool, true, false}
-use mathlib.Core.List.{List}
+use mathlib.Core.List.{List, [], _∷_}
 use native.Mathlib.Omega.{arith}
 use lib.Dec.{eqb, ltb}
 use lib.ListN.{length, getD}
 use borrow.Author.Tests.{eq-eqb, ne-eqb, lt-ltb, le-ltb}
-use Rattle.laws.specs.Choice.{pick, both, both-false, both-true}
+use Rattle.laws.specs.Choice.{pick, both, both-false, both-true, choose}
 
 -- the offset of row i, or 0 where the buffer does not hold the row
 unfoldable pub offsetAt : List ℕ → ℕ → ℕ
@@ -38,6 +38,19 @@ offset-some rows i h = rw (lt-ltb i (length rows / 3) h)
 pub offset-none : (rows : List ℕ) (i : ℕ) → length rows / 3 ≤ i → 0 ≡ offsetAt rows i
 unfolding offsetAt
 offset-none rows i h = rw (le-ltb i (length rows / 3) h)
+
+-- what g gives for each of k numbers from i on of which a test holds
+abbrev pub keep : {A : Type 0} → Bool → A → List A → List A
+keep true a l = a ∷ l
+keep false a l = l
+
+unfoldable pub listOf : {A : Type 0} → (ℕ → Bool) → (ℕ → A) → ℕ → ℕ → List A
+listOf f g zero i = []
+listOf f g (suc k) i = keep (f i) (g i) (listOf f g k (i + 1))
+
+-- for each number from i on and below n
+abbrev pub listFrom : {A : Type 0} → (ℕ → Bool) → (ℕ → A) → ℕ → ℕ → List A
+listFrom f g i n = listOf f g (n - i) i
 
 -- the ways through the test of a row
 module _ (rows : List ℕ) (group tag i : ℕ) where
@@ -74,3 +87,40 @@ module _ (f : ℕ → Bool) (i n : ℕ) where
     first-on q =
         let e : n - i ≡ suc (n - (i + 1)) = omega arith in
         rw (e, q)
+
+-- a search ends at or behind its start, and at or before its end
+pub first-bounds : (f : ℕ → Bool) (k i : ℕ) → (i ≤ firstOf f k i) × (firstOf f k i ≤ i + k)
+unfolding firstOf
+first-bounds f zero i = (omega arith, omega arith)
+first-bounds f (suc k) i =
+    let w = first-bounds f k (i + 1) in
+    choose (f i) (λ q. rw q (omega arith, omega arith)) (λ q. rw q (omega arith, omega arith))
+
+-- a list begins with what a search finds
+module _ {A : Type 0} (f : ℕ → Bool) (g : ℕ → A) where
+  of-none : (k i : ℕ) → i + k ≤ firstOf f k i → listOf f g k i ≡ []
+  unfolding firstOf listOf
+  of-none zero i h = refl
+  of-none (suc k) i h =
+      choose (f i) (λ q. let x = rw q at h in absurd (omega arith))
+      (λ q. let x = rw q at h in rw q (of-none k (i + 1) (omega arith)))
+
+  of-some : (k i n : ℕ) → firstOf f k i < i + k → i + k ≡ n → listOf f g k i ≡ g (firstOf f k i) ∷ listOf f g (n - (firstOf f k i + 1)) (firstOf f k i + 1)
+  unfolding firstOf listOf
+  of-some zero i n h z = absurd (omega arith)
+  of-some (suc k) i n h z =
+      choose (f i)
+      (λ q.
+      let e : n - (i + 1) ≡ k = omega arith in
+      rw (q, e))
+      (λ q. let x = rw q at h in rw q (of-some k (i + 1) n (omega arith) (omega arith)))
+
+  pub list-none : (i n : ℕ) → n ≤ firstFrom f i n → listFrom f g i n ≡ []
+  list-none i n h =
+      let w = first-bounds f (n - i) i in
+      of-none (n - i) i (omega arith)
+
+  pub list-some : (i n : ℕ) → firstFrom f i n < n → listFrom f g i n ≡ g (firstFrom f i n) ∷ listFrom f g (firstFrom f i n + 1) n
+  list-some i n h =
+      let w = first-bounds f (n - i) i in
+      of-some (n - i) i n (omega arith) (omega arith)

@@ -1,7 +1,7 @@
 -- The services of an accepted interchange (document 01, "The register", Stage; "What each number means", 11 and 12).
 -- s is the interchange, rows the buffer with the rows of its reading.
 -- Assumes nothing.
-use Prim.Native.Nat.{ℕ, zero, suc, _+_, _-_}
+use Prim.Native.Nat.{ℕ, _+_}
 use mathlib.Core.Bool.{Bool, true, false, not}
 use mathlib.Core.List.{List, [], _∷_}
 use lib.Dec.{eqb, ltb, leb}
@@ -24,7 +24,7 @@ use Rattle.services.specs.declared.Tested.{Tested}
 use Rattle.services.specs.declared.Tested.the-variants.{Good, Refused}
 use Rattle.services.specs.declared.Counted.{Counted}
 use Rattle.services.specs.declared.Counted.the-variants as counted
-use Rattle.services.specs.Rows.{offsetAt, isRow, rowCount, firstFrom}
+use Rattle.services.specs.Rows.{offsetAt, isRow, rowCount, firstFrom, listFrom}
 
 -- "the groups 2 of its SKDUPD messages are services": each begins with its PRD, and no PRD of a TSDUPD stands in group 2
 abbrev pub isService : List ℕ → ℕ → Bool
@@ -82,6 +82,14 @@ periodAt rows n k = pick (ltb k n) (period.Pop k (offsetAt rows k)) period.NoMor
 unfoldable pub nextPeriod : List ℕ → ℕ → ℕ → FoundPeriod
 nextPeriod rows i to = periodAt rows (rowCount rows to) (firstFrom (isPeriod rows) i (rowCount rows to))
 
+-- the offsets of the periods from row i on, before row `to`: those of a service are from its first row on
+abbrev pub periodsFrom : List ℕ → ℕ → ℕ → List ℕ
+periodsFrom rows i to = listFrom (isPeriod rows) (offsetAt rows) i (rowCount rows to)
+
+abbrev pub periodsOf : List ℕ → Service → List ℕ
+periodsOf rows v = periodsFrom rows (v .from) (v .to)
+
+-- whether there is any
 unfoldable pub hasPeriod : List ℕ → ℕ → ℕ → Bool
 hasPeriod rows from to = ltb (firstFrom (isPeriod rows) from (rowCount rows to)) (rowCount rows to)
 
@@ -98,9 +106,13 @@ unfoldable pub isWrong : List ℕ → List ℕ → Service → Bool
 isWrong s rows v =
     not (both (numberFits (length (plain (bytesOf s (v .number))))) (periodsFit (v .removal) (hasPeriod rows (v .from) (v .to))))
 
--- whether row k begins a service of a number, compared after release
+-- whether the PRD at an offset has a number, both read after release
+unfoldable pub saysNumber : List ℕ → ℕ → List ℕ → Bool
+saysNumber s at number = sameText (plain (bytesOf s (numberOf s at))) (plain number)
+
+-- whether row k begins a service of a number
 unfoldable pub isSame : List ℕ → List ℕ → List ℕ → ℕ → Bool
-isSame s rows number k = both (isService rows k) (sameText (plain (bytesOf s (numberOf s (offsetAt rows k)))) (plain number))
+isSame s rows number k = both (isService rows k) (saysNumber s (offsetAt rows k) number)
 
 -- 12: "service number twice in the interchange": a service before this one has it
 unfoldable pub isTwice : List ℕ → List ℕ → List ℕ → ℕ → Bool
@@ -115,14 +127,9 @@ testedOf s rows v =
     pick (isWrong s rows v) (refuse 11 (v .prd))
     (pick (isTwice s rows (bytesOf s (v .number)) (v .from)) (refuse 12 (v .prd)) Good)
 
--- the services of k rows from i on, of n in all
-unfoldable pub servicesOn : List ℕ → List ℕ → ℕ → ℕ → ℕ → List Service
-servicesOn s rows n zero i = []
-servicesOn s rows n (suc k) i = pick (isService rows i) (serviceAt s rows n i ∷ servicesOn s rows n k (i + 1)) (servicesOn s rows n k (i + 1))
-
--- those of an interchange, in order
+-- the services from row i on, of n rows, and those of an interchange, in order
 abbrev pub servicesFrom : List ℕ → List ℕ → ℕ → ℕ → List Service
-servicesFrom s rows n i = servicesOn s rows n (n - i) i
+servicesFrom s rows n i = listFrom (isService rows) (serviceAt s rows n) i n
 
 abbrev pub servicesOf : List ℕ → List ℕ → ℕ → List Service
 servicesOf s rows n = servicesFrom s rows (rowCount rows n) 0

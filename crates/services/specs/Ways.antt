@@ -1,14 +1,16 @@
 -- The ways through the code, a law for each; what a call answered has a name of its own.
 -- Assumes nothing.
-use Prim.Native.Nat.{ℕ, zero, suc, _+_, _-_, _≤_, _<_}
+use Prim.Native.Nat.{ℕ, _+_, _-_, _≤_, _<_}
 use mathlib.Core.Path.{_≡_, refl, sym, ap, subst, _∙_}
 use mathlib.Core.Bool.{Bool, true, false, not}
 use mathlib.Core.List.{List, [], _∷_}
 use native.Mathlib.Omega.{arith}
-use borrow.Author.Tests.{lt-ltb, le-ltb, le-leb, lt-leb, ltb-true, ltb-false}
-use lib.Dec.{ltb, leb}
-use lib.ListN.{length, getD, drop}
-use Rattle.laws.specs.Choice.{pick, both, both-false, choose}
+use native.Mathlib.Decide.{decLt}
+use borrow.Author.Tests.{eqb-true, eq-eqb, lt-ltb, le-ltb, le-leb, lt-leb, ltb-true, ltb-false}
+use lib.Dec.{eqb, ltb, leb}
+use lib.ListN.{length, getD, drop, List·getD-eq-default}
+use Rattle.laws.specs.Choice.{false≢true, choose}
+use Rattle.laws.specs.Lists.{drop-past}
 use Rattle.syntax.specs.declared.segment.Refusal.{Refusal}
 use Rattle.syntax.specs.Bytes.{plain}
 use Rattle.syntax.specs.Pieces.{partOf}
@@ -25,9 +27,10 @@ use Rattle.services.specs.declared.Tested.{Tested}
 use Rattle.services.specs.declared.Tested.the-variants.{Good, Refused}
 use Rattle.services.specs.declared.Counted.{Counted}
 use Rattle.services.specs.declared.Counted.the-variants as counted
-use Rattle.services.specs.Rows.{offsetAt, isRow, rowCount, firstOf, firstFrom, first-past, first-here, first-on}
-use Rattle.services.specs.Marks.{endsSegment, endsElement, endsComponent, stopOf, by-between, first-by, part-none, part-past, part-some}
-use Rattle.services.specs.Services.{isService, isPeriod, numberOf, saysRemoval, removes, serviceAt, nextService, nextPeriod, hasPeriod, isWrong, isSame, isTwice, refuse, testedOf, servicesOn, servicesFrom, countOn, countedOf}
+use Rattle.services.specs.Rows.{offsetAt, isRow, rowCount, firstFrom, first-past, first-here, first-bounds, list-none, list-some}
+use Rattle.services.specs.Marks.{endsSegment, endsElement, endsComponent, firstBy, stopOf, by-between, first-by, part-none, part-past, part-some}
+use Rattle.services.specs.Same.{startOf}
+use Rattle.services.specs.Services.{isService, isPeriod, numberOf, saysNumber, saysRemoval, removes, serviceAt, nextService, nextPeriod, hasPeriod, isWrong, isSame, isTwice, refuse, testedOf, servicesFrom, periodsFrom, countOn, countedOf}
 
 -- the bytes of a segment
 pub segment-bytes : (s : List ℕ) (at to : ℕ) → to ≡ stopOf endsSegment s at → bytesOf s (record { from = at; to = to }) ≡ bodyAt s at
@@ -54,6 +57,27 @@ module _ (s : List ℕ) (at e : ℕ) (q : e ≡ stopOf endsElement s at) where
   pub number-some : (t : ℕ) → t ≡ stopOf endsComponent s (e + 1) → e < length s → getD s e 0 ≡ 43 → record { from = e + 1; to = t } ≡ numberOf s at
   unfolding numberOf
   number-some t w l h = part-some s at e q t w l h
+
+-- its bytes stand from the first `+` on, up to the next mark
+pub number-bytes : (s : List ℕ) (at : ℕ) → bytesOf s (numberOf s at) ≡ firstBy endsComponent false (drop (startOf s at) s)
+unfolding startOf firstBy
+number-bytes s at =
+    let e = stopOf endsElement s at in
+    choose (eqb (getD s (stopOf endsElement s at) 0) 43)
+    (λ q.
+    elim (decLt (stopOf endsElement s at) (length s)) [
+      | yes l ↦ rw q (ap (bytesOf s) (sym (number-some s at e refl (stopOf endsComponent s (e + 1)) refl l (eqb-true (getD s e 0) 43 q))) ∙ by-between endsComponent s (e + 1))
+      | no l ↦
+          let z = List·getD-eq-default s 0 {n = e} (omega arith) in
+          let y = eqb-true (getD s e 0) 43 q in
+          absurd (omega arith)
+    ])
+    (λ q. rw (q, drop-past s (length s) (omega arith)) (ap (bytesOf s) (sym (number-none s at e refl (λ h. false≢true (sym q ∙ eq-eqb (getD s e 0) 43 h))))))
+
+pub number-says : (s : List ℕ) (at from : ℕ) (number : List ℕ) (x : Bool) → from ≡ startOf s at → x ≡ sameText (plain (firstBy endsComponent false (drop from s))) (plain number) → x ≡ saysNumber s at number
+unfolding saysNumber
+number-says s at from number x a e =
+    e ∙ ap (λ (y : List ℕ). sameText (plain y) (plain number)) (ap (λ (y : ℕ). firstBy endsComponent false (drop y s)) a ∙ sym (number-bytes s at))
 
 -- the first period
 module _ (rows : List ℕ) (i to n k : ℕ) (a : n ≡ rowCount rows to) (b : k ≡ firstFrom (isPeriod rows) i n) where
@@ -120,11 +144,9 @@ module _ (s rows number : List ℕ) (i : ℕ) where
   unfolding isSame
   same-no q = rw q
 
-  pub same-yes : isRow rows 2 PRD i ≡ true → (o : ℕ) (p : Part) (t : List ℕ) (x : Bool) → o ≡ offsetAt rows i → p ≡ numberOf s o → t ≡ bytesOf s p → x ≡ sameText (plain t) (plain number)
-      → x ≡ isSame s rows number i
+  pub same-yes : isRow rows 2 PRD i ≡ true → (o : ℕ) (x : Bool) → o ≡ offsetAt rows i → x ≡ saysNumber s o number → x ≡ isSame s rows number i
   unfolding isSame
-  same-yes q o p t x a b d e =
-      rw q (e ∙ ap (λ (y : List ℕ). sameText (plain y) (plain number)) (d ∙ ap (bytesOf s) (b ∙ ap (numberOf s) a)))
+  same-yes q o x a e = rw q (e ∙ ap (λ (y : ℕ). saysNumber s y number) a)
 
 module _ (s rows number : List ℕ) (before n i : ℕ) (a : n ≡ rowCount rows before) (v : firstFrom (isSame s rows number) i n ≡ firstFrom (isSame s rows number) 0 n) where
   pub twice-yes : i < n → isSame s rows number i ≡ true → true ≡ isTwice s rows number before
@@ -149,34 +171,6 @@ module _ (s rows : List ℕ) (v : Service) where
     pub tested-good : isTwice s rows t (v .from) ≡ false → Good ≡ testedOf s rows v
     unfolding testedOf
     tested-good q = rw (p, sym e, q)
-
--- a search ends at or behind its start, and at or before its end
-pub first-bounds : (f : ℕ → Bool) (k i : ℕ) → (i ≤ firstOf f k i) × (firstOf f k i ≤ i + k)
-unfolding firstOf
-first-bounds f zero i = (omega arith, omega arith)
-first-bounds f (suc k) i =
-    let w = first-bounds f k (i + 1) in
-    choose (f i) (λ q. rw q (omega arith, omega arith)) (λ q. rw q (omega arith, omega arith))
-
--- the services of k rows from i on begin with the one that a search finds
-module _ (s rows : List ℕ) (n : ℕ) where
-  services-none : (k i : ℕ) → i + k ≤ firstOf (isService rows) k i → servicesOn s rows n k i ≡ []
-  unfolding firstOf servicesOn
-  services-none zero i h = refl
-  services-none (suc k) i h =
-      choose (isService rows i) (λ q. let g = rw q at h in absurd (omega arith))
-      (λ q. let g = rw q at h in rw q (services-none k (i + 1) (omega arith)))
-
-  services-some : (k i m : ℕ) → firstOf (isService rows) k i < i + k → i + k ≡ m
-      → servicesOn s rows n k i ≡ serviceAt s rows n (firstOf (isService rows) k i) ∷ servicesOn s rows n (m - (firstOf (isService rows) k i + 1)) (firstOf (isService rows) k i + 1)
-  unfolding firstOf servicesOn
-  services-some zero i m h z = absurd (omega arith)
-  services-some (suc k) i m h z =
-      choose (isService rows i)
-      (λ q.
-      let e : m - (i + 1) ≡ k = omega arith in
-      rw (q, e))
-      (λ q. let g = rw q at h in rw q (services-some k (i + 1) m (omega arith) (omega arith)))
 
 none≢at : (v : Service) → found.NoMore ≡ found.At v → ⊥
 none≢at v q = let z : _≡_ {A = ℕ} 0 1 = cc in omega arith
@@ -204,13 +198,8 @@ module _ (s rows : List ℕ) (m i : ℕ) where
       (λ l.
       let h = ltb-true place all l in
       let w = first-bounds (isService rows) (all - i) i in
-      let e = at-is (serviceAt s rows all place) v (rw l at q) in
-      subst (Next s rows m i) e
-      (record {
-        rest = services-some s rows all (all - i) i all (omega arith) (omega arith);
-        further = w .0;
-        inside = h;
-      }))
+      subst (Next s rows m i) (at-is (serviceAt s rows all place) v (rw l at q))
+      (record { rest = list-some (isService rows) (serviceAt s rows all) i all h; further = w .0; inside = h }))
       (λ l. absurd (none≢at v (rw l at q)))
 
   pub next-gone : nextService s rows m i ≡ found.NoMore → servicesFrom s rows all i ≡ []
@@ -218,10 +207,51 @@ module _ (s rows : List ℕ) (m i : ℕ) where
   next-gone q =
       choose (ltb place all)
       (λ l. absurd (none≢at (serviceAt s rows all place) (sym (rw l at q))))
+      (λ l. list-none (isService rows) (serviceAt s rows all) i all (ltb-false place all l))
+
+-- and the next period
+more≢pop : (k o : ℕ) → period.NoMore ≡ period.Pop k o → ⊥
+more≢pop k o q = let z : _≡_ {A = ℕ} 0 1 = cc in omega arith
+
+pop-is : (k o j p : ℕ) → period.Pop k o ≡ period.Pop j p → (k ≡ j) × (o ≡ p)
+pop-is k o j p q = (cc, cc)
+
+pub record NextPeriod (rows : List ℕ) (to i k o : ℕ) : Type 0 where
+  pub rest : periodsFrom rows i to ≡ o ∷ periodsFrom rows (k + 1) to
+  pub further : i ≤ k
+  pub inside : k < rowCount rows to
+
+module _ (rows : List ℕ) (i to : ℕ) where
+  abbrev end : ℕ
+  end = rowCount rows to
+
+  abbrev pop : ℕ
+  pop = firstFrom (isPeriod rows) i (rowCount rows to)
+
+  pub period-found : (k o : ℕ) → nextPeriod rows i to ≡ period.Pop k o → NextPeriod rows to i k o
+  unfolding nextPeriod
+  period-found k o q =
+      choose (ltb pop end)
       (λ l.
-      let h = ltb-false place all l in
-      let w = first-bounds (isService rows) (all - i) i in
-      services-none s rows all (all - i) i (omega arith))
+      let h = ltb-true pop end l in
+      let w = first-bounds (isPeriod rows) (end - i) i in
+      let e = pop-is pop (offsetAt rows pop) k o (rw l at q) in
+      subst (λ (x : ℕ). NextPeriod rows to i k x) (e .1)
+      (subst (λ (x : ℕ). NextPeriod rows to i x (offsetAt rows pop)) (e .0)
+      (record { rest = list-some (isPeriod rows) (offsetAt rows) i end h; further = w .0; inside = h })))
+      (λ l. absurd (more≢pop k o (rw l at q)))
+
+  pub period-gone : nextPeriod rows i to ≡ period.NoMore → periodsFrom rows i to ≡ []
+  unfolding nextPeriod
+  period-gone q =
+      choose (ltb pop end)
+      (λ l. absurd (more≢pop pop (offsetAt rows pop) (sym (rw l at q))))
+      (λ l. list-none (isPeriod rows) (offsetAt rows) i end (ltb-false pop end l))
+
+  -- where there is no period the list is empty
+  pub has-none : hasPeriod rows i to ≡ false → periodsFrom rows i to ≡ []
+  unfolding hasPeriod
+  has-none q = list-none (isPeriod rows) (offsetAt rows) i end (ltb-false pop end q)
 
 -- the count goes on
 module _ (s rows : List ℕ) (l : List Service) (count : ℕ) where

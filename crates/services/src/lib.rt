@@ -9,6 +9,7 @@ use crate::rows::is_row;
 use crate::rows::offset_of;
 use crate::rows::row_count;
 use crate::segments::number_at;
+use crate::segments::says_number;
 use crate::segments::says_removal;
 use parts::Part;
 use parts::bytes_of;
@@ -157,7 +158,7 @@ fn is_same(s: &[u8], rows: &[u32], number: &[u8], i: usize) -> bool
     if !is_row(rows, i, 2, PRD) {
         return false;
     }
-    values::same(bytes_of(s, number_at(s, offset_of(rows, i))), number)
+    says_number(s, offset_of(rows, i), number)
 }
 
 // 12: whether a service before row `before` has the given number.
