@@ -3,3 +3,5 @@ pub mod Marks
 pub mod Same
 pub mod Services
 pub mod Ways
+pub mod Laws
+pub mod Cases
