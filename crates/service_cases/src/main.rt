@@ -14,7 +14,6 @@ use services::next_period;
 use services::next_service;
 use services::test_services;
 use syntax::segment::Refusal;
-ghost use mathlib.Core.Path.{_≡_};
 ghost use Prim.Native.Nat.{_<_, _≤_};
 ghost use lib.ListN.{length};
 

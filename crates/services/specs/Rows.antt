@@ -1,13 +1,14 @@
 -- Rows in a buffer, as the reader writes them: three numbers each, offset, group and tag.
 -- Assumes nothing.
 use Prim.Native.Nat.{ℕ, zero, suc, _+_, _-_, _*_, _/_, _≤_, _<_, min}
-use mathlib.Core.Path.{_≡_, refl, ap, _∙_}
+use mathlib.Core.Path.{_≡_, refl, subst}
 use mathlib.Core.Bool.{Bool, true, false}
 use mathlib.Core.List.{List, [], _∷_}
 use native.Mathlib.Omega.{arith}
+use native.Mathlib.Decide.{decLt}
 use lib.Dec.{eqb, ltb}
 use lib.ListN.{length, getD}
-use borrow.Author.Tests.{eq-eqb, ne-eqb, lt-ltb, le-ltb}
+use borrow.Author.Tests.{eq-eqb, ne-eqb, lt-ltb, le-ltb, ltb-true, ltb-false}
 use Rattle.laws.specs.Choice.{pick, both, both-false, both-true, choose}
 
 -- the offset of row i, or 0 where the buffer does not hold the row
@@ -30,6 +31,10 @@ firstOf f (suc k) i = pick (f i) i (firstOf f k (i + 1))
 -- the first number from i on and below n of which a test holds; where it holds of none, n, or i where i is not below n
 abbrev pub firstFrom : (ℕ → Bool) → ℕ → ℕ → ℕ
 firstFrom f i n = firstOf f (n - i) i
+
+-- whether it holds of any
+abbrev pub someFrom : (ℕ → Bool) → ℕ → ℕ → Bool
+someFrom f i n = ltb (firstFrom f i n) n
 
 pub offset-some : (rows : List ℕ) (i : ℕ) → i < length rows / 3 → getD rows (3 * i) 0 ≡ offsetAt rows i
 unfolding offsetAt
@@ -95,6 +100,39 @@ first-bounds f zero i = (omega arith, omega arith)
 first-bounds f (suc k) i =
     let w = first-bounds f k (i + 1) in
     choose (f i) (λ q. rw q (omega arith, omega arith)) (λ q. rw q (omega arith, omega arith))
+
+-- the test holds where a search ends before its end, and of nothing before that
+first-holds : (f : ℕ → Bool) (k i : ℕ) → firstOf f k i < i + k → f (firstOf f k i) ≡ true
+unfolding firstOf
+first-holds f zero i h = absurd (omega arith)
+first-holds f (suc k) i h =
+    choose (f i) (λ q. rw q q) (λ q. let x = rw q at h in rw q (first-holds f k (i + 1) (omega arith)))
+
+first-skips : (f : ℕ → Bool) (k i j : ℕ) → i ≤ j → j < firstOf f k i → f j ≡ false
+unfolding firstOf
+first-skips f zero i j a h = absurd (omega arith)
+first-skips f (suc k) i j a h =
+    choose (f i) (λ q. let x = rw q at h in absurd (omega arith))
+    (λ q.
+    let x = rw q at h in
+    elim (decLt i j) [
+      | yes l ↦ first-skips f k (i + 1) j (omega arith) x
+      | no l ↦
+          let e : i ≡ j = omega arith in
+          subst (λ (y : ℕ). f y ≡ false) e q
+    ])
+
+module _ (f : ℕ → Bool) (i n : ℕ) where
+  pub some-holds : someFrom f i n ≡ true → f (firstFrom f i n) ≡ true
+  some-holds q =
+      let h = ltb-true (firstFrom f i n) n q in
+      let w = first-bounds f (n - i) i in
+      first-holds f (n - i) i (omega arith)
+
+  pub some-none : someFrom f i n ≡ false → (j : ℕ) → i ≤ j → j < n → f j ≡ false
+  some-none q j a b =
+      let h = ltb-false (firstFrom f i n) n q in
+      first-skips f (n - i) i j a (omega arith)
 
 -- a list begins with what a search finds
 module _ {A : Type 0} (f : ℕ → Bool) (g : ℕ → A) where

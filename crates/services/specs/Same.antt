@@ -1,6 +1,6 @@
 -- A component compared where it stands, byte by byte after release.
 -- Assumes nothing.
-use Prim.Native.Nat.{ℕ, suc, _+_, _-_, _≤_, _<_}
+use Prim.Native.Nat.{ℕ, _+_, _-_, _≤_, _<_}
 use mathlib.Core.Path.{_≡_, refl, sym, ap, _∙_}
 use mathlib.Core.Bool.{Bool, true, false}
 use mathlib.Core.List.{List, [], _∷_}
@@ -14,7 +14,7 @@ use Rattle.laws.specs.Lists.{drop-here, drop-past}
 use Rattle.syntax.specs.Bytes.{plain, plainOn}
 use Rattle.values.specs.declared.Next.{Next}
 use Rattle.values.specs.declared.Next.the-variants.{Byte, Done}
-use Rattle.values.specs.Values.{nextOn, nextAt, behind}
+use Rattle.values.specs.Values.{nextOn, nextAt}
 use Rattle.services.specs.Marks.{endsElement, endsComponent, firstBy, stopOf}
 
 -- the index behind the first `+` of the segment at an offset, or the input's length where it has none

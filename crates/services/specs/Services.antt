@@ -2,12 +2,11 @@
 -- s is the interchange, rows the buffer with the rows of its reading.
 -- Assumes nothing.
 use Prim.Native.Nat.{ℕ, _+_}
-use mathlib.Core.Bool.{Bool, true, false, not}
+use mathlib.Core.Bool.{Bool, not}
 use mathlib.Core.List.{List, [], _∷_}
-use lib.Dec.{eqb, ltb, leb}
+use lib.Dec.{ltb, leb}
 use lib.ListN.{length}
-use Rattle.laws.specs.Choice.{pick, both, either}
-use Rattle.syntax.specs.declared.segment.Refusal.{Refusal}
+use Rattle.laws.specs.Choice.{pick, both}
 use Rattle.syntax.specs.Bytes.{plain}
 use Rattle.syntax.specs.Segment.{bodyAt}
 use Rattle.syntax.specs.Pieces.{partOf}
@@ -24,7 +23,7 @@ use Rattle.services.specs.declared.Tested.{Tested}
 use Rattle.services.specs.declared.Tested.the-variants.{Good, Refused}
 use Rattle.services.specs.declared.Counted.{Counted}
 use Rattle.services.specs.declared.Counted.the-variants as counted
-use Rattle.services.specs.Rows.{offsetAt, isRow, rowCount, firstFrom, listFrom}
+use Rattle.services.specs.Rows.{offsetAt, isRow, rowCount, firstFrom, someFrom, listFrom}
 
 -- "the groups 2 of its SKDUPD messages are services": each begins with its PRD, and no PRD of a TSDUPD stands in group 2
 abbrev pub isService : List ℕ → ℕ → Bool
@@ -47,10 +46,10 @@ unfoldable pub saysRemoval : List ℕ → ℕ → Bool
 saysRemoval s at = sameText (plain (partOf (bodyAt s at) 1 1 2)) (53 ∷ 54 ∷ [])
 
 -- a service's rows go on to the next service, or to the UIT of its message
-abbrev pub endOf : List ℕ → ℕ → ℕ → ℕ
-endOf rows n k = firstFrom (isRow rows 0 UIT) (k + 1) (firstFrom (isService rows) (k + 1) n)
+abbrev pub serviceEnd : List ℕ → ℕ → ℕ → ℕ
+serviceEnd rows n k = firstFrom (isRow rows 0 UIT) (k + 1) (firstFrom (isService rows) (k + 1) n)
 
--- "Where 1225-1 in the group's MSD is 56 it is a removal": the MSD is that of the service's own rows; where k is no row before `to` there is none
+-- "Where 1225-1 in the group's MSD is 56 it is a removal": k is the row of the MSD, or there is none before row `to`
 abbrev pub removesAt : List ℕ → List ℕ → ℕ → ℕ → Bool
 removesAt s rows to k = both (ltb k to) (saysRemoval s (offsetAt rows k))
 
@@ -63,9 +62,9 @@ serviceAt s rows n k =
     record {
       prd = offsetAt rows k;
       number = numberOf s (offsetAt rows k);
-      removal = removes s rows (k + 1) (endOf rows n k);
+      removal = removes s rows (k + 1) (serviceEnd rows n k);
       from = k;
-      to = endOf rows n k;
+      to = serviceEnd rows n k;
     }
 
 -- the first service from row i on, of n rows
@@ -91,7 +90,7 @@ periodsOf rows v = periodsFrom rows (v .from) (v .to)
 
 -- whether there is any
 unfoldable pub hasPeriod : List ℕ → ℕ → ℕ → Bool
-hasPeriod rows from to = ltb (firstFrom (isPeriod rows) from (rowCount rows to)) (rowCount rows to)
+hasPeriod rows from to = someFrom (isPeriod rows) from (rowCount rows to)
 
 -- "The number, 1 to 10 characters after release"
 abbrev pub numberFits : ℕ → Bool
@@ -116,7 +115,7 @@ isSame s rows number k = both (isService rows k) (saysNumber s (offsetAt rows k)
 
 -- 12: "service number twice in the interchange": a service before this one has it
 unfoldable pub isTwice : List ℕ → List ℕ → List ℕ → ℕ → Bool
-isTwice s rows number before = ltb (firstFrom (isSame s rows number) 0 (rowCount rows before)) (rowCount rows before)
+isTwice s rows number before = someFrom (isSame s rows number) 0 (rowCount rows before)
 
 abbrev pub refuse : ℕ → ℕ → Tested
 refuse number position = Refused (record { number = number; position = position })
@@ -147,7 +146,15 @@ countOn s rows (v ∷ l) count = afterTest (countOn s rows l) count (testedOf s 
 unfoldable pub countedOf : List ℕ → List ℕ → ℕ → Counted
 countedOf s rows n = countOn s rows (servicesOf s rows n) 0
 
--- document 01's number and position of each case; 0 where a service is good
-abbrev pub answerOf : Tested → Refusal
-answerOf Good = record { number = 0; position = 0 }
-answerOf (Refused x) = x
+-- document 01's number and value of each case: 0 where all is done, and the number of services; else the number and its position
+pub record Answer : Type 0 where
+  pub number : ℕ
+  pub value : ℕ
+
+abbrev pub testedAnswer : Tested → Answer
+testedAnswer Good = record { number = 0; value = 0 }
+testedAnswer (Refused x) = record { number = x .number; value = x .position }
+
+abbrev pub countedAnswer : Counted → Answer
+countedAnswer (counted.Services k) = record { number = 0; value = k }
+countedAnswer (counted.Refused x) = record { number = x .number; value = x .position }

@@ -7,7 +7,7 @@ use mathlib.Core.List.{List, [], _∷_}
 use native.Mathlib.Omega.{arith}
 use native.Mathlib.Decide.{decLt}
 use borrow.Author.Tests.{eqb-true, eq-eqb, lt-ltb, le-ltb, le-leb, lt-leb, ltb-true, ltb-false}
-use lib.Dec.{eqb, ltb, leb}
+use lib.Dec.{eqb, ltb}
 use lib.ListN.{length, getD, drop, List·getD-eq-default}
 use Rattle.laws.specs.Choice.{false≢true, choose}
 use Rattle.laws.specs.Lists.{drop-past}
@@ -23,9 +23,7 @@ use Rattle.placing.specs.Tags.{PRD, MSD, UIT}
 use Rattle.services.specs.declared.Service.{Service}
 use Rattle.services.specs.declared.Found.the-variants as found
 use Rattle.services.specs.declared.FoundPeriod.the-variants as period
-use Rattle.services.specs.declared.Tested.{Tested}
 use Rattle.services.specs.declared.Tested.the-variants.{Good, Refused}
-use Rattle.services.specs.declared.Counted.{Counted}
 use Rattle.services.specs.declared.Counted.the-variants as counted
 use Rattle.services.specs.Rows.{offsetAt, isRow, rowCount, firstFrom, first-past, first-here, first-bounds, list-none, list-some}
 use Rattle.services.specs.Marks.{endsSegment, endsElement, endsComponent, firstBy, stopOf, by-between, first-by, part-none, part-past, part-some}

@@ -15,10 +15,7 @@ use parts::Part;
 use parts::bytes_of;
 use syntax::segment::Refusal;
 ghost use mathlib.Core.Path.{_≡_};
-ghost use Prim.Native.Nat.{_+_, _<_, _≤_};
-ghost use lib.ListN.{length};
-ghost use Rattle.parts.specs.Places.{bytesOf};
-ghost use Rattle.services.specs.Rows.{rowCount};
+ghost use Prim.Native.Nat.{_<_};
 ghost use Rattle.services.specs.Services.{removes, serviceAt, nextService, nextPeriod, hasPeriod, isWrong, isSame, isTwice, testedOf, countedOf};
 
 const PRD: u32 = 0x505244;

@@ -11,6 +11,7 @@ pub(crate) fn row_count(rows: &[u32], n: usize) -> usize
     if n < room { n } else { room }
 }
 
+// A number of the buffer as an index.
 fn wide(n: u32) -> usize
     ensures { λ r. ⌜ r ≡ n ⌝ }
 {

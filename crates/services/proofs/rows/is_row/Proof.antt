@@ -1,7 +1,6 @@
 -- `services::rows::is_row` meets its contract.
 -- Assumes nothing.
 use mathlib.Core.Path.{sym}
-use native.Mathlib.Omega.{arith}
 use denote.Ref.{now}
 use borrow.Author.Needs.{needs}
 use Rattle.services.specs.Rows.{row-none, row-other, row-group}
