@@ -15,3 +15,8 @@ read: target/bin/print
 target/bin/print: $(wildcard crates/*/src/*.rt)
 	@rt check print
 	@touch $@
+
+# The reader against a reader in C: times, costs and answers (bench/README.md).
+.PHONY: bench
+bench:
+	@$(MAKE) --no-print-directory -C bench bench

@@ -1,0 +1,118 @@
+-- Worked cases, computed: what document 01 prints whole is an interchange, and its neighbours are none.
+-- Assumes nothing.
+use mathlib.Core.Path.{_≡_, refl}
+use mathlib.Core.Bool.{true, false}
+use mathlib.Core.List.{List, [], _∷_}
+use Prim.Native.Nat.{ℕ}
+use lib.ListN.{length}
+use Rattle.syntax.specs.Bytes.{permittedOf, plainOn}
+use Rattle.syntax.specs.Pieces.{first, later, partOf}
+use Rattle.syntax.specs.Segment.{tagged, componentFits, occurrenceFits, elementFits, withinLimits, wellFormed}
+use Rattle.parts.specs.Places.{spanOf, countedAt, elementAt}
+use Rattle.values.specs.Values.{sameText}
+use Rattle.dates.specs.Days.{leapYear, monthLength, isDate, monthDays, yearDays, dayNumber}
+use Rattle.dates.specs.Dates.{madeOf}
+use Rattle.dates.specs.Text.{twoDigits, digitsAt, dateAt}
+use Rattle.calendar.specs.Written.{goodPeriod}
+use Rattle.period.specs.Period.{spanBetween, spanIn, dayString, rising, formedOf, restGood, periodOf}
+use Rattle.placing.specs.Table.{entryOf, afterOf, endOf, placesOn}
+use Rattle.placing.specs.Rule.{reachable, firstFit, inGroup, again, laterOnes, choicesFrom, firstOf, stepOf}
+use Rattle.placing.specs.Skdupd.{skdupdTable}
+use Rattle.placing.specs.Tsdupd.{tsdupdTable}
+use Rattle.envelope.specs.Decimal.{decimalOn}
+use Rattle.envelope.specs.Envelope.{uibOf, uihOf, trailerOf}
+use Rattle.interchange.specs.Reader.{numbers}
+use Rattle.acceptance.specs.Interchange.{written, unbroken, isSegment, Interchange, segmentsOf, placesFrom, isMessage, holds, rowsFrom, rowsOf}
+
+-- `UIB+UNOB:4+7`
+abbrev uib : List ℕ
+uib = 85 ∷ 73 ∷ 66 ∷ 43 ∷ 85 ∷ 78 ∷ 79 ∷ 66 ∷ 58 ∷ 52 ∷ 43 ∷ 55 ∷ []
+
+-- `UIH+TSDUPD:D:04A::UN+1`
+abbrev tsdupd : List ℕ
+tsdupd = 85 ∷ 73 ∷ 72 ∷ 43 ∷ 84 ∷ 83 ∷ 68 ∷ 85 ∷ 80 ∷ 68 ∷ 58 ∷ 68 ∷ 58 ∷ 48 ∷ 52 ∷ 65 ∷ 58 ∷ 58 ∷ 85 ∷ 78 ∷ 43 ∷ 49 ∷ []
+
+-- `MSD+AAR:61`
+abbrev msd : List ℕ
+msd = 77 ∷ 83 ∷ 68 ∷ 43 ∷ 65 ∷ 65 ∷ 82 ∷ 58 ∷ 54 ∷ 49 ∷ []
+
+-- `UIT+1+3`
+abbrev uit : List ℕ
+uit = 85 ∷ 73 ∷ 84 ∷ 43 ∷ 49 ∷ 43 ∷ 51 ∷ []
+
+-- `UIZ+7+1`
+abbrev uiz : List ℕ
+uiz = 85 ∷ 73 ∷ 90 ∷ 43 ∷ 55 ∷ 43 ∷ 49 ∷ []
+
+-- `UIT+1+4`
+abbrev uit-four : List ℕ
+uit-four = 85 ∷ 73 ∷ 84 ∷ 43 ∷ 49 ∷ 43 ∷ 52 ∷ []
+
+-- one message of the type TSDUPD with its MSD, and a trailer
+abbrev one : List ℕ → Interchange
+one trailer = record { opening = uib; messages = record { heading = tsdupd; within = msd ∷ []; trailer = trailer } ∷ []; closing = uiz }
+
+pub printed : holds (one uit) ≡ true
+unfolding holds isMessage isSegment unbroken placesFrom permittedOf plainOn first later partOf tagged componentFits occurrenceFits elementFits withinLimits wellFormed spanOf countedAt elementAt sameText entryOf afterOf endOf placesOn reachable firstFit inGroup again laterOnes choicesFrom firstOf stepOf skdupdTable tsdupdTable decimalOn uibOf uihOf trailerOf
+printed = refl
+
+-- "63 bytes"
+pub printed-bytes : length (written (segmentsOf (one uit))) ≡ 63
+unfolding written
+printed-bytes = refl
+
+-- "0 0 UIB, 13 0 UIH, 36 0 MSD, 47 0 UIT, 55 0 UIZ"
+pub printed-rows : numbers (rowsOf (one uit)) ≡ 0 ∷ 0 ∷ 5589314 ∷ 13 ∷ 0 ∷ 5589320 ∷ 36 ∷ 0 ∷ 5067588 ∷ 47 ∷ 0 ∷ 5589332 ∷ 55 ∷ 0 ∷ 5589338 ∷ []
+unfolding holds isMessage isSegment unbroken placesFrom permittedOf plainOn first later partOf tagged componentFits occurrenceFits elementFits withinLimits wellFormed spanOf countedAt elementAt sameText entryOf afterOf endOf placesOn reachable firstFit inGroup again laterOnes choicesFrom firstOf stepOf skdupdTable tsdupdTable decimalOn uibOf uihOf trailerOf rowsFrom numbers
+printed-rows = refl
+
+-- "With `UIT+1+4'` it is 7"
+pub printed-four : holds (one uit-four) ≡ false
+unfolding holds isMessage isSegment unbroken placesFrom permittedOf plainOn first later partOf tagged componentFits occurrenceFits elementFits withinLimits wellFormed spanOf countedAt elementAt sameText entryOf afterOf endOf placesOn reachable firstFit inGroup again laterOnes choicesFrom firstOf stepOf skdupdTable tsdupdTable decimalOn uibOf uihOf trailerOf
+printed-four = refl
+
+-- `UIH+SKDUPD:D:04A::UN+1`
+abbrev skdupd : List ℕ
+skdupd = 85 ∷ 73 ∷ 72 ∷ 43 ∷ 83 ∷ 75 ∷ 68 ∷ 85 ∷ 80 ∷ 68 ∷ 58 ∷ 68 ∷ 58 ∷ 48 ∷ 52 ∷ 65 ∷ 58 ∷ 58 ∷ 85 ∷ 78 ∷ 43 ∷ 49 ∷ []
+
+-- `ORG`
+abbrev org : List ℕ
+org = 79 ∷ 82 ∷ 71 ∷ []
+
+-- `HDR`
+abbrev hdr : List ℕ
+hdr = 72 ∷ 68 ∷ 82 ∷ []
+
+-- `PRD+18`
+abbrev prd : List ℕ
+prd = 80 ∷ 82 ∷ 68 ∷ 43 ∷ 49 ∷ 56 ∷ []
+
+-- `POP+273:2000-08-01/2000-08-13+67`
+abbrev pop : List ℕ
+pop = 80 ∷ 79 ∷ 80 ∷ 43 ∷ 50 ∷ 55 ∷ 51 ∷ 58 ∷ 50 ∷ 48 ∷ 48 ∷ 48 ∷ 45 ∷ 48 ∷ 56 ∷ 45 ∷ 48 ∷ 49 ∷ 47 ∷ 50 ∷ 48 ∷ 48 ∷ 48 ∷ 45 ∷ 48 ∷ 56 ∷ 45 ∷ 49 ∷ 51 ∷ 43 ∷ 54 ∷ 55 ∷ []
+
+-- `POP+273:2000-08-01/2000-08-13+76`
+abbrev pop-76 : List ℕ
+pop-76 = 80 ∷ 79 ∷ 80 ∷ 43 ∷ 50 ∷ 55 ∷ 51 ∷ 58 ∷ 50 ∷ 48 ∷ 48 ∷ 48 ∷ 45 ∷ 48 ∷ 56 ∷ 45 ∷ 48 ∷ 49 ∷ 47 ∷ 50 ∷ 48 ∷ 48 ∷ 48 ∷ 45 ∷ 48 ∷ 56 ∷ 45 ∷ 49 ∷ 51 ∷ 43 ∷ 55 ∷ 54 ∷ []
+
+-- `UIT+1+7`
+abbrev uit-seven : List ℕ
+uit-seven = 85 ∷ 73 ∷ 84 ∷ 43 ∷ 49 ∷ 43 ∷ 55 ∷ []
+
+-- one message of the type SKDUPD with a service and a POP
+abbrev service : List ℕ → Interchange
+service period =
+    record {
+      opening = uib;
+      messages = record { heading = skdupd; within = msd ∷ org ∷ hdr ∷ prd ∷ period ∷ []; trailer = uit-seven } ∷ [];
+      closing = uiz;
+    }
+
+pub good-period : holds (service pop) ≡ true
+unfolding holds isMessage isSegment unbroken placesFrom permittedOf plainOn first later partOf tagged componentFits occurrenceFits elementFits withinLimits wellFormed spanOf countedAt elementAt sameText entryOf afterOf endOf placesOn reachable firstFit inGroup again laterOnes choicesFrom firstOf stepOf skdupdTable tsdupdTable decimalOn uibOf uihOf trailerOf leapYear monthLength isDate monthDays yearDays dayNumber madeOf twoDigits digitsAt dateAt goodPeriod spanBetween spanIn dayString rising formedOf restGood periodOf
+good-period = refl
+
+-- "weekdays 76 .. : 10"
+pub bad-period : holds (service pop-76) ≡ false
+unfolding holds isMessage isSegment unbroken placesFrom permittedOf plainOn first later partOf tagged componentFits occurrenceFits elementFits withinLimits wellFormed spanOf countedAt elementAt sameText entryOf afterOf endOf placesOn reachable firstFit inGroup again laterOnes choicesFrom firstOf stepOf skdupdTable tsdupdTable decimalOn uibOf uihOf trailerOf leapYear monthLength isDate monthDays yearDays dayNumber madeOf twoDigits digitsAt dateAt goodPeriod spanBetween spanIn dayString rising formedOf restGood periodOf
+bad-period = refl

@@ -1,0 +1,11 @@
+pub mod Interchange
+pub mod Segments
+pub mod References
+pub mod Onward
+pub mod Steps
+pub mod Within
+pub mod When
+pub mod Only
+pub mod Same
+pub mod Theorems
+pub mod Cases

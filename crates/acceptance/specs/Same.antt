@@ -1,0 +1,163 @@
+-- A text is an interchange in one way at most: its segments, and what they are in it, are determined.
+-- Assumes nothing.
+use mathlib.Core.Path.{_≡_, refl, sym, ap, _∙_}
+use mathlib.Core.Bool.{true, false, not}
+use mathlib.Core.List.{List, [], _∷_, _++_}
+use Prim.Native.Nat.{ℕ, _+_}
+use native.Mathlib.Omega.{arith}
+use lib.Dec.{eqb}
+use lib.ListN.{length, drop}
+use borrow.Author.Tests.{not-true, eqb-true}
+use Rattle.laws.specs.Choice.{both, all, both-parts, false≢true}
+use Rattle.syntax.specs.Pieces.{first}
+use Rattle.syntax.specs.Segment.{tagNumber}
+use Rattle.placing.specs.Tags.{UIH, UIZ}
+use Rattle.envelope.specs.Envelope.{uizOf}
+use Rattle.acceptance.specs.Interchange.{written, isSegment, Message, segmentsIn, Interchange, eachOf, segmentsOf, isTrailer, goesBefore, isMessage, referenceIn, holds}
+use Rattle.acceptance.specs.Segments.{segment-parts, first-whole, segment-fits, after-segment}
+use Rattle.acceptance.specs.Within.{to-parts}
+use Rattle.acceptance.specs.When.{regroup, to-rules}
+
+-- the first and the rest of a list
+module _ {A : Type 0} where
+  pub first-same : (a b : A) (l m : List A) → a ∷ l ≡ b ∷ m → a ≡ b
+  first-same a b l m e = cc
+
+  pub rest-same : (a b : A) (l m : List A) → a ∷ l ≡ b ∷ m → l ≡ m
+  rest-same a b l m e = cc
+
+  none≢some : (a : A) (l : List A) → [] ≡ a ∷ l → ⊥
+  none≢some a l e = let n = ap length e in omega arith
+
+-- the same text has the same segments
+pub same-segments : (gs hs : List (List ℕ)) → all isSegment gs ≡ true → all isSegment hs ≡ true → written gs ≡ written hs → gs ≡ hs
+unfolding written
+same-segments [] [] p q e = refl
+same-segments [] (h ∷ hs) p q e =
+    let n = segment-fits [] 0 h (written hs) e in
+    absurd (omega arith)
+same-segments (g ∷ gs) [] p q e =
+    let n = segment-fits [] 0 g (written gs) (sym e) in
+    absurd (omega arith)
+same-segments (g ∷ gs) (h ∷ hs) p q e =
+    let u = both-parts (isSegment g) (all isSegment gs) p in
+    let v = both-parts (isSegment h) (all isSegment hs) q in
+    let a : g ≡ h =
+    sym (first-whole false g (written gs) (segment-parts g (u .0) .0)) ∙ ap (first 39 false) e ∙ first-whole false h (written hs) (segment-parts h (v .0) .0) in
+    let n : 0 + length g + 1 ≡ 0 + length h + 1 = ap (λ (x : List ℕ). 0 + length x + 1) a in
+    let b : written gs ≡ written hs =
+    sym (after-segment (g ++ (39 ∷ written gs)) 0 g (written gs) refl)
+    ∙ ap (λ (x : ℕ). drop x (g ++ (39 ∷ written gs))) n
+    ∙ after-segment (g ++ (39 ∷ written gs)) 0 h (written hs) e in
+    ap (λ (x : List ℕ). x ∷ gs) a ∙ ap (λ (x : List (List ℕ)). h ∷ x) (same-segments gs hs (u .1) (v .1) b)
+
+-- the same segments have the same UIT at the end of a message
+abbrev Same : List (List ℕ) → List ℕ → List (List ℕ) → List (List ℕ) → List ℕ → List (List ℕ) → Type 0
+Same gs t l hs u m = (gs ≡ hs) × (t ≡ u) × (l ≡ m)
+
+no-trailer : (g : List ℕ) → not (isTrailer g) ≡ true → isTrailer g ≡ true → ⊥
+no-trailer g p q = false≢true (sym (not-true (isTrailer g) p) ∙ q)
+
+same-within : (gs hs : List (List ℕ)) (t u : List ℕ) (l m : List (List ℕ)) → all goesBefore gs ≡ true → all goesBefore hs ≡ true
+    → isTrailer t ≡ true → isTrailer u ≡ true → gs ++ (t ∷ l) ≡ hs ++ (u ∷ m) → Same gs t l hs u m
+same-within [] [] t u l m p q a b e = (refl, first-same t u l m e, rest-same t u l m e)
+same-within [] (h ∷ hs) t u l m p q a b e =
+    let v = both-parts (not (isTrailer h)) (all goesBefore hs) q in
+    absurd (no-trailer h (v .0) (ap isTrailer (sym (first-same t h l (hs ++ (u ∷ m)) e)) ∙ a))
+same-within (g ∷ gs) [] t u l m p q a b e =
+    let v = both-parts (not (isTrailer g)) (all goesBefore gs) p in
+    absurd (no-trailer g (v .0) (ap isTrailer (first-same g u (gs ++ (t ∷ l)) m e) ∙ b))
+same-within (g ∷ gs) (h ∷ hs) t u l m p q a b e =
+    let v = both-parts (not (isTrailer g)) (all goesBefore gs) p in
+    let w = both-parts (not (isTrailer h)) (all goesBefore hs) q in
+    let x = same-within gs hs t u l m (v .1) (w .1) a b (rest-same g h (gs ++ (t ∷ l)) (hs ++ (u ∷ m)) e) in (
+      ap (λ (y : List ℕ). y ∷ gs) (first-same g h (gs ++ (t ∷ l)) (hs ++ (u ∷ m)) e) ∙ ap (λ (y : List (List ℕ)). h ∷ y) (x .0),
+      x .1,
+      x .2,
+    )
+
+-- and the same messages before the UIZ
+uiz≢uih : (g h : List ℕ) → g ≡ h → eqb (tagNumber g) UIZ ≡ true → eqb (tagNumber h) UIH ≡ true → ⊥
+uiz≢uih g h e p q =
+    let a = eqb-true (tagNumber g) UIZ p in
+    let b = eqb-true (tagNumber h) UIH q in
+    let c = ap tagNumber e in
+    omega arith
+
+message-same : (m k : Message) → m .heading ≡ k .heading → m .within ≡ k .within → m .trailer ≡ k .trailer → m ≡ k
+message-same m k a b c =
+    ap (λ (x : List ℕ). record { heading = x; within = m .within; trailer = m .trailer }) a
+    ∙ ap (λ (x : List (List ℕ)). record { heading = k .heading; within = x; trailer = m .trailer }) b
+    ∙ ap (λ (x : List ℕ). record { heading = k .heading; within = k .within; trailer = x }) c
+
+module _ (c d : List ℕ) (tc : eqb (tagNumber c) UIZ ≡ true) (td : eqb (tagNumber d) UIZ ≡ true) where
+  abbrev all-of : List Message → List ℕ → List (List ℕ)
+  all-of ms g = eachOf segmentsIn ms ++ (g ∷ [])
+
+  tail-of : Message → List Message → List ℕ → List (List ℕ)
+  tail-of m ms g = m .within ++ (m .trailer ∷ all-of ms g)
+
+  all-first : (m : Message) (ms : List Message) (g : List ℕ) → all-of (m ∷ ms) g ≡ m .heading ∷ tail-of m ms g
+  unfolding tail-of
+  all-first m ms g = ap (λ (x : List (List ℕ)). m .heading ∷ x) (regroup (m .within) (m .trailer) (eachOf segmentsIn ms) (g ∷ []))
+
+  same-messages : (ms ks : List Message) → all isMessage ms ≡ true → all isMessage ks ≡ true → all-of ms c ≡ all-of ks d → (ms ≡ ks) × (c ≡ d)
+  unfolding tail-of
+  same-messages [] [] p q e = (refl, first-same c d [] [] e)
+  same-messages [] (k ∷ ks) p q e =
+      let v = both-parts (isMessage k) (all isMessage ks) q in
+      absurd (uiz≢uih c (k .heading) (first-same c (k .heading) [] (tail-of k ks d) (e ∙ all-first k ks d)) tc (to-parts k (v .0) .tag))
+  same-messages (m ∷ ms) [] p q e =
+      let v = both-parts (isMessage m) (all isMessage ms) p in
+      absurd (uiz≢uih d (m .heading) (first-same d (m .heading) [] (tail-of m ms c) (sym e ∙ all-first m ms c)) td (to-parts m (v .0) .tag))
+  same-messages (m ∷ ms) (k ∷ ks) p q e =
+      let v = both-parts (isMessage m) (all isMessage ms) p in
+      let w = both-parts (isMessage k) (all isMessage ks) q in
+      let a = to-parts m (v .0) in
+      let b = to-parts k (w .0) in
+      let s = sym (all-first m ms c) ∙ e ∙ all-first k ks d in
+      let x = same-within (m .within) (k .within) (m .trailer) (k .trailer) (all-of ms c) (all-of ks d) (a .rest .inner) (b .rest .inner) (a .rest .trailer) (b .rest .trailer)
+      (rest-same (m .heading) (k .heading) (tail-of m ms c) (tail-of k ks d) s) in
+      let y = same-messages ms ks (v .1) (w .1) (x .2) in
+      let z = message-same m k (first-same (m .heading) (k .heading) (tail-of m ms c) (tail-of k ks d) s) (x .0) (x .1) in
+      (ap (λ (l : Message). l ∷ ms) z ∙ ap (λ (l : List Message). k ∷ l) (y .0), y .1)
+
+-- every segment of an interchange is one
+all-append : (gs hs : List (List ℕ)) → all isSegment gs ≡ true → all isSegment hs ≡ true → all isSegment (gs ++ hs) ≡ true
+all-append [] hs p q = q
+all-append (g ∷ gs) hs p q =
+    let u = both-parts (isSegment g) (all isSegment gs) p in
+    rw (u .0) (all-append gs hs (u .1) q)
+
+messages-segments : (ms : List Message) → all isMessage ms ≡ true → all isSegment (eachOf segmentsIn ms) ≡ true
+messages-segments [] p = refl
+messages-segments (m ∷ ms) p =
+    let u = both-parts (isMessage m) (all isMessage ms) p in
+    let a = to-parts m (u .0) in
+    all-append (segmentsIn m) (eachOf segmentsIn ms) (rw (a .segment) (a .rest .segments)) (messages-segments ms (u .1))
+
+module _ (x : Interchange) (h : holds x ≡ true) where
+  abbrev n : ℕ
+  n = length (x .messages)
+
+  closing-parts : (isSegment (x .closing) ≡ true) × (eqb (tagNumber (x .closing)) UIZ ≡ true)
+  closing-parts =
+      let r = to-rules x h in
+      let u = both-parts (isSegment (x .closing)) (both (eqb (tagNumber (x .closing)) UIZ) (uizOf (x .closing) (referenceIn (x .opening)) n)) (r .closing) in
+      let v = both-parts (eqb (tagNumber (x .closing)) UIZ) (uizOf (x .closing) (referenceIn (x .opening)) n) (u .1) in
+      (u .0, v .0)
+
+  all-segments : all isSegment (segmentsOf x) ≡ true
+  all-segments =
+      let r = to-rules x h in
+      rw (r .segment) (all-append (eachOf segmentsIn (x .messages)) (x .closing ∷ []) (messages-segments (x .messages) (r .messages)) (rw (closing-parts .0)))
+
+pub same-parts : (x y : Interchange) → holds x ≡ true → holds y ≡ true → written (segmentsOf x) ≡ written (segmentsOf y) → x ≡ y
+same-parts x y h k e =
+    let s = same-segments (segmentsOf x) (segmentsOf y) (all-segments x h) (all-segments y k) e in
+    let o = first-same (x .opening) (y .opening) (eachOf segmentsIn (x .messages) ++ (x .closing ∷ [])) (eachOf segmentsIn (y .messages) ++ (y .closing ∷ [])) s in
+    let t = rest-same (x .opening) (y .opening) (eachOf segmentsIn (x .messages) ++ (x .closing ∷ [])) (eachOf segmentsIn (y .messages) ++ (y .closing ∷ [])) s in
+    let m = same-messages (x .closing) (y .closing) (closing-parts x h .1) (closing-parts y k .1) (x .messages) (y .messages) (to-rules x h .messages) (to-rules y k .messages) t in
+    ap (λ (z : List ℕ). record { opening = z; messages = x .messages; closing = x .closing }) o
+    ∙ ap (λ (z : List Message). record { opening = y .opening; messages = z; closing = x .closing }) (m .0)
+    ∙ ap (λ (z : List ℕ). record { opening = y .opening; messages = y .messages; closing = z }) (m .1)

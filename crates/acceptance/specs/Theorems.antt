@@ -1,0 +1,66 @@
+-- An interchange is accepted exactly when document 01's rules hold. Interchange.antt says what an interchange is; `readingOf` is what `read` answers by.
+-- Assumes nothing.
+use mathlib.Core.Path.{_≡_, refl, ap, _∙_}
+use mathlib.Core.Bool.{true}
+use mathlib.Core.List.{List, _++_}
+use mathlib.Core.Logic.{_↔_}
+use Prim.Native.Nat.{ℕ, _+_, _-_, _*_, _≤_, _<_}
+use native.Mathlib.Omega.{arith}
+use lib.ListN.{length, drop}
+use borrow.Author.Tests.{le-ltb}
+use Rattle.laws.specs.Lists.{over}
+use Rattle.syntax.specs.declared.segment.Refusal.{Refusal}
+use Rattle.interchange.specs.declared.state.State.{State}
+use Rattle.interchange.specs.declared.state.Row.{Row}
+use Rattle.interchange.specs.declared.reader.Answer.the-variants.{Rows, Refused}
+use Rattle.interchange.specs.Reader.{Outcome, Verdict, accepted, faulty, readOn, readingOf, numbers, answerBy, answerOf, rowsAfter}
+use Rattle.acceptance.specs.Interchange.{written, Interchange, segmentsOf, holds, IsInterchange, rowsOf}
+use Rattle.acceptance.specs.Onward.{Goes, precede, reading-goes-on}
+use Rattle.acceptance.specs.When.{reads-all}
+use Rattle.acceptance.specs.Only.{accepted-is}
+use Rattle.acceptance.specs.Same.{same-parts}
+
+-- after some whole segments, each good and each stepping on, the reading goes on from the state and the offset reached, their rows before its own
+pub goes-on : (f : ℕ) (s : List ℕ) {st last : State} {at end : ℕ} {gs : List (List ℕ)} {rs : List Row} (rest : List ℕ) → Goes s st at gs rs last end
+    → drop at s ≡ written gs ++ rest → length s < at + f → readOn f s st at ≡ precede rs (readOn (f - length gs) s last end)
+goes-on f s rest go e h = reading-goes-on f s rest go e h
+
+-- every interchange is accepted, and its rows are those of its segments
+pub accepted-when : (x : Interchange) → holds x ≡ true → length (written (segmentsOf x)) ≤ 60000
+    → readingOf (written (segmentsOf x)) ≡ record { rows = rowsOf x; verdict = accepted }
+accepted-when x h small = reads-all (written (segmentsOf x)) x refl h small
+
+-- and nothing else is
+pub only-when : (s : List ℕ) → readingOf s .verdict ≡ accepted → IsInterchange s
+only-when s q = accepted-is s q
+
+pub rows-when : (s : List ℕ) (i : IsInterchange s) → readingOf s ≡ record { rows = rowsOf (i .parts); verdict = accepted }
+rows-when s i = reads-all s (i .parts) (i .text) (i .rules) (i .fits)
+
+-- a text is an interchange in one way at most
+pub one-way : (x y : Interchange) → holds x ≡ true → holds y ≡ true → written (segmentsOf x) ≡ written (segmentsOf y) → x ≡ y
+one-way x y h k e = same-parts x y h k e
+
+-- so `read`, which answers by `readingOf`, tells of rows for an interchange alone, and writes them, where the lent buffer has room for them
+refused≢rows : (x : Refusal) (n : ℕ) → Refused x ≡ Rows n → ⊥
+refused≢rows x n q = let z : _≡_ {A = ℕ} 0 1 = cc in omega arith
+
+answer-accepted : (rows : List Row) (room n : ℕ) (v : Verdict) → answerBy rows room v ≡ Rows n → v ≡ accepted
+answer-accepted rows room n accepted q = refl
+answer-accepted rows room n (faulty x) q = absurd (refused≢rows x n q)
+
+pub answered-only : (s : List ℕ) (room n : ℕ) → answerOf (readingOf s) room ≡ Rows n → IsInterchange s
+unfolding answerOf
+answered-only s room n q = only-when s (answer-accepted (readingOf s .rows) room n (readingOf s .verdict) q)
+
+module _ (s : List ℕ) (i : IsInterchange s) where
+  pub answered-when : (room : ℕ) → 3 * length (rowsOf (i .parts)) ≤ room → answerOf (readingOf s) room ≡ Rows (length (rowsOf (i .parts)))
+  unfolding answerOf
+  answered-when room h = ap (λ (o : Outcome). answerOf o room) (rows-when s i) ∙ rw (le-ltb room (3 * length (rowsOf (i .parts))) h)
+
+  pub written-when : (lent : List ℕ) → 3 * length (rowsOf (i .parts)) ≤ length lent → rowsAfter (readingOf s) lent ≡ over (numbers (rowsOf (i .parts))) lent
+  unfolding rowsAfter
+  written-when lent h = ap (λ (o : Outcome). rowsAfter o lent) (rows-when s i) ∙ rw (le-ltb (length lent) (3 * length (rowsOf (i .parts))) h)
+
+pub accepted-exactly : (s : List ℕ) → (readingOf s .verdict ≡ accepted) ↔ IsInterchange s
+accepted-exactly s = (only-when s, λ i. ap (λ (o : Outcome). o .verdict) (rows-when s i))

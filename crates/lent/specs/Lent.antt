@@ -1,0 +1,22 @@
+-- What a reader over the lent interchange finds where it has come to. Assumes nothing.
+use Prim.Native.Nat.{ℕ, _+_}
+use mathlib.Core.List.{List}
+use lib.Dec.{leb}
+use lib.ListN.{length, drop}
+use Rattle.laws.specs.Choice.{pick}
+use Rattle.syntax.specs.declared.segment.Scanned.{Scanned}
+use Rattle.syntax.specs.declared.segment.Scanned.the-variants.{End, NotPermitted, Unended, Malformed}
+use Rattle.syntax.specs.Segment.{segmentAt, tagNumber, refusalOf}
+use Rattle.lent.specs.declared.Found.{Found}
+use Rattle.lent.specs.declared.Found.the-variants.{Segment, Over, Refused}
+
+-- a whole segment is told by its tag and where the next one begins, any other by its number and place
+abbrev pub toldOf : List ℕ → ℕ → Scanned → Found
+toldOf s at (End e) = Segment (tagNumber (drop at s)) (e + 1)
+toldOf s at (NotPermitted i) = Refused (refusalOf at (NotPermitted i))
+toldOf s at Unended = Refused (refusalOf at Unended)
+toldOf s at Malformed = Refused (refusalOf at Malformed)
+
+-- "The reader walks forward only": what stands at an offset, nothing where the interchange is over
+unfoldable pub foundAt : List ℕ → ℕ → Found
+foundAt s at = pick (leb (length s) at) Over (toldOf s at (segmentAt s at))
