@@ -5,3 +5,4 @@ pub mod Services
 pub mod Ways
 pub mod Laws
 pub mod Cases
+pub mod Front
