@@ -5,4 +5,3 @@ pub mod Services
 pub mod Ways
 pub mod Laws
 pub mod Cases
-pub mod Front
