@@ -1,0 +1,96 @@
+-- The rows that the reader wrote: where an interchange is accepted, its services are those of the rows of its reading, whatever the buffer held.
+-- Assumes nothing.
+use Prim.Native.Nat.{ℕ, zero, suc, _+_, _*_, _/_, _≤_, _<_}
+use mathlib.Core.Path.{_≡_, refl, ap, _∙_}
+use mathlib.Core.Bool.{true}
+use mathlib.Core.List.{List, [], _∷_, _++_}
+use native.Mathlib.Omega.{arith}
+use lib.Dec.{eqb, ltb}
+use lib.ListN.{length, getD, drop}
+use borrow.Author.Tests.{lt-ltb}
+use Rattle.laws.specs.Choice.{both, choose}
+use Rattle.laws.specs.Lists.{over}
+use Rattle.syntax.specs.declared.segment.Refusal.{Refusal}
+use Rattle.interchange.specs.declared.state.Row.{Row}
+use Rattle.interchange.specs.declared.reader.Answer.the-variants as answer
+use Rattle.interchange.specs.Reader.{Verdict, accepted, faulty, readingOf, numbers, answerBy, answerOf, rowsBy, rowsAfter}
+use Rattle.interchange.specs.Laws.{length-numbers}
+use Rattle.services.specs.declared.Service.{Service}
+use Rattle.services.specs.Rows.{offsetAt, isRow}
+use Rattle.services.specs.Services.{nextService, nextPeriod, testedOf, countedOf}
+use Rattle.service_reading.specs.Front.{next-front, tested-front, counted-front, period-front}
+
+-- row i of the numbers is row i of the list
+number-at : (rows : List Row) (i : ℕ) (z : Row) → i < length rows
+    → (getD (numbers rows) (3 * i) 0 ≡ getD rows i z .offset) × (getD (numbers rows) (3 * i + 1) 0 ≡ getD rows i z .group) × (getD (numbers rows) (3 * i + 2) 0 ≡ getD rows i z .tag)
+unfolding numbers
+number-at [] i z h = absurd (omega arith)
+number-at (r ∷ l) zero z h = (refl, refl, refl)
+number-at (r ∷ l) (suc i) z h =
+    let a : 3 * suc i ≡ suc (suc (suc (3 * i))) = omega arith in
+    let b : suc (suc (suc (3 * i))) + 1 ≡ suc (suc (suc (3 * i + 1))) = omega arith in
+    let d : suc (suc (suc (3 * i))) + 2 ≡ suc (suc (suc (3 * i + 2))) = omega arith in
+    rw (a, b, d) (number-at l i z (omega arith))
+
+module _ (rows : List Row) (i : ℕ) (z : Row) (h : i < length rows) where
+  held : ltb i (length (numbers rows) / 3) ≡ true
+  held =
+      let e = length-numbers rows in
+      lt-ltb i (length (numbers rows) / 3) (omega arith)
+
+  pub offset-read : offsetAt (numbers rows) i ≡ getD rows i z .offset
+  unfolding offsetAt
+  offset-read = rw held (number-at rows i z h .0)
+
+  pub row-read : (group tag : ℕ) → isRow (numbers rows) group tag i ≡ both (eqb (getD rows i z .group) group) (eqb (getD rows i z .tag) tag)
+  unfolding isRow
+  row-read group tag =
+      let w = number-at rows i z h in
+      rw (held, w .1, w .2)
+
+-- an answer of n rows: they are all there, and stand at the front of the buffer
+refused≢rows : (x : Refusal) (n : ℕ) → answer.Refused x ≡ answer.Rows n → ⊥
+refused≢rows x n q = let y : _≡_ {A = ℕ} 0 1 = cc in omega arith
+
+rows-is : (m n : ℕ) → answer.Rows m ≡ answer.Rows n → m ≡ n
+rows-is m n q = cc
+
+abbrev Stands : List Row → List ℕ → ℕ → Verdict → Type 0
+Stands rows lent n v = (length rows ≡ n) × (rowsBy rows lent v ≡ numbers rows ++ drop (length (numbers rows)) lent)
+
+stands-by : (rows : List Row) (lent : List ℕ) (n : ℕ) (v : Verdict) → answerBy rows (length lent) v ≡ answer.Rows n → Stands rows lent n v
+unfolding over
+stands-by rows lent n accepted q =
+    choose (ltb (length lent) (3 * length rows))
+    (λ p. absurd (refused≢rows (record { number = 17; position = 0 }) n (rw p at q)))
+    (λ p. (rows-is (length rows) n (rw p at q), rw p))
+stands-by rows lent n (faulty x) q = absurd (refused≢rows x n q)
+
+module _ (s lent : List ℕ) (n : ℕ) (q : answerOf (readingOf s) (length lent) ≡ answer.Rows n) where
+  abbrev rows : List ℕ
+  rows = numbers (readingOf s .rows)
+
+  abbrev past : List ℕ
+  past = drop (length (numbers (readingOf s .rows))) lent
+
+  stands : (length (readingOf s .rows) ≡ n) × (rowsAfter (readingOf s) lent ≡ numbers (readingOf s .rows) ++ drop (length (numbers (readingOf s .rows))) lent)
+  unfolding answerOf rowsAfter
+  stands = stands-by (readingOf s .rows) lent n (readingOf s .verdict) q
+
+  enough : 3 * n ≤ length (numbers (readingOf s .rows))
+  enough =
+      let a = length-numbers (readingOf s .rows) in
+      let b = stands .0 in
+      omega arith
+
+  pub next-read : (i : ℕ) → nextService s (rowsAfter (readingOf s) lent) n i ≡ nextService s rows n i
+  next-read i = ap (λ (x : List ℕ). nextService s x n i) (stands .1) ∙ next-front rows past n enough s i
+
+  pub period-read : (i to : ℕ) → to ≤ n → nextPeriod (rowsAfter (readingOf s) lent) i to ≡ nextPeriod rows i to
+  period-read i to a = ap (λ (x : List ℕ). nextPeriod x i to) (stands .1) ∙ period-front rows past n enough i to a
+
+  pub tested-read : (v : Service) → v .from ≤ n → v .to ≤ n → testedOf s (rowsAfter (readingOf s) lent) v ≡ testedOf s rows v
+  tested-read v a b = ap (λ (x : List ℕ). testedOf s x v) (stands .1) ∙ tested-front rows past n enough s v a b
+
+  pub counted-read : countedOf s (rowsAfter (readingOf s) lent) n ≡ countedOf s rows n
+  counted-read = ap (λ (x : List ℕ). countedOf s x n) (stands .1) ∙ counted-front rows past n enough s

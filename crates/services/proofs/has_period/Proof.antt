@@ -1,0 +1,21 @@
+-- `services::has_period` meets its contract.
+-- Assumes nothing.
+use denote.Ref.{now}
+use Rattle.services.specs.Ways.{period-has}
+use borrow.Author.Needs.{needs}
+use Rattle.services.proofs.has_period.Statement.{statement}
+use Rattle.services.proofs.has_period.Tie as tie
+
+row-count-requires : tie.Need-row-count-requires
+row-count-requires c κs = search needs
+
+first-row-requires : tie.Need-first-row-requires
+first-row-requires c κs = search needs
+
+returns : tie.Need-returns
+returns c =
+    let a = c .before .before .before .args in
+    period-has (now (a .rows)) (a .from) (a .to) (c .before .row-count .result) (c .first-row .result) (c .before .row-count .ensures) (c .first-row .ensures)
+
+pub has-period-spec : {M : Type 1} → statement M
+has-period-spec = tie.close (tie.spec row-count-requires first-row-requires returns)

@@ -1,0 +1,32 @@
+-- `services::segments::none_left` meets its contract.
+-- Assumes nothing.
+use mathlib.Core.Path.{sym, ap, _∙_}
+use denote.Ref.{now}
+use Rattle.values.specs.Values.{noneLeft, next-some, next-done}
+use borrow.Author.Needs.{needs}
+use Rattle.services.proofs.segments.none_left.Statement.{statement}
+use Rattle.services.proofs.segments.none_left.Tie as tie
+
+next-byte-requires : tie.Need-next-byte-requires
+next-byte-requires c κs = search needs
+
+enum-told : tie.Need-enum-told
+enum-told c = search needs
+
+enum-told-2 : tie.Need-enum-told-2
+enum-told-2 c = search needs
+
+returns : tie.Need-returns
+returns c =
+    let b = c .before .before in
+    let a = b .before .before .args in
+    sym (next-some (now (a .part)) (a .i) _ _ (sym (b .next-byte .ensures) ∙ c .enum-told .given .1))
+
+returns-2 : tie.Need-returns-2
+returns-2 c =
+    let b = c .before .before in
+    let a = b .before .before .args in
+    sym (ap noneLeft (next-done (now (a .part)) (a .i) (sym (b .next-byte .ensures) ∙ c .enum-told2 .given .1)))
+
+pub none-left-spec : {M : Type 1} → statement M
+none-left-spec = tie.close (tie.spec next-byte-requires enum-told enum-told-2 returns returns-2)

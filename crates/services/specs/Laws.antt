@@ -1,0 +1,81 @@
+-- What callers cite of the services and of their tests.
+-- Assumes nothing.
+use Prim.Native.Nat.{ℕ, _+_, _-_, _≤_, _<_}
+use mathlib.Core.Path.{_≡_, ap, _∙_}
+use mathlib.Core.Bool.{Bool, true, false}
+use mathlib.Core.List.{List, []}
+use native.Mathlib.Omega.{arith}
+use borrow.Author.Tests.{leb-true, not-false, not-true}
+use lib.Dec.{leb}
+use lib.ListN.{length}
+use Rattle.laws.specs.Choice.{both, both-parts, choose}
+use Rattle.placing.specs.Tags.{UIT}
+use Rattle.syntax.specs.declared.segment.Refusal.{Refusal}
+use Rattle.syntax.specs.Bytes.{plain}
+use Rattle.syntax.specs.Pieces.{partOf}
+use Rattle.syntax.specs.Segment.{bodyAt}
+use Rattle.parts.specs.Places.{bytesOf}
+use Rattle.parts.specs.Located.{part-bytes}
+use Rattle.services.specs.declared.Service.{Service}
+use Rattle.services.specs.declared.Tested.the-variants.{Good, Refused}
+use Rattle.services.specs.Rows.{isRow, rowCount, firstFrom, first-bounds, some-none}
+use Rattle.services.specs.Marks.{body-end}
+use Rattle.services.specs.Services.{isService, segmentOf, serviceEnd, numberOf, numberFits, periodsFit, hasPeriod, periodsOf, isWrong, isSame, isTwice, testedOf}
+use Rattle.services.specs.Ways.{segment-bytes, has-none}
+
+-- the bytes of a number are the first component of the first occurrence of the PRD's first element
+pub number-part : (s : List ℕ) (at : ℕ) → bytesOf s (numberOf s at) ≡ partOf (bodyAt s at) 1 1 1
+unfolding numberOf
+number-part s at =
+    part-bytes s (segmentOf s at) 1 1 1 ∙ ap (λ (y : List ℕ). partOf y 1 1 1) (segment-bytes s at (at + length (bodyAt s at)) (body-end s at))
+
+-- a service has its PRD's row at least, and its rows are among the n
+pub service-rows : (rows : List ℕ) (n k : ℕ) → k < n → (k < serviceEnd rows n k) × (serviceEnd rows n k ≤ n)
+service-rows rows n k h =
+    let m = firstFrom (isService rows) (k + 1) n in
+    let a = first-bounds (isService rows) (n - (k + 1)) (k + 1) in
+    let b = first-bounds (isRow rows 0 UIT) (m - (k + 1)) (k + 1) in
+    (omega arith, omega arith)
+
+-- what a good service is
+pub record Fine (s rows : List ℕ) (v : Service) : Type 0 where
+  -- its number has 1 to 10 characters after release
+  pub some : 1 ≤ length (plain (bytesOf s (v .number)))
+  pub few : length (plain (bytesOf s (v .number))) ≤ 10
+  -- a removal carries no POP, a put at least one
+  pub removal : v .removal ≡ true → periodsOf rows v ≡ []
+  pub put : v .removal ≡ false → hasPeriod rows (v .from) (v .to) ≡ true
+  -- no service before it has its number
+  pub alone : (j : ℕ) → j < rowCount rows (v .from) → isSame s rows (bytesOf s (v .number)) j ≡ false
+
+good≢refused : (x : Refusal) → Refused x ≡ Good → ⊥
+good≢refused x q = let z : _≡_ {A = ℕ} 0 1 = cc in omega arith
+
+module _ (s rows : List ℕ) (v : Service) where
+  abbrev size : ℕ
+  size = length (plain (bytesOf s (v .number)))
+
+  abbrev carries : Bool
+  carries = hasPeriod rows (v .from) (v .to)
+
+  right-fine : isWrong s rows v ≡ false → isTwice s rows (bytesOf s (v .number)) (v .from) ≡ false → Fine s rows v
+  unfolding isWrong isTwice
+  right-fine p q =
+      let w = both-parts (numberFits size) (periodsFit (v .removal) carries) (not-false (both (numberFits size) (periodsFit (v .removal) carries)) p) in
+      let n = both-parts (leb 1 size) (leb size 10) (w .0) in
+      record {
+        some = leb-true 1 size (n .0);
+        few = leb-true size 10 (n .1);
+        removal = λ r. has-none rows (v .from) (v .to) (not-true carries (rw r at (w .1)));
+        put = λ r. rw r at (w .1);
+        alone = λ j h. some-none (isSame s rows (bytesOf s (v .number))) 0 (rowCount rows (v .from)) q j (omega arith) h;
+      }
+
+  pub good-fine : testedOf s rows v ≡ Good → Fine s rows v
+  unfolding testedOf
+  good-fine t =
+      choose (isWrong s rows v) (λ p. absurd (good≢refused (record { number = 11; position = v .prd }) (rw p at t)))
+      (λ p.
+      choose (isTwice s rows (bytesOf s (v .number)) (v .from))
+      (λ q. absurd (good≢refused (record { number = 12; position = v .prd }) (rw (p, q) at t)))
+      (λ q. right-fine p q))

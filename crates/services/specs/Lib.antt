@@ -1,0 +1,7 @@
+pub mod Rows
+pub mod Marks
+pub mod Same
+pub mod Services
+pub mod Ways
+pub mod Laws
+pub mod Cases
