@@ -1,6 +1,7 @@
 //! Where a segment ends, found before its parts are counted.
 
 use crate::bytes::permitted;
+use crate::bytes::released_end;
 ghost use mathlib.Core.Path.{_≡_};
 ghost use Prim.Native.Nat.{_+_, _≤_};
 ghost use lib.Dec.{leb};
@@ -111,7 +112,7 @@ pub(crate) fn find_end(s: &[u8], from: usize) -> usize
         if !permitted(s[k]) {
             return s.len();
         }
-        i = k + 1;
+        i = released_end(s, k + 1);
     }
     s.len()
 }
