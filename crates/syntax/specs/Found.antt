@@ -38,12 +38,12 @@ goes-question b q =
 pub goes-fine : (b : ℕ) → eqb b 39 ≡ false → eqb b 63 ≡ false → goes b ≡ permittedOf b
 goes-fine b p q = rw (p, q) (both-true (permittedOf b))
 
-fine-question : permittedOf 63 ≡ true
+pub fine-question : permittedOf 63 ≡ true
 unfolding permittedOf
 fine-question = refl
 
 module _ (n i : ℕ) where
-  end-byte : (b : ℕ) (g : List ℕ) → permittedOf b ≡ true → endOf n i (b ∷ g) ≡ endOf n (i + 1) g
+  pub end-byte : (b : ℕ) (g : List ℕ) → permittedOf b ≡ true → endOf n i (b ∷ g) ≡ endOf n (i + 1) g
   unfolding endOf
   end-byte b g p =
       let e : i + suc (length g) ≡ i + 1 + length g = omega arith in

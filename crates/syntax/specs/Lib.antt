@@ -12,5 +12,6 @@ pub mod Firsts
 pub mod Ends
 pub mod Passed
 pub mod Found
+pub mod Released
 pub mod Few
 pub mod Whole

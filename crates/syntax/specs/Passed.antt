@@ -152,6 +152,32 @@ and-bound x y h = let k = and-le-l x y in omega arith
 -- eight numbers that are tests
 module _ (x₁ x₂ x₃ x₄ x₅ x₆ x₇ x₈ : ℕ) (a b c d e f g h : Bool)
     (e₁ : x₁ ≡ pick a 1 0) (e₂ : x₂ ≡ pick b 1 0) (e₃ : x₃ ≡ pick c 1 0) (e₄ : x₄ ≡ pick d 1 0) (e₅ : x₅ ≡ pick e 1 0) (e₆ : x₆ ≡ pick f 1 0) (e₇ : x₇ ≡ pick g 1 0) (e₈ : x₈ ≡ pick h 1 0) where
-  pub eight-leading : x₁ + bitAnd x₁ x₂ + bitAnd (bitAnd x₁ x₂) x₃ + bitAnd (bitAnd (bitAnd x₁ x₂) x₃) x₄ + bitAnd (bitAnd (bitAnd (bitAnd x₁ x₂) x₃) x₄) x₅ + bitAnd (bitAnd (bitAnd (bitAnd (bitAnd x₁ x₂) x₃) x₄) x₅) x₆ + bitAnd (bitAnd (bitAnd (bitAnd (bitAnd (bitAnd x₁ x₂) x₃) x₄) x₅) x₆) x₇ + bitAnd (bitAnd (bitAnd (bitAnd (bitAnd (bitAnd (bitAnd x₁ x₂) x₃) x₄) x₅) x₆) x₇) x₈
+  eight-leading : x₁ + bitAnd x₁ x₂ + bitAnd (bitAnd x₁ x₂) x₃ + bitAnd (bitAnd (bitAnd x₁ x₂) x₃) x₄ + bitAnd (bitAnd (bitAnd (bitAnd x₁ x₂) x₃) x₄) x₅ + bitAnd (bitAnd (bitAnd (bitAnd (bitAnd x₁ x₂) x₃) x₄) x₅) x₆ + bitAnd (bitAnd (bitAnd (bitAnd (bitAnd (bitAnd x₁ x₂) x₃) x₄) x₅) x₆) x₇ + bitAnd (bitAnd (bitAnd (bitAnd (bitAnd (bitAnd (bitAnd x₁ x₂) x₃) x₄) x₅) x₆) x₇) x₈
       ≡ eightTests a b c d e f g h
   eight-leading = rw (e₁, e₂, e₃, e₄, e₅, e₆, e₇, e₈, unit-and a b, unit-and (both a b) c, unit-and (both (both a b) c) d, unit-and (both (both (both a b) c) d) e, unit-and (both (both (both (both a b) c) d) e) f, unit-and (both (both (both (both (both a b) c) d) e) f) g, unit-and (both (both (both (both (both (both a b) c) d) e) f) g) h) (eight-sum a b c d e f g h)
+
+  pub eight-whole : bitAnd (bitAnd (bitAnd (bitAnd (bitAnd (bitAnd (bitAnd x₁ x₂) x₃) x₄) x₅) x₆) x₇) x₈ ≡ 1 → 8 ≡ eightTests a b c d e f g h
+  eight-whole q =
+      let s = eight-leading in
+      let l1 = unit-bound x₁ a e₁ in
+      let l2 = and-le-l x₁ x₂ in
+      let l3 = and-le-l (bitAnd x₁ x₂) x₃ in
+      let l4 = and-le-l (bitAnd (bitAnd x₁ x₂) x₃) x₄ in
+      let l5 = and-le-l (bitAnd (bitAnd (bitAnd x₁ x₂) x₃) x₄) x₅ in
+      let l6 = and-le-l (bitAnd (bitAnd (bitAnd (bitAnd x₁ x₂) x₃) x₄) x₅) x₆ in
+      let l7 = and-le-l (bitAnd (bitAnd (bitAnd (bitAnd (bitAnd x₁ x₂) x₃) x₄) x₅) x₆) x₇ in
+      let l8 = and-le-l (bitAnd (bitAnd (bitAnd (bitAnd (bitAnd (bitAnd x₁ x₂) x₃) x₄) x₅) x₆) x₇) x₈ in
+      omega arith
+
+  pub eight-part : (bitAnd (bitAnd (bitAnd (bitAnd (bitAnd (bitAnd (bitAnd x₁ x₂) x₃) x₄) x₅) x₆) x₇) x₈ ≡ 1 → ⊥) → x₁ + bitAnd x₁ x₂ + bitAnd (bitAnd x₁ x₂) x₃ + bitAnd (bitAnd (bitAnd x₁ x₂) x₃) x₄ + bitAnd (bitAnd (bitAnd (bitAnd x₁ x₂) x₃) x₄) x₅ + bitAnd (bitAnd (bitAnd (bitAnd (bitAnd x₁ x₂) x₃) x₄) x₅) x₆ + bitAnd (bitAnd (bitAnd (bitAnd (bitAnd (bitAnd x₁ x₂) x₃) x₄) x₅) x₆) x₇ ≡ eightTests a b c d e f g h
+  eight-part q =
+      let s = eight-leading in
+      let l1 = unit-bound x₁ a e₁ in
+      let l2 = and-le-l x₁ x₂ in
+      let l3 = and-le-l (bitAnd x₁ x₂) x₃ in
+      let l4 = and-le-l (bitAnd (bitAnd x₁ x₂) x₃) x₄ in
+      let l5 = and-le-l (bitAnd (bitAnd (bitAnd x₁ x₂) x₃) x₄) x₅ in
+      let l6 = and-le-l (bitAnd (bitAnd (bitAnd (bitAnd x₁ x₂) x₃) x₄) x₅) x₆ in
+      let l7 = and-le-l (bitAnd (bitAnd (bitAnd (bitAnd (bitAnd x₁ x₂) x₃) x₄) x₅) x₆) x₇ in
+      let l8 = and-le-l (bitAnd (bitAnd (bitAnd (bitAnd (bitAnd (bitAnd x₁ x₂) x₃) x₄) x₅) x₆) x₇) x₈ in
+      omega arith

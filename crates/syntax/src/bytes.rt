@@ -1,10 +1,11 @@
 //! Which bytes may stand in an interchange.
 
 ghost use mathlib.Core.Path.{_≡_};
-ghost use Prim.Native.Nat.{_+_};
+ghost use Prim.Native.Nat.{_+_, _*_};
 ghost use lib.ListN.{drop};
 ghost use Rattle.syntax.specs.Bytes.{permittedOf, plainText, isMark};
 ghost use Rattle.syntax.specs.Runs.{textRun};
+ghost use Rattle.syntax.specs.Released.{releaseRun};
 ghost use Rattle.syntax.specs.Masks.{inMask};
 
 // A bit for each permitted byte below 64, and for each from 64 to 127.
@@ -52,6 +53,27 @@ pub(crate) fn text_end(s: &[u8], from: usize) -> usize
             return i;
         }
         i += 1;
+    }
+    i
+}
+
+/// The index past the releases of permitted bytes that stand one after the other from `from` on.
+pub(crate) fn released_end(s: &[u8], from: usize) -> usize
+    ensures { λ r. ⌜ r ≡ from + 2 * releaseRun (drop from (now (s .entry))) ⌝ }
+{
+    if s.len() < 2 {
+        return from;
+    }
+    let last = s.len() - 2;
+    let mut i = from;
+    while i <= last {
+        if s[i] != b'?' {
+            return i;
+        }
+        if !permitted(s[i + 1]) {
+            return i;
+        }
+        i += 2;
     }
     i
 }

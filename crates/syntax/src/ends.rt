@@ -1,14 +1,14 @@
 //! Where a segment ends, found before its parts are counted.
 
 use crate::bytes::permitted;
+use crate::bytes::released_end;
 ghost use mathlib.Core.Path.{_≡_};
-ghost use mathlib.Core.List.{List, [], _∷_};
-ghost use Prim.Native.Nat.{_+_};
+ghost use Prim.Native.Nat.{_+_, _≤_};
 ghost use lib.Dec.{leb};
 ghost use lib.ListN.{length, drop};
 ghost use Rattle.laws.specs.Choice.{pick, both};
 ghost use Rattle.syntax.specs.Bytes.{isMark};
-ghost use Rattle.syntax.specs.Passed.{goes, quarterMask, passRun};
+ghost use Rattle.syntax.specs.Passed.{goes, quarterMask, passRun, eightAt};
 ghost use Rattle.syntax.specs.Found.{endFrom};
 ghost use Rattle.syntax.specs.Few.{marksIn};
 
@@ -37,19 +37,23 @@ fn passes(b: u8) -> u8
     ((passed_mask(b / 64) >> (b % 64)) & 1) as u8
 }
 
-// How many of eight bytes are passed over before the first that is not.
-fn leading(a: u8, b: u8, c: u8, d: u8, e: u8, f: u8, g: u8, h: u8) -> u8
-    ensures { λ r. ⌜ r ≡ passRun (a ∷ b ∷ c ∷ d ∷ e ∷ f ∷ g ∷ h ∷ []) ⌝ }
+// How many of the eight bytes from an index on are passed over before the first that is not.
+fn leading(s: &[u8], i: usize) -> u8
+    requires { ⌜ i + 8 ≤ length (now s) ⌝ }
+    ensures { λ r. ⌜ r ≡ passRun (eightAt (now (s .entry)) i) ⌝ }
 {
-    let one = passes(a);
-    let two = one & passes(b);
-    let three = two & passes(c);
-    let four = three & passes(d);
-    let five = four & passes(e);
-    let six = five & passes(f);
-    let seven = six & passes(g);
-    let eight = seven & passes(h);
-    one + two + three + four + five + six + seven + eight
+    let one = passes(s[i]);
+    let two = one & passes(s[i + 1]);
+    let three = two & passes(s[i + 2]);
+    let four = three & passes(s[i + 3]);
+    let five = four & passes(s[i + 4]);
+    let six = five & passes(s[i + 5]);
+    let seven = six & passes(s[i + 6]);
+    let eight = seven & passes(s[i + 7]);
+    if eight == 1 {
+        return 8;
+    }
+    one + two + three + four + five + six + seven
 }
 
 // The index of the first byte from `from` on that is not passed over, or the input's length: byte by byte.
@@ -76,15 +80,7 @@ fn run_end(s: &[u8], from: usize) -> usize
     let last = s.len() - 8;
     let mut i = from;
     while i <= last {
-        let a = s[i];
-        let b = s[i + 1];
-        let c = s[i + 2];
-        let d = s[i + 3];
-        let e = s[i + 4];
-        let f = s[i + 5];
-        let g = s[i + 6];
-        let h = s[i + 7];
-        let n = leading(a, b, c, d, e, f, g, h);
+        let n = leading(s, i);
         if n < 8 {
             return i + n as usize;
         }
@@ -116,7 +112,7 @@ pub(crate) fn find_end(s: &[u8], from: usize) -> usize
         if !permitted(s[k]) {
             return s.len();
         }
-        i = k + 1;
+        i = released_end(s, k + 1);
     }
     s.len()
 }

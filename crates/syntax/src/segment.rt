@@ -2,6 +2,7 @@
 
 use crate::bytes::is_mark;
 use crate::bytes::permitted;
+use crate::bytes::released_end;
 use crate::bytes::text_end;
 use crate::ends::find_end;
 use crate::ends::is_small;
@@ -145,8 +146,8 @@ fn counted(s: &[u8], at: usize) -> Scanned
             if !permitted(s[k]) {
                 return Scanned::NotPermitted(k);
             }
-            counts = counts.text(1);
-            i = k + 1;
+            i = released_end(s, k + 1);
+            counts = counts.text((i - j) / 2);
         } else {
             if !is_mark(b) {
                 return Scanned::NotPermitted(j);

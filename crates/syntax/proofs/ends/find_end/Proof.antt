@@ -10,13 +10,15 @@ use borrow.Author.Tests.{eq-eqb, ne-eqb, not-true, not-false}
 use denote.Ref.{now}
 use lib.ListN.{length, getD, drop}
 use Rattle.syntax.specs.Passed.{goes}
-use Rattle.syntax.specs.Found.{endFrom, end-run, end-stop, end-past, end-quote, end-other, end-question, end-released, end-released-bad}
+use Rattle.syntax.specs.Found.{endFrom, end-run, end-stop, end-past, end-quote, end-other, end-question, end-released-bad}
+use Rattle.syntax.specs.Released.{release-from, end-releases}
 use Rattle.syntax.proofs.ends.find_end.Statement.{statement}
 use Rattle.syntax.proofs.ends.find_end.Tie as tie
 use Rattle.syntax.proofs.ends.find_end.Reads as reads
 use Rattle.syntax.proofs.ends.find_end.Lts as lts
 use Rattle.syntax.proofs.bytes.permitted.Reads as permitted-reads
 use Rattle.syntax.proofs.ends.run_end.Reads as run-end-reads
+use Rattle.syntax.proofs.bytes.released_end.Reads as released-end-reads
 
 abbrev Inv-loop : tie.InvT-loop
 Inv-loop s from i₀ i = endFrom s i ≡ endFrom s from
@@ -91,20 +93,27 @@ returns-5 c =
     let t = c .before .before .before .before .before .before .before .before .before in
     sym (end-released-bad (list t) (j t) (c .before .before .before .before .before .before .before .before .if1 .left) (c .before .before .before .before .if3 .left) (c .before .before .before .if4 .left) (sym (c .before .permitted .ensures) ∙ not-true _ (c .if5 .taken))) ∙ stands t
 
-add-i : tie.Need-add-i Inv-loop μ-loop
-add-i c = omega arith
+add-released-end : tie.Need-add-released-end Inv-loop μ-loop
+add-released-end c = omega arith
+
+released-end-requires : tie.Need-released-end-requires Inv-loop μ-loop
+released-end-requires c κs = search needs
 
 loop-less : tie.Need-loop-less Inv-loop μ-loop
 loop-less c =
-    let t = c .before .before .before .before .before .before .before .before .before in
+    let t = c .before .before .before .before .before .before .before .before .before .before in
     let p = passed t in
-    let q = c .before .before .before .before .before .before .before .before .if1 .left in
+    let q = c .before .before .before .before .before .before .before .before .before .if1 .left in
+    let e = c .released-end .ensures in
     omega arith
 
 loop-again : tie.Need-loop-again Inv-loop μ-loop
 loop-again c =
-    let t = c .before .before .before .before .before .before .before .before .before in
-    sym (end-released (list t) (j t) (c .before .before .before .before .before .before .before .before .if1 .left) (c .before .before .before .before .if3 .left) (c .before .before .before .if4 .left) (sym (c .before .permitted .ensures) ∙ not-false _ (c .if5 .left))) ∙ stands t
+    let f = c .before in
+    let t = f .before .before .before .before .before .before .before .before .before in
+    sym (end-releases (list t) (j t) (c .released-end .result)
+    (release-from (list t) (j t) (c .released-end .result) (f .before .before .before .if4 .left) (f .before .before .before .before .if3 .left) (sym (f .before .permitted .ensures) ∙ not-false _ (f .if5 .left)) (c .released-end .ensures)))
+    ∙ stands t
 
 returns-6 : tie.Need-returns-6 Inv-loop μ-loop
 returns-6 c = sym (end-past (now (c .before .before .before .args .s)) (c .before .loop .i) (c .loop-test .left)) ∙ c .before .loop .inv
@@ -127,7 +136,8 @@ find-end-spec =
     shared-slice-read-permitted
     permitted-requires
     returns-5
-    add-i
+    add-released-end
+    released-end-requires
     loop-less
     loop-again
     returns-6)

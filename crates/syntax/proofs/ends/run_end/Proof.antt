@@ -32,51 +32,6 @@ sub-last c = omega arith
 loop-holds : tie.Need-loop-holds Inv-loop μ-loop
 loop-holds c = (omega arith, refl)
 
-shared-slice-read-a : tie.Need-shared-slice-read-a Inv-loop μ-loop
-shared-slice-read-a c = omega arith
-
-add-b : tie.Need-add-b Inv-loop μ-loop
-add-b c = omega arith
-
-shared-slice-read-b : tie.Need-shared-slice-read-b Inv-loop μ-loop
-shared-slice-read-b c = omega arith
-
-add-c : tie.Need-add-c Inv-loop μ-loop
-add-c c = omega arith
-
-shared-slice-read-c : tie.Need-shared-slice-read-c Inv-loop μ-loop
-shared-slice-read-c c = omega arith
-
-add-d : tie.Need-add-d Inv-loop μ-loop
-add-d c = omega arith
-
-shared-slice-read-d : tie.Need-shared-slice-read-d Inv-loop μ-loop
-shared-slice-read-d c = omega arith
-
-add-e : tie.Need-add-e Inv-loop μ-loop
-add-e c = omega arith
-
-shared-slice-read-e : tie.Need-shared-slice-read-e Inv-loop μ-loop
-shared-slice-read-e c = omega arith
-
-add-f : tie.Need-add-f Inv-loop μ-loop
-add-f c = omega arith
-
-shared-slice-read-f : tie.Need-shared-slice-read-f Inv-loop μ-loop
-shared-slice-read-f c = omega arith
-
-add-g : tie.Need-add-g Inv-loop μ-loop
-add-g c = omega arith
-
-shared-slice-read-g : tie.Need-shared-slice-read-g Inv-loop μ-loop
-shared-slice-read-g c = omega arith
-
-add-h : tie.Need-add-h Inv-loop μ-loop
-add-h c = omega arith
-
-shared-slice-read-h : tie.Need-shared-slice-read-h Inv-loop μ-loop
-shared-slice-read-h c = omega arith
-
 leading-requires : tie.Need-leading-requires Inv-loop μ-loop
 leading-requires c κs = search needs
 
@@ -88,7 +43,7 @@ add-result c = omega (arith, c .before .leading .ok)
 
 returns-2 : tie.Need-returns-2 Inv-loop μ-loop
 returns-2 c =
-    let o = c .before .before .before .before .before .before .before .before .before .before .before in
+    let o = c .before .before .before in
     let v = o .loop .inv .1 in
     let e = eight-ends (now (o .before .before .before .args .s)) (o .loop .i) (omega arith) (c .before .leading .result) (c .before .leading .ensures) (c .if2 .taken) in
     omega arith
@@ -101,7 +56,7 @@ loop-less c = omega arith
 
 loop-again : tie.Need-loop-again Inv-loop μ-loop
 loop-again c =
-    let o = c .before .before .before .before .before .before .before .before .before .before .before in
+    let o = c .before .before .before in
     let v = o .loop .inv in (
       v .0,
       sym (eight-on (now (o .before .before .before .args .s)) (o .loop .i) (omega arith) (c .before .leading .result) (c .before .leading .ensures) (c .if2 .left)) ∙ v .1,
@@ -123,21 +78,6 @@ run-end-spec =
     returns
     sub-last
     loop-holds
-    shared-slice-read-a
-    add-b
-    shared-slice-read-b
-    add-c
-    shared-slice-read-c
-    add-d
-    shared-slice-read-d
-    add-e
-    shared-slice-read-e
-    add-f
-    shared-slice-read-f
-    add-g
-    shared-slice-read-g
-    add-h
-    shared-slice-read-h
     leading-requires
     cast-result
     add-result

@@ -1,7 +1,7 @@
 use mathlib.Core.Path.{_≡_, refl, sym, ap, _∙_}
 use mathlib.Core.List.{List}
 use mathlib.Core.Bool.{Bool, true, false}
-use Prim.Native.Nat.{ℕ, _+_, _-_, _≤_, _<_}
+use Prim.Native.Nat.{ℕ, _+_, _-_, _/_, _≤_, _<_}
 use native.Mathlib.Omega.{arith}
 use borrow.Author.Needs.{needs}
 use borrow.Author.Tests.{eq-eqb, ne-eqb, not-true, not-false}
@@ -11,13 +11,15 @@ use Rattle.syntax.specs.Pieces.{first}
 use Rattle.syntax.specs.Segment.{segmentAt}
 use Rattle.syntax.specs.Counts.{none, textOf, markOf}
 use Rattle.syntax.specs.Onward.{onward, Within}
-use Rattle.syntax.specs.Scan.{scan-start, scan-run, scan-stop, scan-end, scan-bad, scan-mark, scan-question, scan-released, scan-released-bad, scan-none, within-none, within-text, within-mark}
+use Rattle.syntax.specs.Scan.{scan-start, scan-run, scan-stop, scan-end, scan-bad, scan-mark, scan-question, scan-released-bad, scan-none, within-none, within-text, within-mark}
+use Rattle.syntax.specs.Released.{release-from, scan-releases}
 use Rattle.syntax.proofs.segment.counted.Statement.{statement}
 use Rattle.syntax.proofs.segment.counted.Tie as tie
 use Rattle.syntax.proofs.segment.counted.Reads as reads
 use Rattle.syntax.proofs.segment.counted.Lts as lts
 use Rattle.syntax.proofs.bytes.is_mark.Reads as is-mark-reads
 use Rattle.syntax.proofs.bytes.permitted.Reads as permitted-reads
+use Rattle.syntax.proofs.bytes.released_end.Reads as released-end-reads
 use Rattle.syntax.proofs.bytes.text_end.Reads as text-end-reads
 use Rattle.syntax.proofs.limits.Counts.mark.Reads as mark-reads
 use Rattle.syntax.proofs.limits.Counts.none.Reads as none-reads
@@ -126,26 +128,34 @@ returns-4 c =
 text-requires-2 : tie.Need-text-requires-2 Inv-loop μ-loop
 text-requires-2 c κs = search needs
 
-add-i : tie.Need-add-i Inv-loop μ-loop
-add-i c = omega arith
+add-released-end : tie.Need-add-released-end Inv-loop μ-loop
+add-released-end c = omega arith
+
+released-end-requires : tie.Need-released-end-requires Inv-loop μ-loop
+released-end-requires c κs = search needs
+
+sub-text-2 : tie.Need-sub-text-2 Inv-loop μ-loop
+sub-text-2 c = let e = c .released-end .ensures in omega arith
 
 loop-less : tie.Need-loop-less Inv-loop μ-loop
 loop-less c =
-    let t = c .before .before .before .before .before .before .before in
+    let t = c .before .before .before .before .before .before .before .before in
     let p = passed t in
     let q = inside t in
+    let e = c .before .released-end .ensures in
     omega arith
 
 loop-again : tie.Need-loop-again Inv-loop μ-loop
 loop-again c =
-    let p = c .before .before in
-    let e = p .before .before in
+    let r = c .before in
+    let f = r .before in
+    let e = f .before .before .before in
     let t = e .before .before .before in
+    let m = r .released-end .result in
+    let g = release-from (list t) (j t) m (e .if4 .left) (e .before .if3 .taken) (sym (f .before .permitted .ensures) ∙ not-false _ (f .if5 .left)) (r .released-end .ensures) in
     let v = c .text2 .ensures in (
-      rw v (within-text (t .text .result) (within t) 1),
-      rw v (sym (scan-released (list t) (tag t) (j t) (t .text .result) (inside t) (e .before .if3 .taken) (e .if4 .left)
-          (sym (p .permitted .ensures) ∙ not-false _ (c .before .if5 .left)))
-          ∙ stands t),
+      rw v (within-text (t .text .result) (within t) ((m - j t) / 2)),
+      rw v (sym (scan-releases (list t) (tag t) (j t) m (t .text .result) g) ∙ stands t),
     )
 
 is-mark-requires : tie.Need-is-mark-requires Inv-loop μ-loop
@@ -165,8 +175,8 @@ returns-5 c =
 mark-requires : tie.Need-mark-requires Inv-loop μ-loop
 mark-requires c κs = search needs
 
-add-i-2 : tie.Need-add-i-2 Inv-loop μ-loop
-add-i-2 c = omega arith
+add-i : tie.Need-add-i Inv-loop μ-loop
+add-i c = omega arith
 
 loop-less-2 : tie.Need-loop-less-2 Inv-loop μ-loop
 loop-less-2 c =
@@ -212,14 +222,16 @@ counted-spec =
     shared-slice-read-permitted
     permitted-requires
     returns-4
+    add-released-end
+    released-end-requires
+    sub-text-2
     text-requires-2
-    add-i
     loop-less
     loop-again
     is-mark-requires
     returns-5
     mark-requires
-    add-i-2
+    add-i
     loop-less-2
     loop-again-2
     returns-6)
