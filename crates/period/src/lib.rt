@@ -318,7 +318,7 @@ fn still_days(good: bool, b: u8) -> bool
     false
 }
 
-// Whether the bytes from an index on are `0` and `1`. All are passed, so that many can be at once.
+// Whether the bytes from an index on are `0` and `1`. Each is passed, whatever came before it, so that many can be taken at once.
 fn are_days(g: &[u8], from: usize) -> bool
     ensures { λ r. ⌜ r ≡ all zeroOrOne (drop from (now (g .entry))) ⌝ }
 {
@@ -351,7 +351,7 @@ fn are_rising(g: &[u8], from: usize) -> bool
     true
 }
 
-// The period of a POP that goes on with a `+` behind its dates. Where the second element is empty, what follows is not read.
+// The period of a POP that goes on with a `+` behind its dates: where the second element is empty, "Giving neither means every day."
 fn read_weekdays(g: &[u8], first: usize, count: usize) -> Period
     requires { ⌜ Begins (now g) first count × (31 ≤ length (now g)) × (getD (now g) 29 0 ≡ 43) ⌝ }
     ensures { λ r. ⌜ periodTold (now (g .entry)) r ⌝ }
@@ -394,7 +394,7 @@ fn read_behind(g: &[u8], first: usize, count: usize) -> Period
     Period::Wrong(Fault::BadDayString)
 }
 
-// The period of a POP in one of the usual forms; no fault it names is told, since the POP may be written in another way.
+// The period of a POP in one of the usual forms. What is wrong here may only be written in another way, so no caller names the fault.
 fn read_written(g: &[u8]) -> Period
     ensures { λ r. ⌜ periodTold (now (g .entry)) r ⌝ }
 {
