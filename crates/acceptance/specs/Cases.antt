@@ -2,12 +2,12 @@
 -- Assumes nothing.
 use mathlib.Core.Path.{_≡_, refl}
 use mathlib.Core.Bool.{true, false}
-use mathlib.Core.List.{List, [], _∷_}
+use mathlib.Core.List.{List, [], _∷_, _++_}
 use Prim.Native.Nat.{ℕ}
 use lib.ListN.{length}
 use Rattle.syntax.specs.Bytes.{permittedOf, plainOn}
 use Rattle.syntax.specs.Pieces.{first, later, partOf}
-use Rattle.syntax.specs.Segment.{tagged, componentFits, occurrenceFits, elementFits, withinLimits, wellFormed}
+use Rattle.syntax.specs.Segment.{tagged, componentFits, occurrenceFits, elementFits, withinLimits, wellFormed, permittedRun, scanOf}
 use Rattle.parts.specs.Places.{spanOf, countedAt, elementAt}
 use Rattle.values.specs.Values.{sameText}
 use Rattle.dates.specs.Days.{leapYear, monthLength, isDate, monthDays, yearDays, dayNumber}
@@ -21,7 +21,8 @@ use Rattle.placing.specs.Skdupd.{skdupdTable}
 use Rattle.placing.specs.Tsdupd.{tsdupdTable}
 use Rattle.envelope.specs.Decimal.{decimalOn}
 use Rattle.envelope.specs.Envelope.{uibOf, uihOf, trailerOf}
-use Rattle.interchange.specs.Reader.{numbers}
+use Rattle.interchange.specs.Step.{opening, between, closing, trailing, placed, inside, stepBy}
+use Rattle.interchange.specs.Reader.{faulty, turnAt, readOn, readingOf, numbers}
 use Rattle.acceptance.specs.Interchange.{written, unbroken, isSegment, Interchange, segmentsOf, placesFrom, isMessage, holds, rowsFrom, rowsOf}
 
 -- `UIB+UNOB:4+7`
@@ -70,6 +71,16 @@ printed-rows = refl
 pub printed-four : holds (one uit-four) ≡ false
 unfolding holds isMessage isSegment unbroken placesFrom permittedOf plainOn first later partOf tagged componentFits occurrenceFits elementFits withinLimits wellFormed spanOf countedAt elementAt sameText entryOf afterOf endOf placesOn reachable firstFit inGroup again laterOnes choicesFrom firstOf stepOf skdupdTable tsdupdTable decimalOn uibOf uihOf trailerOf
 printed-four = refl
+
+-- "With `UIT+1+4'` it is 7 at 47."
+pub refused-four : readingOf (written (segmentsOf (one uit-four))) .verdict ≡ faulty (record { number = 7; position = 47 })
+unfolding written permittedOf plainOn first later partOf tagged componentFits occurrenceFits elementFits withinLimits wellFormed scanOf permittedRun spanOf countedAt elementAt sameText entryOf afterOf endOf placesOn reachable firstFit inGroup again laterOnes choicesFrom firstOf stepOf skdupdTable tsdupdTable decimalOn uibOf uihOf trailerOf opening between closing trailing placed inside stepBy turnAt readOn readingOf
+refused-four = refl
+
+-- "A newline added at the end is 7 at 63."
+pub refused-newline : readingOf (written (segmentsOf (one uit)) ++ (10 ∷ [])) .verdict ≡ faulty (record { number = 7; position = 63 })
+unfolding written permittedOf plainOn first later partOf tagged componentFits occurrenceFits elementFits withinLimits wellFormed scanOf permittedRun spanOf countedAt elementAt sameText entryOf afterOf endOf placesOn reachable firstFit inGroup again laterOnes choicesFrom firstOf stepOf skdupdTable tsdupdTable decimalOn uibOf uihOf trailerOf opening between closing trailing placed inside stepBy turnAt readOn readingOf
+refused-newline = refl
 
 -- `UIH+SKDUPD:D:04A::UN+1`
 abbrev skdupd : List ℕ
