@@ -3,10 +3,9 @@ pub mod tables;
 
 ghost use mathlib.Core.Path.{_≡_};
 ghost use Rattle.hints.specs.Hint.{hintAt, placeIn, countsOf, allowedOf, repeatedOf, timesOf, quickOf};
-ghost use Rattle.placing.specs.Table.{entryOf};
-ghost use Rattle.placing.specs.Place.{keptOf, reachedOf};
 use placing::Place;
 use placing::Stepped;
+use placing::entry;
 
 // How often the place of a level has been entered, and that of the level below.
 struct Pair {
@@ -18,31 +17,6 @@ struct Pair {
 const TAG: usize = 1;
 
 const NUMBER: usize = 3;
-
-// The number in a row's column, 0 past the last row.
-fn entry(table: &[[u32; 8]], row: usize, column: usize) -> u32
-    ensures { λ r. ⌜ r ≡ entryOf (now (table .entry)) row column ⌝ }
-{
-    if row < table.len() {
-        if column < 8 {
-            return table[row][column];
-        }
-    }
-    0
-}
-
-// The count of level k where the place at a level is entered for the n-th time, and in it the first place of each level down to the last.
-fn kept(own: u32, k: usize, level: usize, n: u32, last: usize) -> u32
-    ensures { λ r. ⌜ r ≡ keptOf own k level n last ⌝ }
-{
-    if k < level {
-        return own;
-    }
-    if k == level {
-        return n;
-    }
-    if k <= last { 1 } else { 0 }
-}
 
 // The counts of a level and of the one below it.
 fn counts(place: Place, level: usize) -> Pair
@@ -75,20 +49,6 @@ fn counts(place: Place, level: usize) -> Pair
     Pair {
         own: if level == 4 { place.c4 } else { 0 },
         below: 0,
-    }
-}
-
-// The place in a row: that of a level entered for the n-th time, the levels below it anew.
-fn reached(place: Place, level: usize, n: u32, row: usize, last: usize) -> Place
-    ensures { λ r. ⌜ r ≡ reachedOf place level n row last ⌝ }
-{
-    Place {
-        row,
-        c0: kept(place.c0, 0, level, n, last),
-        c1: kept(place.c1, 1, level, n, last),
-        c2: kept(place.c2, 2, level, n, last),
-        c3: kept(place.c3, 3, level, n, last),
-        c4: kept(place.c4, 4, level, n, last),
     }
 }
 
@@ -164,5 +124,5 @@ pub fn quick_step(place: Place, table: &[[u32; 8]], hints: &[u64], tag: u32) -> 
     }
     let level = e / 256 % 16;
     let last = level + e / 4096 % 2;
-    Stepped::Placed(reached(place, level, n, e % 256, last))
+    Stepped::Placed(place.reached(level, n, e % 256, last))
 }

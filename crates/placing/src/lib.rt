@@ -63,7 +63,7 @@ const OUTER: usize = 7;
 const UIT: u32 = 0x554954;
 
 // The number in a row's column, 0 past the last row.
-fn entry(table: &[[u32; 8]], row: usize, column: usize) -> u32
+pub fn entry(table: &[[u32; 8]], row: usize, column: usize) -> u32
     ensures { λ r. ⌜ r ≡ entryOf (now (table .entry)) row column ⌝ }
 {
     if row < table.len() {
@@ -231,7 +231,7 @@ impl Place {
     }
 
     // The place in a row: that of a level entered for the n-th time, the levels below it anew.
-    fn reached(self, level: usize, n: u32, row: usize, last: usize) -> Place
+    pub fn reached(self, level: usize, n: u32, row: usize, last: usize) -> Place
         ensures { λ r. ⌜ r ≡ reachedOf self level n row last ⌝ }
     {
         Place {
