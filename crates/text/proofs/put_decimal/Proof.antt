@@ -29,7 +29,7 @@ sub-from c = omega arith
 
 -- src/lib.rt:56:24
 digit-requires : tie.Need-digit-requires Inv-loop μ-loop
-digit-requires c κs = search needs
+digit-requires c κs = tt
 
 -- src/lib.rt:56:9
 array-write-digits : tie.Need-array-write-digits Inv-loop μ-loop

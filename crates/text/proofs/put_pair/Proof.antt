@@ -8,7 +8,7 @@ use Rattle.text.proofs.put_pair.Statement.{statement}
 use Rattle.text.proofs.put_pair.Tie as tie
 
 put-decimal-requires : tie.Need-put-decimal-requires
-put-decimal-requires c κs = search needs
+put-decimal-requires c κs = tt
 
 add-put-bytes : tie.Need-add-put-bytes
 add-put-bytes c = omega arith
@@ -17,7 +17,7 @@ slice-aggregate-put-bytes : tie.Need-slice-aggregate-put-bytes
 slice-aggregate-put-bytes c = search needs
 
 put-bytes-requires : tie.Need-put-bytes-requires
-put-bytes-requires c κs = search needs
+put-bytes-requires c κs = tt
 
 add-put-decimal : tie.Need-add-put-decimal
 add-put-decimal c = omega arith
@@ -26,7 +26,7 @@ add-put-decimal-2 : tie.Need-add-put-decimal-2
 add-put-decimal-2 c = omega arith
 
 put-decimal-requires-2 : tie.Need-put-decimal-requires-2
-put-decimal-requires-2 c κs = search needs
+put-decimal-requires-2 c κs = tt
 
 add-put-bytes-2 : tie.Need-add-put-bytes-2
 add-put-bytes-2 c = omega arith
@@ -38,7 +38,7 @@ add-put-bytes-4 : tie.Need-add-put-bytes-4
 add-put-bytes-4 c = omega arith
 
 put-bytes-requires-2 : tie.Need-put-bytes-requires-2
-put-bytes-requires-2 c κs = search needs
+put-bytes-requires-2 c κs = tt
 
 add-result : tie.Need-add-result
 add-result c = omega arith
