@@ -1,0 +1,56 @@
+-- The text that the printing program prints. Document 01, "Printed whole": "columns parted by a tab, newline after each line".
+-- The byte of a tab is 9, of a newline 10.
+-- Assumes nothing.
+use Prim.Native.Nat.{ℕ, zero, suc, _+_, _/_, _%_}
+use mathlib.Core.List.{List, [], _∷_, _++_}
+use lib.Dec.{leb}
+use lib.ListN.{length, getD}
+use Rattle.laws.specs.Choice.{pick}
+use Rattle.laws.specs.Lists.{over}
+use Rattle.envelope.specs.Decimal.{decimalOf}
+use Rattle.text.specs.declared.Written.{Written}
+use Rattle.text.specs.declared.Written.the-variants.{Bytes, NoRoom}
+
+-- two numbers parted by a tab, and what follows them
+abbrev pub pairText : ℕ → ℕ → List ℕ → List ℕ
+pairText a b tail = decimalOf a ++ (9 ∷ []) ++ decimalOf b ++ tail
+
+-- a row: its offset, its group and its tag, three bytes that are one number
+abbrev pub tailText : ℕ → List ℕ
+tailText tag = 9 ∷ (tag / 65536 % 256) ∷ (tag / 256 % 256) ∷ (tag % 256) ∷ 10 ∷ []
+
+unfoldable pub rowText : ℕ → ℕ → ℕ → List ℕ
+rowText offset group tag = pairText offset group (tailText tag)
+
+-- the row whose three numbers stand from index i on
+abbrev pub rowAt : List ℕ → ℕ → List ℕ
+rowAt l i = rowText (getD l i 0) (getD l (i + 1) 0) (getD l (i + 2) 0)
+
+-- the first n rows of three numbers; numbers that are fewer than three are no row
+unfoldable pub rowsText : ℕ → List ℕ → List ℕ
+rowsText zero l = []
+rowsText (suc n) [] = []
+rowsText (suc n) (a ∷ []) = []
+rowsText (suc n) (a ∷ (b ∷ [])) = []
+rowsText (suc n) (a ∷ (b ∷ (c ∷ l))) = rowText a b c ++ rowsText n l
+
+-- `offset`, `group`, `tag`
+abbrev pub heading : List ℕ
+heading = 111 ∷ 102 ∷ 102 ∷ 115 ∷ 101 ∷ 116 ∷ 9 ∷ 103 ∷ 114 ∷ 111 ∷ 117 ∷ 112 ∷ 9 ∷ 116 ∷ 97 ∷ 103 ∷ 10 ∷ []
+
+abbrev pub tableText : ℕ → List ℕ → List ℕ
+tableText n rows = heading ++ rowsText n rows
+
+-- "A refusal prints one line: `refused`, number, position."
+abbrev pub refusal : List ℕ
+refusal = 114 ∷ 101 ∷ 102 ∷ 117 ∷ 115 ∷ 101 ∷ 100 ∷ 9 ∷ []
+
+unfoldable pub refusalText : ℕ → ℕ → List ℕ
+refusalText number position = refusal ++ pairText number position (10 ∷ [])
+
+-- a text for which there is room is written over the front of the lent bytes; any other leaves them as they were
+unfoldable pub answerOf : List ℕ → List ℕ → Written
+answerOf text out = pick (leb (length text) (length out)) (Bytes (length text)) NoRoom
+
+unfoldable pub bytesOf : List ℕ → List ℕ → List ℕ
+bytesOf text out = pick (leb (length text) (length out)) (over text out) out
