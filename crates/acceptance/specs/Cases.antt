@@ -21,7 +21,7 @@ use Rattle.placing.specs.Skdupd.{skdupdTable}
 use Rattle.placing.specs.Tsdupd.{tsdupdTable}
 use Rattle.envelope.specs.Decimal.{decimalOn}
 use Rattle.envelope.specs.Envelope.{uibOf, uihOf, trailerOf}
-use Rattle.interchange.specs.Step.{opening, between, closing, trailing, placed, inside, stepBy}
+use Rattle.steps.specs.Step.{opening, between, closing, trailing, placed, inside, stepBy}
 use Rattle.interchange.specs.Reader.{faulty, turnAt, readOn, readingOf, numbers}
 use Rattle.acceptance.specs.Interchange.{written, unbroken, isSegment, Interchange, segmentsOf, placesFrom, isMessage, holds, rowsFrom, rowsOf}
 

@@ -25,7 +25,7 @@ use Rattle.envelope.specs.Envelope.{valueOf, uibOf, uihOf, uitOf, uizOf}
 use Rattle.period.specs.declared.Period.{Period}
 use Rattle.period.specs.declared.Period.the-variants as period
 use Rattle.period.specs.Period.{periodOf}
-use Rattle.interchange.specs.declared.state.Row.{Row}
+use Rattle.steps.specs.declared.state.Row.{Row}
 
 -- "A segment is a tag .., then elements, then the terminator." Some segments, one after the other.
 unfoldable pub written : List (List ℕ) → List ℕ

@@ -25,13 +25,13 @@ use Rattle.placing.specs.Tags.{UIH, UIZ}
 use Rattle.parts.specs.declared.Part.{Part}
 use Rattle.envelope.specs.declared.Headed.the-variants as headed
 use Rattle.envelope.specs.Envelope.{uihOf, uitOf, uizOf}
-use Rattle.interchange.specs.declared.state.Phase.{Phase}
-use Rattle.interchange.specs.declared.state.Phase.the-variants.{Opening, Between, Inside, Closed}
-use Rattle.interchange.specs.declared.state.State.{State}
-use Rattle.interchange.specs.declared.state.Row.{Row}
-use Rattle.interchange.specs.declared.state.Step.{Step}
-use Rattle.interchange.specs.declared.state.Step.the-variants.{Next, Refused}
-use Rattle.interchange.specs.State.{openingState, openedState, headedState, onwardState, endedState, closedState}
+use Rattle.steps.specs.declared.state.Phase.{Phase}
+use Rattle.steps.specs.declared.state.Phase.the-variants.{Opening, Between, Inside, Closed}
+use Rattle.steps.specs.declared.state.State.{State}
+use Rattle.steps.specs.declared.state.Row.{Row}
+use Rattle.steps.specs.declared.state.Step.{Step}
+use Rattle.steps.specs.declared.state.Step.the-variants.{Next, Refused}
+use Rattle.steps.specs.State.{openingState, openedState, headedState, onwardState, endedState, closedState}
 use Rattle.interchange.specs.Reader.{accepted, faulty, isClosed, dialogueOf, referenceOf, turnStep, turnScan, turnAt, afterTurn, readOn, sized, readingOf}
 use Rattle.acceptance.specs.Interchange.{written, Message, segmentsIn, Interchange, eachOf, names, known, kindIn, tableFor, referenceIn, goodContents, isTrailer, isMessage, goodClosing, IsInterchange}
 use Rattle.acceptance.specs.Segments.{Cut, cut-at}

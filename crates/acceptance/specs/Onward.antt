@@ -10,13 +10,13 @@ use Rattle.syntax.specs.declared.segment.Refusal.{Refusal}
 use Rattle.syntax.specs.declared.segment.Scanned.the-variants.{End}
 use Rattle.placing.specs.Skdupd.{skdupdTable}
 use Rattle.placing.specs.Tsdupd.{tsdupdTable}
-use Rattle.interchange.specs.declared.state.Phase.{Phase}
-use Rattle.interchange.specs.declared.state.Phase.the-variants.{Opening, Between, Inside, Closed}
-use Rattle.interchange.specs.declared.state.State.{State}
-use Rattle.interchange.specs.declared.state.Row.{Row}
-use Rattle.interchange.specs.declared.state.Step.{Step}
-use Rattle.interchange.specs.declared.state.Step.the-variants.{Next, Refused}
-use Rattle.interchange.specs.Step.{stepBy, segmentStep}
+use Rattle.steps.specs.declared.state.Phase.{Phase}
+use Rattle.steps.specs.declared.state.Phase.the-variants.{Opening, Between, Inside, Closed}
+use Rattle.steps.specs.declared.state.State.{State}
+use Rattle.steps.specs.declared.state.Row.{Row}
+use Rattle.steps.specs.declared.state.Step.{Step}
+use Rattle.steps.specs.declared.state.Step.the-variants.{Next, Refused}
+use Rattle.steps.specs.Step.{stepBy, segmentStep}
 use Rattle.interchange.specs.Reader.{Outcome, before, isClosed, dialogueOf, referenceOf, turnStep, turnAt, afterTurn, readOn}
 use Rattle.interchange.specs.Laws.{read-on}
 use Rattle.interchange.specs.Turns.{turn-is}

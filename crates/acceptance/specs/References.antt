@@ -15,7 +15,7 @@ use Rattle.parts.specs.Located.{Inside, part-bytes, part-inside}
 use Rattle.envelope.specs.declared.Opened.the-variants.{Dialogue, Wrong}
 use Rattle.envelope.specs.declared.Headed.the-variants.{Message, Missing, Unknown}
 use Rattle.envelope.specs.Envelope.{present, says, valueOf, placeOf, UNOB, version4, SKDUPD, TSDUPD, uibOf, typeOf, versionOf, releaseOf, subFunctionOf, agencyOf, referenceOf, complete, directory, typed, uihOf}
-use Rattle.interchange.specs.Ways.{whole}
+use Rattle.steps.specs.Ways.{whole}
 use Rattle.acceptance.specs.Interchange.{referenceIn}
 
 -- a part that ends within the segment

@@ -23,14 +23,14 @@ use Rattle.envelope.specs.Envelope.{uibOf, uihOf, uitOf, uizOf}
 use Rattle.period.specs.declared.Period.{Period}
 use Rattle.period.specs.declared.Period.the-variants as period
 use Rattle.period.specs.Period.{periodOf}
-use Rattle.interchange.specs.declared.state.Phase.{Phase}
-use Rattle.interchange.specs.declared.state.Phase.the-variants.{Opening, Between, Inside}
-use Rattle.interchange.specs.declared.state.State.{State}
-use Rattle.interchange.specs.declared.state.Row.{Row}
-use Rattle.interchange.specs.declared.state.Step.{Step}
-use Rattle.interchange.specs.declared.state.Step.the-variants.{Next}
-use Rattle.interchange.specs.State.{oneMore, openedState, headedState, onwardState, endedState, closedState}
-use Rattle.interchange.specs.Step.{rowOf, opened, opening, headed, closing, between, trailing, judged, placed, settled, inside, stepBy}
+use Rattle.steps.specs.declared.state.Phase.{Phase}
+use Rattle.steps.specs.declared.state.Phase.the-variants.{Opening, Between, Inside}
+use Rattle.steps.specs.declared.state.State.{State}
+use Rattle.steps.specs.declared.state.Row.{Row}
+use Rattle.steps.specs.declared.state.Step.{Step}
+use Rattle.steps.specs.declared.state.Step.the-variants.{Next}
+use Rattle.steps.specs.State.{oneMore, openedState, headedState, onwardState, endedState, closedState}
+use Rattle.steps.specs.Step.{rowOf, opened, opening, headed, closing, between, trailing, judged, placed, settled, inside, stepBy}
 use Rattle.interchange.specs.Reader.{dialogueOf, referenceOf}
 use Rattle.acceptance.specs.Interchange.{tableFor, isPop, isGood, goodContents, isTrailer}
 use Rattle.acceptance.specs.Onward.{stepAt, refused≢next}

@@ -10,8 +10,8 @@ use lib.ListN.{length, drop}
 use borrow.Author.Tests.{le-ltb}
 use Rattle.laws.specs.Lists.{over}
 use Rattle.syntax.specs.declared.segment.Refusal.{Refusal}
-use Rattle.interchange.specs.declared.state.State.{State}
-use Rattle.interchange.specs.declared.state.Row.{Row}
+use Rattle.steps.specs.declared.state.State.{State}
+use Rattle.steps.specs.declared.state.Row.{Row}
 use Rattle.interchange.specs.declared.reader.Answer.the-variants.{Rows, Refused}
 use Rattle.interchange.specs.Reader.{Outcome, Verdict, accepted, faulty, readOn, readingOf, numbers, answerBy, answerOf, rowsAfter}
 use Rattle.acceptance.specs.Interchange.{written, Interchange, segmentsOf, holds, IsInterchange, rowsOf}

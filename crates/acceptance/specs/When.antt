@@ -21,11 +21,11 @@ use Rattle.envelope.specs.declared.Opened.the-variants.{Dialogue, Wrong}
 use Rattle.envelope.specs.declared.Headed.{Headed}
 use Rattle.envelope.specs.declared.Headed.the-variants as headed
 use Rattle.envelope.specs.Envelope.{uibOf, uihOf, uitOf, uizOf}
-use Rattle.interchange.specs.declared.state.Phase.the-variants.{Between, Inside}
-use Rattle.interchange.specs.declared.state.State.{State}
-use Rattle.interchange.specs.declared.state.Step.the-variants.{Next}
-use Rattle.interchange.specs.State.{oneMore, openingState, openedState, headedState, onwardState, endedState, closedState}
-use Rattle.interchange.specs.Step.{rowOf}
+use Rattle.steps.specs.declared.state.Phase.the-variants.{Between, Inside}
+use Rattle.steps.specs.declared.state.State.{State}
+use Rattle.steps.specs.declared.state.Step.the-variants.{Next}
+use Rattle.steps.specs.State.{oneMore, openingState, openedState, headedState, onwardState, endedState, closedState}
+use Rattle.steps.specs.Step.{rowOf}
 use Rattle.interchange.specs.Reader.{Outcome, accepted, before, dialogueOf, referenceOf, readOn, readingOf}
 use Rattle.interchange.specs.Laws.{read-accepted}
 use Rattle.interchange.specs.Answers.{sized-read}

@@ -12,11 +12,11 @@ use Rattle.laws.specs.Choice.{pick, either, either-true, choose}
 use lib.Seq.{take-append-le, drop-append-seam, take-take, length-take-le}
 use Rattle.laws.specs.Lists.{over, onto, onto-start}
 use Rattle.syntax.specs.declared.segment.Refusal.{Refusal}
-use Rattle.interchange.specs.declared.state.State.{State}
-use Rattle.interchange.specs.declared.state.Row.{Row}
+use Rattle.steps.specs.declared.state.State.{State}
+use Rattle.steps.specs.declared.state.Row.{Row}
 use Rattle.interchange.specs.declared.reader.Answer.{Answer}
 use Rattle.interchange.specs.declared.reader.Answer.the-variants.{Rows, Refused}
-use Rattle.interchange.specs.State.{openingState}
+use Rattle.steps.specs.State.{openingState}
 use Rattle.interchange.specs.Reader.{Verdict, accepted, faulty, Outcome, readOn, readingOf, numbers, answerOf, rowsAfter}
 use Rattle.interchange.specs.Laws.{length-numbers}
 use Rattle.interchange.specs.Chunks.{wholeFrom, Filled}

@@ -10,8 +10,8 @@ use Rattle.laws.specs.Choice.{pick}
 use Rattle.syntax.specs.declared.segment.Refusal.{Refusal}
 use Rattle.placing.specs.Skdupd.{skdupdTable}
 use Rattle.placing.specs.Tsdupd.{tsdupdTable}
-use Rattle.interchange.specs.declared.state.Phase.{Phase}
-use Rattle.interchange.specs.declared.state.State.{State}
+use Rattle.steps.specs.declared.state.Phase.{Phase}
+use Rattle.steps.specs.declared.state.State.{State}
 use Rattle.interchange.specs.declared.reader.Turn.{Turn}
 use Rattle.interchange.specs.declared.reader.Turn.the-variants.{Stop}
 use Rattle.interchange.specs.declared.reader.Gathered.{Gathered}

@@ -12,8 +12,8 @@ use Rattle.laws.specs.Choice.{choose}
 use Rattle.placing.specs.Skdupd.{skdupdTable}
 use Rattle.placing.specs.Tsdupd.{tsdupdTable}
 use Rattle.syntax.specs.declared.segment.Refusal.{Refusal}
-use Rattle.interchange.specs.declared.state.State.{State}
-use Rattle.interchange.specs.declared.state.Row.{Row}
+use Rattle.steps.specs.declared.state.State.{State}
+use Rattle.steps.specs.declared.state.Row.{Row}
 use Rattle.interchange.specs.declared.reader.Turn.{Turn}
 use Rattle.interchange.specs.declared.reader.Turn.the-variants.{On, Stop}
 use Rattle.interchange.specs.Reader.{Outcome, before, isClosed, turnAt, afterTurn, readOn}

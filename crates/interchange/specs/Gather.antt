@@ -8,8 +8,8 @@ use native.Mathlib.Omega.{arith}
 use lib.ListN.{length, take}
 use Rattle.placing.specs.Skdupd.{skdupdTable}
 use Rattle.placing.specs.Tsdupd.{tsdupdTable}
-use Rattle.interchange.specs.declared.state.State.{State}
-use Rattle.interchange.specs.declared.state.Row.{Row}
+use Rattle.steps.specs.declared.state.State.{State}
+use Rattle.steps.specs.declared.state.Row.{Row}
 use Rattle.interchange.specs.declared.reader.Turn.{Turn}
 use Rattle.interchange.specs.declared.reader.Turn.the-variants.{On}
 use Rattle.interchange.specs.Reader.{Outcome, before, isClosed, turnAt, afterTurn, readOn, numbers}

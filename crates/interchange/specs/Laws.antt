@@ -17,9 +17,9 @@ use Rattle.syntax.specs.declared.segment.Refusal.{Refusal}
 use Rattle.syntax.specs.declared.segment.Scanned.{Scanned}
 use Rattle.placing.specs.Skdupd.{skdupdTable}
 use Rattle.placing.specs.Tsdupd.{tsdupdTable}
-use Rattle.interchange.specs.declared.state.Phase.{Phase}
-use Rattle.interchange.specs.declared.state.State.{State}
-use Rattle.interchange.specs.declared.state.Row.{Row}
+use Rattle.steps.specs.declared.state.Phase.{Phase}
+use Rattle.steps.specs.declared.state.State.{State}
+use Rattle.steps.specs.declared.state.Row.{Row}
 use Rattle.interchange.specs.Reader.{Outcome, accepted, fault, isClosed, turnAt, afterTurn, readOn, numbers, rowNumbers}
 
 -- f is enough where it passes the bytes that are left

@@ -1,8 +1,5 @@
-pub mod State
-pub mod Step
 pub mod Reader
 pub mod Laws
-pub mod Ways
 pub mod Turns
 pub mod Offsets
 pub mod Fuel

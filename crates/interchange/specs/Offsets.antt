@@ -27,16 +27,16 @@ use Rattle.envelope.specs.Envelope.{uibOf, uihOf, uitOf, uizOf}
 use Rattle.period.specs.declared.Period.{Period}
 use Rattle.period.specs.declared.Period.the-variants as period
 use Rattle.period.specs.Period.{periodOf}
-use Rattle.interchange.specs.declared.state.Phase.{Phase}
-use Rattle.interchange.specs.declared.state.Phase.the-variants.{Opening, Between, Inside, Closed}
-use Rattle.interchange.specs.declared.state.State.{State}
-use Rattle.interchange.specs.declared.state.Row.{Row}
-use Rattle.interchange.specs.declared.state.Step.{Step}
-use Rattle.interchange.specs.declared.state.Step.the-variants.{Next, Refused}
+use Rattle.steps.specs.declared.state.Phase.{Phase}
+use Rattle.steps.specs.declared.state.Phase.the-variants.{Opening, Between, Inside, Closed}
+use Rattle.steps.specs.declared.state.State.{State}
+use Rattle.steps.specs.declared.state.Row.{Row}
+use Rattle.steps.specs.declared.state.Step.{Step}
+use Rattle.steps.specs.declared.state.Step.the-variants.{Next, Refused}
 use Rattle.interchange.specs.declared.reader.Turn.{Turn}
 use Rattle.interchange.specs.declared.reader.Turn.the-variants.{On, Stop}
-use Rattle.interchange.specs.State.{oneMore}
-use Rattle.interchange.specs.Step.{refuse, rowOf, opened, opening, headed, closing, between, trailing, isPeriod, judged, placed, settled, inside, tableOf, stepBy, segmentStep}
+use Rattle.steps.specs.State.{oneMore}
+use Rattle.steps.specs.Step.{refuse, rowOf, opened, opening, headed, closing, between, trailing, isPeriod, judged, placed, settled, inside, tableOf, stepBy, segmentStep}
 use Rattle.interchange.specs.Reader.{dialogueOf, referenceOf, turnStep, turnScan, turnAt}
 
 -- a step's row, if it has one, bears the offset

@@ -14,19 +14,19 @@ use Rattle.syntax.specs.Segment.{bodyAt, segmentAt, refusalOf}
 use Rattle.parts.specs.Places.{bytesOf}
 use Rattle.placing.specs.Skdupd.{skdupdTable}
 use Rattle.placing.specs.Tsdupd.{tsdupdTable}
-use Rattle.interchange.specs.declared.state.Phase.{Phase}
-use Rattle.interchange.specs.declared.state.Phase.the-variants.{Opening, Between, Inside, Closed}
-use Rattle.interchange.specs.declared.state.State.{State}
-use Rattle.interchange.specs.declared.state.Row.{Row}
-use Rattle.interchange.specs.declared.state.Step.{Step}
-use Rattle.interchange.specs.declared.state.Step.the-variants.{Next, Refused}
-use Rattle.interchange.specs.State.{openingState}
+use Rattle.steps.specs.declared.state.Phase.{Phase}
+use Rattle.steps.specs.declared.state.Phase.the-variants.{Opening, Between, Inside, Closed}
+use Rattle.steps.specs.declared.state.State.{State}
+use Rattle.steps.specs.declared.state.Row.{Row}
+use Rattle.steps.specs.declared.state.Step.{Step}
+use Rattle.steps.specs.declared.state.Step.the-variants.{Next, Refused}
+use Rattle.steps.specs.State.{openingState}
 use Rattle.placing.specs.Table.{Table}
 use Rattle.interchange.specs.declared.reader.Turn.{Turn}
 use Rattle.interchange.specs.declared.reader.Turn.the-variants.{On, Stop}
 use Rattle.interchange.specs.declared.reader.Answer.{Answer}
 use Rattle.interchange.specs.declared.reader.Answer.the-variants as answer
-use Rattle.interchange.specs.Step.{segmentStep}
+use Rattle.steps.specs.Step.{segmentStep}
 
 -- what a reading ends with: the interchange is accepted, or its first fault is named with its place
 pub data Verdict : Type 0 where

@@ -27,18 +27,18 @@ use Rattle.hints.specs.Laws.{quick-skdupd, quick-tsdupd}
 use Rattle.period.specs.declared.Period.{Period}
 use Rattle.period.specs.declared.Period.the-variants as period
 use Rattle.period.specs.Period.{periodOf}
-use Rattle.interchange.specs.declared.state.Phase.{Phase}
-use Rattle.interchange.specs.declared.state.Phase.the-variants.{Opening, Between, Inside, Closed}
-use Rattle.interchange.specs.declared.state.State.{State}
-use Rattle.interchange.specs.declared.state.Row.{Row}
-use Rattle.interchange.specs.declared.state.Step.{Step}
-use Rattle.interchange.specs.declared.state.Step.the-variants.{Next}
+use Rattle.steps.specs.declared.state.Phase.{Phase}
+use Rattle.steps.specs.declared.state.Phase.the-variants.{Opening, Between, Inside, Closed}
+use Rattle.steps.specs.declared.state.State.{State}
+use Rattle.steps.specs.declared.state.Row.{Row}
+use Rattle.steps.specs.declared.state.Step.{Step}
+use Rattle.steps.specs.declared.state.Step.the-variants.{Next}
 use Rattle.interchange.specs.declared.reader.Turn.the-variants.{On}
-use Rattle.interchange.specs.State.{oneMore, onwardState, movedState}
-use Rattle.interchange.specs.Step.{rowOf, isPeriod, judged, placed, inside, tableOf, stepBy, segmentStep}
+use Rattle.steps.specs.State.{oneMore, onwardState, movedState}
+use Rattle.steps.specs.Step.{rowOf, isPeriod, judged, placed, inside, tableOf, stepBy, segmentStep}
 use Rattle.interchange.specs.Reader.{isClosed, dialogueOf, referenceOf, turnStep, turnAt}
 use Rattle.interchange.specs.Laws.{putRow}
-use Rattle.interchange.specs.Ways.{inside-placed}
+use Rattle.steps.specs.Ways.{inside-placed}
 use Rattle.interchange.specs.Turns.{turn-is, body-slice}
 use Rattle.interchange.specs.Moves.{Moved, moved-turn, moved-both, moved-as}
 

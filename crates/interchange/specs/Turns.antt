@@ -16,10 +16,10 @@ use Rattle.syntax.specs.Ends.{ended, end-within}
 use Rattle.parts.specs.declared.Part.{Part}
 use Rattle.parts.specs.Places.{bytesOf}
 use Rattle.placing.specs.Table.{Table}
-use Rattle.interchange.specs.declared.state.State.{State}
+use Rattle.steps.specs.declared.state.State.{State}
 use Rattle.interchange.specs.declared.reader.Turn.{Turn}
 use Rattle.interchange.specs.declared.reader.Turn.the-variants.{On, Stop}
-use Rattle.interchange.specs.Step.{segmentStep}
+use Rattle.steps.specs.Step.{segmentStep}
 use Rattle.interchange.specs.Reader.{turnScan, turnAt}
 
 -- what is lent past the input's end is empty

@@ -1,7 +1,5 @@
-//! The whole reader: the envelope, one segment's step, and the fold over an interchange.
+//! The whole reader: the fold of one segment's step over an interchange.
 
 pub mod reader;
 mod rows;
 mod run;
-pub mod state;
-pub mod step;

@@ -1,6 +1,6 @@
 //! Rows as numbers in a buffer: three each, offset, group and tag.
 
-use crate::state::Row;
+use steps::state::Row;
 ghost use mathlib.Core.Path.{_≡_};
 ghost use Prim.Native.Nat.{_+_, _<_, _≤_};
 ghost use lib.ListN.{length, take};

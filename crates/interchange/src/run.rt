@@ -2,17 +2,17 @@
 //! offset and the rows change; whatever else comes is left to the step.
 
 use crate::rows::put_row;
-use crate::state::Phase;
-use crate::state::Row;
-use crate::state::State;
-use crate::state::one_more;
-use crate::step::is_period;
 use hints::quick_step;
 use parts::Part;
 use period::Period;
 use period::read_period;
 use placing::Place;
 use placing::Stepped;
+use steps::state::Phase;
+use steps::state::Row;
+use steps::state::State;
+use steps::state::one_more;
+use steps::step::is_period;
 use syntax::segment::Scanned;
 use syntax::segment::read_segment;
 use syntax::segment::tag_at;
@@ -22,8 +22,8 @@ ghost use lib.ListN.{length};
 ghost use Rattle.syntax.specs.Segment.{bodyAt, segmentAt};
 ghost use Rattle.placing.specs.Skdupd.{skdupdTable};
 ghost use Rattle.placing.specs.Tsdupd.{tsdupdTable};
-ghost use Rattle.interchange.specs.State.{movedState};
-ghost use Rattle.interchange.specs.Step.{tableOf};
+ghost use Rattle.steps.specs.State.{movedState};
+ghost use Rattle.steps.specs.Step.{tableOf};
 ghost use Rattle.interchange.specs.Moves.{Moved};
 ghost use Rattle.interchange.specs.Runs.{goodPart, Hinted};
 

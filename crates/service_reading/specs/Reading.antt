@@ -11,7 +11,7 @@ use borrow.Author.Tests.{lt-ltb}
 use Rattle.laws.specs.Choice.{both, choose}
 use Rattle.laws.specs.Lists.{over}
 use Rattle.syntax.specs.declared.segment.Refusal.{Refusal}
-use Rattle.interchange.specs.declared.state.Row.{Row}
+use Rattle.steps.specs.declared.state.Row.{Row}
 use Rattle.interchange.specs.declared.reader.Answer.the-variants as answer
 use Rattle.interchange.specs.Reader.{Verdict, accepted, faulty, readingOf, numbers, answerBy, answerOf, rowsBy, rowsAfter}
 use Rattle.interchange.specs.Laws.{length-numbers}

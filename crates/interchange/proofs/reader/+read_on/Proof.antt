@@ -9,7 +9,7 @@ use Rattle.interchange.specs.declared.reader.Gathered.{Gathered}
 use Rattle.interchange.specs.declared.reader.Gathered.the-variants.{Numbers, Full, Faulty}
 use Rattle.interchange.specs.declared.reader.Answer.{Answer}
 use Rattle.interchange.specs.declared.reader.Answer.the-variants.{Rows, Refused}
-use Rattle.interchange.specs.declared.state.State.{State}
+use Rattle.steps.specs.declared.state.State.{State}
 use Rattle.interchange.specs.Reader.{Outcome, accepted}
 use Rattle.interchange.specs.Chunks.{wholeFrom, Filled, Chunk, chunk-as}
 use Rattle.interchange.specs.Answers.{Behind, behind-fault, behind-short, behind-rows, behind-refused, behind-full, behind-fits}

@@ -7,7 +7,7 @@ use Rattle.interchange.proofs.reader.is_closed.Reads as is-closed-reads
 use Rattle.interchange.proofs.reader.run_on.Reads as run-on-reads
 use Rattle.interchange.proofs.reader.take_turn.Reads as take-turn-reads
 use Rattle.interchange.proofs.rows.put_row.Reads as put-row-reads
-use Rattle.interchange.proofs.state.State.moved.Reads as moved-reads
+use Rattle.steps.proofs.state.State.moved.Reads as moved-reads
 use mathlib.Core.Path.{_≡_, refl, sym, ap, _∙_}
 use mathlib.Core.Bool.{Bool, false}
 use mathlib.Core.List.{List}
@@ -19,8 +19,8 @@ use lib.ListN.{length}
 use Rattle.placing.specs.Table.{Table}
 use Rattle.placing.specs.Skdupd.{skdupdTable}
 use Rattle.placing.specs.Tsdupd.{tsdupdTable}
-use Rattle.interchange.specs.declared.state.State.{State}
-use Rattle.interchange.specs.declared.state.Row.{Row}
+use Rattle.steps.specs.declared.state.State.{State}
+use Rattle.steps.specs.declared.state.Row.{Row}
 use Rattle.interchange.specs.declared.reader.Turn.{Turn}
 use Rattle.interchange.specs.declared.reader.Turn.the-variants.{On, Stop}
 use Rattle.interchange.specs.Reader.{isClosed, turnAt}

@@ -2,7 +2,7 @@ use mathlib.Core.Path.{_≡_, sym, ap, _∙_}
 use Prim.Native.Nat.{ℕ, _+_}
 use denote.Ref.{now}
 use lib.ListN.{length}
-use Rattle.interchange.specs.State.{openingState}
+use Rattle.steps.specs.State.{openingState}
 use Rattle.interchange.specs.Reader.{readOn, readingOf}
 use Rattle.interchange.specs.Answers.{none-read, long-read, sized-read, right-same}
 use borrow.Author.Needs.{needs}

@@ -6,13 +6,13 @@ use Rattle.interchange.proofs.reader.read_sized.Lts as lts
 use Rattle.hints.proofs.tables.skdupd_hints.Reads as skdupd-hints-reads
 use Rattle.hints.proofs.tables.tsdupd_hints.Reads as tsdupd-hints-reads
 use Rattle.interchange.proofs.reader.read_on.Reads as read-on-reads
-use Rattle.interchange.proofs.state.State.opening.Reads as opening-reads
+use Rattle.steps.proofs.state.State.opening.Reads as opening-reads
 use Rattle.placing.proofs.tables.skdupd.Reads as skdupd-reads
 use Rattle.placing.proofs.tables.tsdupd.Reads as tsdupd-reads
 use mathlib.Core.Path.{ap}
 use denote.Ref.{now}
-use Rattle.interchange.specs.declared.state.State.{State}
-use Rattle.interchange.specs.State.{openingState}
+use Rattle.steps.specs.declared.state.State.{State}
+use Rattle.steps.specs.State.{openingState}
 use Rattle.interchange.specs.Chunks.{wholeFrom}
 use Rattle.interchange.specs.Answers.{right-same, right-behind}
 

@@ -7,7 +7,7 @@ use native.Mathlib.Omega.{arith}
 use denote.Ref.{now}
 use Rattle.syntax.specs.Segment.{bodyAt}
 use Rattle.syntax.specs.Ends.{end-within}
-use Rattle.interchange.specs.Step.{segmentStep}
+use Rattle.steps.specs.Step.{segmentStep}
 use Rattle.interchange.specs.Reader.{dialogueOf, referenceOf, turnStep}
 use Rattle.interchange.specs.Turns.{body-slice, step-same}
 use borrow.Author.Needs.{needs}
@@ -16,7 +16,7 @@ use Rattle.interchange.proofs.reader.take_step.Tie as tie
 use Rattle.interchange.proofs.reader.take_step.Reads as reads
 use Rattle.interchange.proofs.reader.take_step.Lts as lts
 use Rattle.interchange.proofs.reader.lent.Reads as lent-reads
-use Rattle.interchange.proofs.step.step_segment.Reads as step-segment-reads
+use Rattle.steps.proofs.step.step_segment.Reads as step-segment-reads
 
 -- a whole segment ends past its start and within the input
 bounds : (s : tie.Start) → (s .args .at + 3 ≤ s .args .end) × (s .args .end < length (now (s .args .s)))

@@ -3,7 +3,7 @@ use Rattle.interchange.proofs.run.is_good.Statement.{statement}
 use Rattle.interchange.proofs.run.is_good.Tie as tie
 use Rattle.interchange.proofs.run.is_good.Reads as reads
 use Rattle.interchange.proofs.run.is_good.Lts as lts
-use Rattle.interchange.proofs.step.is_period.Reads as is-period-reads
+use Rattle.steps.proofs.step.is_period.Reads as is-period-reads
 use Rattle.period.proofs.read_period.Reads as read-period-reads
 use mathlib.Core.Path.{_≡_, sym, ap, _∙_}
 use mathlib.Core.List.{List}

@@ -4,7 +4,7 @@ use Rattle.interchange.proofs.run.run.Reads as reads
 use Rattle.interchange.proofs.run.run.Lts as lts
 use Rattle.interchange.proofs.rows.put_row.Reads as put-row-reads
 use Rattle.interchange.proofs.run.is_good.Reads as is-good-reads
-use Rattle.interchange.proofs.state.one_more.Reads as one-more-reads
+use Rattle.steps.proofs.state.one_more.Reads as one-more-reads
 use Rattle.placing.proofs.Place.group.Reads as group-reads
 use Rattle.hints.proofs.quick_step.Reads as quick-step-reads
 use Rattle.syntax.proofs.segment.read_segment.Reads as read-segment-reads
@@ -22,7 +22,7 @@ use Rattle.syntax.specs.Segment.{segmentAt}
 use Rattle.syntax.specs.Ends.{end-within}
 use Rattle.placing.specs.declared.Place.{Place}
 use Rattle.placing.specs.declared.Stepped.the-variants.{Placed}
-use Rattle.interchange.specs.State.{movedState}
+use Rattle.steps.specs.State.{movedState}
 use Rattle.interchange.specs.Moves.{Moved, moved-none, moved-as}
 use Rattle.interchange.specs.Runs.{moved-inside}
 

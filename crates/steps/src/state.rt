@@ -1,0 +1,196 @@
+//! Where a reading stands: numbers only, by value.
+
+use parts::Part;
+use placing::Place;
+use syntax::segment::Refusal;
+ghost use mathlib.Core.Path.{_≡_};
+ghost use Rattle.steps.specs.State.{oneMore, openingState, openedState, headedState, onwardState, endedState, closedState, movedState};
+
+/// What may come next.
+pub enum Phase {
+    /// The UIB.
+    Opening,
+    /// A UIH, or the UIZ.
+    Between,
+    /// A segment of the message.
+    Inside,
+    /// Nothing.
+    Closed,
+}
+
+/// A reading after some whole segments.
+pub struct State {
+    pub phase: Phase,
+    /// The message's table: 0 SKDUPD, else TSDUPD.
+    pub kind: u8,
+    /// Messages that are ended.
+    pub messages: usize,
+    /// Segments of the message, its UIH counted.
+    pub segments: usize,
+    /// The offset of the UIB, and the dialogue reference in it.
+    pub opened_at: usize,
+    pub dialogue: Part,
+    /// The offset of the message's UIH, and its reference 0340 in it.
+    pub headed_at: usize,
+    pub reference: Part,
+    pub place: Place,
+}
+
+/// A row of the reading.
+pub struct Row {
+    pub offset: usize,
+    pub group: u32,
+    pub tag: u32,
+}
+
+/// What a segment comes to: the next state and the segment's row, or a refusal.
+pub enum Step {
+    Next(State, Row),
+    Refused(Refusal),
+}
+
+/// One more, up to 65,535, which no interchange reaches.
+pub fn one_more(n: usize) -> usize
+    ensures { λ r. ⌜ r ≡ oneMore n ⌝ }
+{
+    if n < 65535 { n + 1 } else { n }
+}
+
+impl State {
+    /// Before the first byte.
+    pub fn opening() -> Self
+        ensures { λ r. ⌜ r ≡ openingState ⌝ }
+    {
+        let place = Place::start();
+        State {
+            phase: Phase::Opening,
+            kind: 0,
+            messages: 0,
+            segments: 0,
+            opened_at: 0,
+            dialogue: Part { from: 0, to: 0 },
+            headed_at: 0,
+            reference: Part { from: 0, to: 0 },
+            place: place,
+        }
+    }
+
+    // The UIB at an offset has come.
+    pub(crate) fn opened(self, at: usize, dialogue: Part) -> Self
+        ensures { λ r. ⌜ r ≡ openedState self at dialogue ⌝ }
+    {
+        let reference = self.reference;
+        let place = self.place;
+        State {
+            phase: Phase::Between,
+            kind: self.kind,
+            messages: self.messages,
+            segments: self.segments,
+            opened_at: at,
+            dialogue: dialogue,
+            headed_at: self.headed_at,
+            reference: reference,
+            place: place,
+        }
+    }
+
+    // A UIH at an offset has come.
+    pub(crate) fn headed(self, at: usize, kind: u8, reference: Part) -> Self
+        ensures { λ r. ⌜ r ≡ headedState self at kind reference ⌝ }
+    {
+        let dialogue = self.dialogue;
+        let place = Place::start();
+        State {
+            phase: Phase::Inside,
+            kind: kind,
+            messages: self.messages,
+            segments: 1,
+            opened_at: self.opened_at,
+            dialogue: dialogue,
+            headed_at: at,
+            reference: reference,
+            place: place,
+        }
+    }
+
+    // A segment of the message is placed.
+    pub(crate) fn onward(self, place: Place) -> Self
+        ensures { λ r. ⌜ r ≡ onwardState self place ⌝ }
+    {
+        let dialogue = self.dialogue;
+        let reference = self.reference;
+        let segments = one_more(self.segments);
+        State {
+            phase: Phase::Inside,
+            kind: self.kind,
+            messages: self.messages,
+            segments: segments,
+            opened_at: self.opened_at,
+            dialogue: dialogue,
+            headed_at: self.headed_at,
+            reference: reference,
+            place: place,
+        }
+    }
+
+    /// Some segments of the message are placed.
+    pub fn moved(self, place: Place, segments: usize) -> Self
+        ensures { λ r. ⌜ r ≡ movedState self place segments ⌝ }
+    {
+        let phase = self.phase;
+        let dialogue = self.dialogue;
+        let reference = self.reference;
+        State {
+            phase: phase,
+            kind: self.kind,
+            messages: self.messages,
+            segments: segments,
+            opened_at: self.opened_at,
+            dialogue: dialogue,
+            headed_at: self.headed_at,
+            reference: reference,
+            place: place,
+        }
+    }
+
+    // The message's UIT has come.
+    pub(crate) fn ended(self, place: Place) -> Self
+        ensures { λ r. ⌜ r ≡ endedState self place ⌝ }
+    {
+        let dialogue = self.dialogue;
+        let reference = self.reference;
+        let messages = one_more(self.messages);
+        let segments = one_more(self.segments);
+        State {
+            phase: Phase::Between,
+            kind: self.kind,
+            messages: messages,
+            segments: segments,
+            opened_at: self.opened_at,
+            dialogue: dialogue,
+            headed_at: self.headed_at,
+            reference: reference,
+            place: place,
+        }
+    }
+
+    // The UIZ has come.
+    pub(crate) fn closed(self) -> Self
+        ensures { λ r. ⌜ r ≡ closedState self ⌝ }
+    {
+        let dialogue = self.dialogue;
+        let reference = self.reference;
+        let place = self.place;
+        State {
+            phase: Phase::Closed,
+            kind: self.kind,
+            messages: self.messages,
+            segments: self.segments,
+            opened_at: self.opened_at,
+            dialogue: dialogue,
+            headed_at: self.headed_at,
+            reference: reference,
+            place: place,
+        }
+    }
+}

@@ -1,0 +1,209 @@
+//! One segment's step. The state goes in and comes back by value; the tables and the two references are lent.
+
+use crate::state::Phase;
+use crate::state::Row;
+use crate::state::State;
+use crate::state::Step;
+use crate::state::one_more;
+use envelope::Headed;
+use envelope::Opened;
+use envelope::check_uit;
+use envelope::check_uiz;
+use envelope::read_uib;
+use envelope::read_uih;
+use parts::Part;
+use period::Period;
+use period::read_period;
+use placing::Place;
+use placing::Stepped;
+use syntax::segment::Refusal;
+use syntax::segment::tag_at;
+ghost use mathlib.Core.Path.{_≡_};
+ghost use lib.Dec.{eqb};
+ghost use Rattle.laws.specs.Choice.{both};
+ghost use Rattle.envelope.specs.Envelope.{uihOf};
+ghost use Rattle.period.specs.Period.{periodOf};
+ghost use Rattle.steps.specs.Step.{refuse, rowOf, opening, headed, closing, between, trailing, judged, placed, inside, segmentStep};
+
+const UIB: u32 = 0x554942;
+
+const UIH: u32 = 0x554948;
+
+const UIT: u32 = 0x554954;
+
+const UIZ: u32 = 0x55495a;
+
+const POP: u32 = 0x504f50;
+
+fn refused(number: u8, position: usize) -> Step
+    ensures { λ r. ⌜ r ≡ refuse number position ⌝ }
+{
+    Step::Refused(Refusal { number, position })
+}
+
+fn row(at: usize, segment: &[u8], group: u32) -> Row
+    ensures { λ r. ⌜ r ≡ rowOf at (now (segment .entry)) group ⌝ }
+{
+    Row {
+        offset: at,
+        group,
+        tag: tag_at(segment, 0),
+    }
+}
+
+// The UIB is to come.
+fn open_dialogue(st: State, at: usize, segment: &[u8]) -> Step
+    ensures { λ r. ⌜ r ≡ opening st at (now (segment .entry)) ⌝ }
+{
+    if tag_at(segment, 0) != UIB {
+        return refused(7, at);
+    }
+    match read_uib(segment) {
+        Opened::Dialogue(dialogue) => Step::Next(st.opened(at, dialogue), row(at, segment, 0)),
+        Opened::Wrong => refused(7, at),
+    }
+}
+
+// A UIH between messages.
+fn head_message(st: State, at: usize, segment: &[u8]) -> Step
+    ensures { λ r. ⌜ r ≡ headed st at (now (segment .entry)) (uihOf (now (segment .entry))) ⌝ }
+{
+    match read_uih(segment) {
+        Headed::Message(kind, reference) => Step::Next(
+            st.headed(at, kind, reference),
+            row(at, segment, 0),
+        ),
+        Headed::Missing => refused(7, at),
+        Headed::Unknown => refused(8, at),
+    }
+}
+
+// A UIZ between messages.
+fn close_dialogue(st: State, at: usize, segment: &[u8], dialogue: &[u8]) -> Step
+    ensures { λ r. ⌜ r ≡ closing st at (now (segment .entry)) (now (dialogue .entry)) ⌝ }
+{
+    if st.messages == 0 {
+        return refused(7, at);
+    }
+    if check_uiz(segment, dialogue, st.messages) {
+        return Step::Next(st.closed(), row(at, segment, 0));
+    }
+    refused(7, at)
+}
+
+// Between messages.
+fn next_message(st: State, at: usize, segment: &[u8], dialogue: &[u8]) -> Step
+    ensures { λ r. ⌜ r ≡ between st at (now (segment .entry)) (now (dialogue .entry)) ⌝ }
+{
+    let tag = tag_at(segment, 0);
+    if tag == UIH {
+        return head_message(st, at, segment);
+    }
+    if tag == UIZ {
+        return close_dialogue(st, at, segment, dialogue);
+    }
+    refused(7, at)
+}
+
+// The message's UIT, placed.
+fn end_message(
+    st: State,
+    at: usize,
+    segment: &[u8],
+    reference: &[u8],
+    place: Place,
+    group: u32,
+) -> Step
+    ensures { λ r. ⌜ r ≡ trailing st at (now (segment .entry)) (now (reference .entry)) place group ⌝ }
+{
+    if check_uit(segment, reference, one_more(st.segments)) {
+        return Step::Next(st.ended(place), row(at, segment, group));
+    }
+    refused(7, at)
+}
+
+/// Whether a segment is a period that is read: POP in group 4 of SKDUPD.
+pub fn is_period(kind: u8, tag: u32, group: u32) -> bool
+    ensures { λ r. ⌜ r ≡ both (eqb kind 0) (both (eqb tag 5263184) (eqb group 4)) ⌝ }
+{
+    if kind != 0 {
+        return false;
+    }
+    if tag != POP {
+        return false;
+    }
+    group == 4
+}
+
+// A period, placed.
+fn judge_period(st: State, at: usize, segment: &[u8], place: Place, group: u32) -> Step
+    ensures { λ r. ⌜ r ≡ judged st at (now (segment .entry)) place group (periodOf (now (segment .entry))) ⌝ }
+{
+    let whole = Part {
+        from: 0,
+        to: segment.len(),
+    };
+    match read_period(segment, whole) {
+        Period::Good(_, _, _) => Step::Next(st.onward(place), row(at, segment, group)),
+        Period::Wrong(_) => refused(10, at),
+    }
+}
+
+// A segment of the message, placed.
+fn take_segment(
+    st: State,
+    at: usize,
+    segment: &[u8],
+    reference: &[u8],
+    group: u32,
+    place: Place,
+) -> Step
+    ensures { λ r. ⌜ r ≡ placed st at (now (segment .entry)) (now (reference .entry)) group place ⌝ }
+{
+    let tag = tag_at(segment, 0);
+    if tag == UIT {
+        return end_message(st, at, segment, reference, place, group);
+    }
+    if is_period(st.kind, tag, group) {
+        return judge_period(st, at, segment, place, group);
+    }
+    Step::Next(st.onward(place), row(at, segment, group))
+}
+
+// In a message, by its table.
+fn next_segment(st: State, at: usize, segment: &[u8], reference: &[u8], table: &[[u32; 8]]) -> Step
+    ensures { λ r. ⌜ r ≡ inside (now (table .entry)) st at (now (segment .entry)) (now (reference .entry)) ⌝ }
+{
+    let place = st.place;
+    match place.step(table, tag_at(segment, 0)) {
+        Stepped::Placed(p) => take_segment(st, at, segment, reference, p.group(table), p),
+        Stepped::OutOfPlace => refused(9, at),
+    }
+}
+
+/// The step of a segment, without its terminator, that starts at an offset of the whole. The dialogue reference and the
+/// message's reference are lent as they were written; a reader whose earlier bytes are gone lends its own store.
+pub fn step_segment(
+    st: State,
+    at: usize,
+    segment: &[u8],
+    dialogue: &[u8],
+    reference: &[u8],
+    skdupd: &[[u32; 8]],
+    tsdupd: &[[u32; 8]],
+) -> Step
+    ensures { λ r. ⌜ r ≡ segmentStep (now (skdupd .entry)) (now (tsdupd .entry)) st at (now (segment .entry)) (now (dialogue .entry)) (now (reference .entry)) ⌝ }
+{
+    let phase = st.phase;
+    match phase {
+        Phase::Opening => open_dialogue(st, at, segment),
+        Phase::Between => next_message(st, at, segment, dialogue),
+        Phase::Inside => {
+            if st.kind == 0 {
+                return next_segment(st, at, segment, reference, skdupd);
+            }
+            next_segment(st, at, segment, reference, tsdupd)
+        }
+        Phase::Closed => refused(7, at),
+    }
+}
