@@ -1,13 +1,12 @@
 -- `put_decimal` meets its contract: the digits still to be written stand before those that are.
 -- Assumes nothing.
-use mathlib.Core.Path.{_≡_, refl, ap, _∙_}
+use mathlib.Core.Path.{_≡_, refl, _∙_}
 use mathlib.Core.List.{_++_, append-nil}
 use Prim.Native.Nat.{_+_, _%_, _≤_}
 use native.Mathlib.Omega.{arith}
 use borrow.Author.Needs.{needs}
 use denote.Ref.{now}
 use lib.ListN.{length, drop, length-set}
-use Rattle.dates.specs.Text.{putAt}
 use Rattle.envelope.specs.Decimal.{decimalOn, decimalOf, last-written, one-written, all-written}
 use Rattle.text.specs.Laws.{decimal-put}
 use Rattle.text.proofs.put_decimal.Statement.{statement}
