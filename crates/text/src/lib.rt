@@ -3,11 +3,11 @@
 
 use dates::put_bytes;
 ghost use mathlib.Core.Path.{_≡_};
-ghost use Prim.Native.Nat.{_+_, _%_, _≤_};
+ghost use Prim.Native.Nat.{_+_, _≤_};
 ghost use lib.Dec.{leb};
 ghost use lib.ListN.{length, take, drop};
 ghost use Rattle.dates.specs.Text.{putAt};
-ghost use Rattle.envelope.specs.Decimal.{decimalOf, digitOf};
+ghost use Rattle.envelope.specs.Decimal.{decimalOf};
 ghost use Rattle.text.specs.Text.{pairText, rowAt, rowsText, tableText, refusalText, answerOf, bytesOf};
 
 /// What came of writing a text.
@@ -16,13 +16,6 @@ pub enum Written {
     Bytes(usize),
     /// The lent bytes are too few.
     NoRoom,
-}
-
-// The byte of a number's last digit.
-fn digit(n: usize) -> u8
-    ensures { λ r. ⌜ r ≡ digitOf (n % 10) ⌝ }
-{
-    (n % 10) as u8 + 48
 }
 
 // The bytes from an index on, put at an offset; how many they are.
@@ -53,7 +46,7 @@ fn put_decimal(out: &mut [u8], at: usize, n: usize) -> usize
     let mut left = n;
     while 0 < from {
         from -= 1;
-        digits[from] = digit(left);
+        digits[from] = 48 + (left % 10) as u8;
         if left < 10 {
             return put_from(out, at, &digits, from);
         }

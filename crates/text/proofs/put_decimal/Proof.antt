@@ -1,13 +1,12 @@
 -- `put_decimal` meets its contract: the digits still to be written stand before those that are.
 -- Assumes nothing.
-use mathlib.Core.Path.{_≡_, refl, ap, _∙_}
-use mathlib.Core.List.{List, _++_, append-nil}
-use Prim.Native.Nat.{ℕ, _≤_}
+use mathlib.Core.Path.{_≡_, refl, _∙_}
+use mathlib.Core.List.{_++_, append-nil}
+use Prim.Native.Nat.{_+_, _%_, _≤_}
 use native.Mathlib.Omega.{arith}
 use borrow.Author.Needs.{needs}
 use denote.Ref.{now}
 use lib.ListN.{length, drop, length-set}
-use Rattle.dates.specs.Text.{putAt}
 use Rattle.envelope.specs.Decimal.{decimalOn, decimalOf, last-written, one-written, all-written}
 use Rattle.text.specs.Laws.{decimal-put}
 use Rattle.text.proofs.put_decimal.Statement.{statement}
@@ -28,8 +27,11 @@ sub-from : tie.Need-sub-from Inv-loop μ-loop
 sub-from c = omega arith
 
 -- src/lib.rt:56:24
-digit-requires : tie.Need-digit-requires Inv-loop μ-loop
-digit-requires c κs = tt
+cast-digits : tie.Need-cast-digits Inv-loop μ-loop
+cast-digits c = omega arith
+
+add-digits : tie.Need-add-digits Inv-loop μ-loop
+add-digits c = omega arith
 
 -- src/lib.rt:56:9
 array-write-digits : tie.Need-array-write-digits Inv-loop μ-loop
@@ -52,9 +54,9 @@ returns : tie.Need-returns Inv-loop μ-loop
 returns c =
     let f = c .before .before in
     let d = f .before .before .before .before in
-    let o = d .before .before in
+    let o = d .before in
     let a = o .before .before .args in
-    let e = last-written (o .loop .digits) (o .loop .left) (d .digit .result) (d .digit .ensures) (o .loop .from) (d .before .loop-test .taken) (omega arith) (f .before .before .before .if1 .taken) ∙ o .loop .inv .3 in
+    let e = last-written (o .loop .digits) (o .loop .left) (48 + o .loop .left % 10) refl (o .loop .from) (d .loop-test .taken) (omega arith) (f .before .before .before .if1 .taken) ∙ o .loop .inv .3 in
     decimal-put (now (a .out)) (a .at) (a .n) (f .put-from .ensures .0) (f .put-from .ensures .1) e (o .loop .inv .0)
 
 -- src/lib.rt:54:5
@@ -65,11 +67,11 @@ loop-less c = omega arith
 loop-again : tie.Need-loop-again Inv-loop μ-loop
 loop-again c =
     let d = c .before in
-    let o = d .before .before in (
+    let o = d .before in (
       o .loop .inv .0,
       omega arith,
       simp length-set (o .loop .inv .2),
-      one-written (o .loop .digits) (o .loop .left) (d .digit .result) (d .digit .ensures) (o .loop .from) (d .before .loop-test .taken) (omega arith) (c .if1 .left) ∙ o .loop .inv .3,
+      one-written (o .loop .digits) (o .loop .left) (48 + o .loop .left % 10) refl (o .loop .from) (d .loop-test .taken) (omega arith) (c .if1 .left) ∙ o .loop .inv .3,
     )
 
 -- src/lib.rt:62:23
@@ -101,7 +103,8 @@ put-decimal-spec =
     μ-loop
     loop-holds
     sub-from
-    digit-requires
+    cast-digits
+    add-digits
     array-write-digits
     slice-aggregate-put-from
     put-from-requires
