@@ -2,3 +2,4 @@ pub mod Choice
 pub mod Sweep
 pub mod Negs
 pub mod Lists
+pub mod Joined

@@ -1,0 +1,3 @@
+pub mod Contents
+pub mod Written
+pub mod Calls
