@@ -1,0 +1,77 @@
+-- A call on contents, and that calls of different accounts do not touch each other there.
+-- Assumes nothing.
+use mathlib.Core.Path.{_≡_, refl, sym, _∙_, ap}
+use mathlib.Core.Bool.{true, false}
+use mathlib.Core.List.{List, []}
+use Prim.Native.Nat.{ℕ, _-_, _≤_}
+use native.Mathlib.Omega.{arith}
+use lib.Dec.{leb}
+use borrow.Author.Tests.{leb-true}
+use lib.ListN.{getD, set}
+use lib.Seq.{getD-set-other, set-comm}
+use Rattle.laws.specs.Choice.{pick, both, choose, both-parts}
+use Rattle.answers.specs.Answers.{badAccount}
+use Rattle.contents.specs.Contents.{Record, Contents}
+use Rattle.contents.specs.Calls.{View, isAccount, viewOf, withRecords}
+use Rattle.shuffle.specs.Calls.{Apart}
+use Rattle.shuffle.specs.Register.{Ask, Reply, answerBy, recordsBy, lentBy, outputBy}
+
+-- what the call of an account leaves of the contents, and its reply
+abbrev pub insideBy : Contents → ℕ × Ask → Contents × Reply
+insideBy c d =
+    (withRecords c (d .0) (recordsBy (d .1) (viewOf c (d .0))),
+    record { answer = answerBy (d .1) (viewOf c (d .0)); output = outputBy (d .1) (viewOf c (d .0)) })
+
+-- a number that is no account's gets 2, and nothing changes
+abbrev pub noAccount : Contents → ℕ × Ask → Contents × Reply
+noAccount c d = (c, record { answer = badAccount; output = lentBy (d .1) })
+
+unfoldable pub inside : Contents → ℕ × Ask → Contents × Reply
+inside c d = pick (isAccount (d .0)) (insideBy c d) (noAccount c d)
+
+-- ---- different accounts
+
+pub positive : (a : ℕ) → isAccount a ≡ true → 1 ≤ a
+positive a p = leb-true 1 a (both-parts (leb 1 a) (leb a 8) p .0)
+
+module _ (c : Contents) (a d : ℕ) (p : isAccount a ≡ true) (q : isAccount d ≡ true) (n : a ≡ d → ⊥) where
+  places-differ : a - 1 ≡ d - 1 → ⊥
+  places-differ e =
+      let h = positive a p in
+      let k = positive d q in
+      n (omega arith)
+
+  pub view-apart : (rs : List Record) → viewOf (withRecords c a rs) d ≡ viewOf c d
+  unfolding viewOf withRecords
+  view-apart rs = rw (getD-set-other (c .accounts) (a - 1) (d - 1) rs [] (λ e. places-differ (sym e)))
+
+  pub records-apart : (rs qs : List Record) → withRecords (withRecords c a rs) d qs ≡ withRecords (withRecords c d qs) a rs
+  unfolding withRecords
+  records-apart rs qs = rw (set-comm (c .accounts) (a - 1) (d - 1) rs qs places-differ)
+
+pub inside-yes : (c : Contents) (d : ℕ × Ask) → isAccount (d .0) ≡ true → inside c d ≡ insideBy c d
+unfolding inside
+inside-yes c d p = rw (inside, p)
+
+pub inside-no : (c : Contents) (d : ℕ × Ask) → isAccount (d .0) ≡ false → inside c d ≡ noAccount c d
+unfolding inside
+inside-no c d p = rw (inside, p)
+
+pub inside-apart : Apart inside
+inside-apart s c d n =
+    choose (isAccount (c .0))
+    (λ p.
+    choose (isAccount (d .0))
+    (λ q. both-accounts p q)
+    (λ q. (rw (inside-yes s c p, inside-no s d q, inside-no (insideBy s c .0) d q, inside-yes s c p), rw (inside-yes s c p, inside-no s d q, inside-no (insideBy s c .0) d q))))
+    (λ p. (rw (inside-no s c p, inside-no (inside s d .0) c p), rw (inside-no s c p)))
+  where
+    both-accounts : isAccount (c .0) ≡ true → isAccount (d .0) ≡ true → (inside (inside s c .0) d .0 ≡ inside (inside s d .0) c .0) × (inside (inside s c .0) d .1 ≡ inside s d .1)
+    both-accounts p q =
+        let v = view-apart s (c .0) (d .0) p q n (recordsBy (c .1) (viewOf s (c .0))) in
+        let w = view-apart s (d .0) (c .0) q p (λ e. n (sym e)) (recordsBy (d .1) (viewOf s (d .0))) in
+        (
+          rw (inside-yes s c p, inside-yes s d q, inside-yes (insideBy s c .0) d q, inside-yes (insideBy s d .0) c p, v, w)
+          (records-apart s (c .0) (d .0) p q n (recordsBy (c .1) (viewOf s (c .0))) (recordsBy (d .1) (viewOf s (d .0)))),
+          rw (inside-yes s c p, inside-yes s d q, inside-yes (insideBy s c .0) d q, v),
+        )
