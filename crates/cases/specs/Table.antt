@@ -17,6 +17,13 @@ use Rattle.dates.specs.declared.Date.{Date}
 use Rattle.period.specs.Period.{periodOf, paperNumber, runsIn}
 use Rattle.period.specs.declared.Period.{Period}
 use Rattle.period.specs.declared.Period.the-variants.{Good, Wrong}
+use Rattle.values.specs.Values.{sameText}
+use Rattle.answers.specs.Answers as answer
+use Rattle.answers.specs.Answers.{Answer}
+use Rattle.contents.specs.Contents.{Contents, good}
+use Rattle.contents.specs.Written.{roomsBytes}
+use Rattle.shuffle.specs.Register.{Ask, Reply}
+use Rattle.shuffle.specs.InContents.{inContents}
 
 -- which days of a period run
 pub data Days : Type 0 where
@@ -28,9 +35,10 @@ pub data Outcome : Type 0 where
   refused : ℕ → Outcome
   period : Date → Date → ℕ → Days → Outcome
 
--- a POP as it is written, with its terminator, and what is to come of it. The cases of the register will be rows of other kinds.
+-- a POP as it is written, with its terminator, and what is to come of it; or a register's contents, a call of an account, and its answer
 pub data Case : Type 0 where
   pop : String → Outcome → Case
+  call : Contents → ℕ × Ask → Answer ℕ → Case
 
 abbrev numbers : List Date → List ℕ
 numbers [] = []
@@ -56,7 +64,23 @@ comesOf g (Good f m form) (period first last n days) =
     (both (eqb (f + m) (suc (number last)))
     (both (eqb m n) (below (λ k. same (runsIn g (Good f m form) k) (expected days (f + k))) m)))
 
+-- the same number, position and value
+unfoldable pub sameAnswer : Answer ℕ → Answer ℕ → Bool
+sameAnswer (answer.done x) (answer.done y) = eqb x y
+sameAnswer (answer.done x) (answer.refused m j) = false
+sameAnswer (answer.refused n i) (answer.done y) = false
+sameAnswer (answer.refused n i) (answer.refused m j) = both (eqb n m) (eqb i j)
+
+-- a call that is refused leaves the bytes of all rooms as they were
+unfoldable pub keeps : Contents → Contents → Answer ℕ → Bool
+keeps c d (answer.done x) = true
+keeps c d (answer.refused n i) = sameText (roomsBytes (c .quotas) (c .accounts)) (roomsBytes (d .quotas) (d .accounts))
+
+unfoldable pub callHolds : Contents → Contents × Reply → Answer ℕ → Bool
+callHolds c w a = both (good c) (both (sameAnswer (w .1 .answer) a) (keeps c (w .0) a))
+
 unfoldable pub holds : Case → Bool
+holds (call c d a) = callHolds c (inContents c d) a
 holds (pop text outcome) =
     both (whole (length (bytes text)) (segmentAt (bytes text) 0))
     (comesOf (bodyAt (bytes text) 0) (periodOf (bodyAt (bytes text) 0)) outcome)

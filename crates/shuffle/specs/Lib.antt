@@ -2,5 +2,5 @@ pub mod Calls
 pub mod Order
 pub mod Buffer
 pub mod Register
-pub mod Inside
+pub mod InContents
 pub mod Theorems

@@ -49,6 +49,7 @@ outputBy (show k out) v = showBytes k out v
 
 -- a call, an account and what it asks, on a buffer, any buffer: the buffer afterwards and the reply
 unfoldable pub called : List ℕ → ℕ × Ask → List ℕ × Reply
-called b c =
-    (bytesAfter b (c .0) (recordsBy (c .1)),
-    record { answer = answerOn b (c .0) (answerBy (c .1)); output = outputAfter b (c .0) (lentBy (c .1)) (outputBy (c .1)) })
+called b c = (
+  bytesAfter b (c .0) (recordsBy (c .1)),
+  record { answer = answerOn b (c .0) (answerBy (c .1)); output = outputAfter b (c .0) (lentBy (c .1)) (outputBy (c .1)) },
+)

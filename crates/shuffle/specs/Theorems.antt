@@ -15,7 +15,7 @@ use Rattle.shuffle.specs.Calls.{own, SameForEach, replies, left, Apart, 
 use Rattle.shuffle.specs.Buffer.{onState, onBuffer, buffer-apart, buffer-any-order}
 use Rattle.shuffle.specs.Order.{any-order}
 use Rattle.shuffle.specs.Register.{Ask, Reply, answerBy, recordsBy, lentBy, outputBy, called}
-use Rattle.shuffle.specs.Inside.{inside, insideBy, noAccount, inside-yes, inside-no, inside-apart}
+use Rattle.shuffle.specs.InContents.{inContents, byView, noAccount, in-yes, in-no, in-apart}
 
 -- what a buffer holds, where it is a register
 unfoldable registerIn : List ℕ → Option Contents
@@ -35,21 +35,21 @@ module _
     (held-written : (c : Contents) → good c ≡ true → held (written c) ≡ c)
     (register-told : (b : List ℕ) → isRegister b ≡ true → (good (held b) ≡ true) × (written (held b) ≡ b))
     (register-when : (c : Contents) → good c ≡ true → isRegister (written c) ≡ true)
-    (stays : (c : Contents) (d : ℕ × Ask) → good c ≡ true → isAccount (d .0) ≡ true → good (insideBy c d .0) ≡ true)
+    (stays : (c : Contents) (d : ℕ × Ask) → good c ≡ true → isAccount (d .0) ≡ true → good (byView c d .0) ≡ true)
   where
     -- a call on a buffer is the call on what it holds, written
-    called-is : (b : List ℕ) (d : ℕ × Ask) → called b d ≡ onBuffer registerIn written inside refusedAll b d
+    called-is : (b : List ℕ) (d : ℕ × Ask) → called b d ≡ onBuffer registerIn written inContents refusedAll b d
     unfolding called onBuffer registerIn answerOn bytesAfter outputAfter
     called-is b d =
         choose (isRegister b)
         (λ p.
         choose (isAccount (d .0))
-        (λ q. rw (called, p, q, inside-yes (held b) d q))
-        (λ q. rw (called, p, q, inside-no (held b) d q, register-told b p .1)))
+        (λ q. rw (called, p, q, in-yes (held b) d q))
+        (λ q. rw (called, p, q, in-no (held b) d q, register-told b p .1)))
         (λ p. rw (called, p))
 
-    good-inside : (c : Contents) (d : ℕ × Ask) → good c ≡ true → good (inside c d .0) ≡ true
-    good-inside c d g = choose (isAccount (d .0)) (λ q. rw (inside-yes c d q) (stays c d g q)) (λ q. rw (inside-no c d q) g)
+    good-after : (c : Contents) (d : ℕ × Ask) → good c ≡ true → good (inContents c d .0) ≡ true
+    good-after c d g = choose (isAccount (d .0)) (λ q. rw (in-yes c d q) (stays c d g q)) (λ q. rw (in-no c d q) g)
 
     good-read : (b : List ℕ) (c : Contents) → registerIn b ≡ some c → good c ≡ true
     unfolding registerIn
@@ -62,13 +62,13 @@ module _
     unfolding registerIn
     read-written c g = rw (register-when c g, held-written c g)
 
-    again : (b : List ℕ) (c : Contents) (d : ℕ × Ask) → registerIn b ≡ some c → registerIn (written (inside c d .0)) ≡ some (inside c d .0)
-    again b c d q = read-written (inside c d .0) (good-inside c d (good-read b c q))
+    again : (b : List ℕ) (c : Contents) (d : ℕ × Ask) → registerIn b ≡ some c → registerIn (written (inContents c d .0)) ≡ some (inContents c d .0)
+    again b c d q = read-written (inContents c d .0) (good-after c d (good-read b c q))
 
     pub called-apart : Apart called
     called-apart b c d n =
-        let w = buffer-apart registerIn written inside refusedAll again inside-apart b c d n in
-        rw (called-is b c, called-is b d, called-is (onBuffer registerIn written inside refusedAll b c .0) d, called-is (onBuffer registerIn written inside refusedAll b d .0) c) w
+        let w = buffer-apart registerIn written inContents refusedAll again in-apart b c d n in
+        rw (called-is b c, called-is b d, called-is (onBuffer registerIn written inContents refusedAll b c .0) d, called-is (onBuffer registerIn written inContents refusedAll b d .0) c) w
 
     pub shuffled : AnyOrder called
     shuffled = any-order called called-apart
@@ -87,19 +87,19 @@ module _
     module _ (view-same : (c : Contents) (a : ℕ) (rs : List Record) → good c ≡ true → isAccount a ≡ true → viewOf (withRecords c a rs) a ≡ record { first = viewOf c a .first; quota = viewOf c a .quota; records = rs }) where
       after-register : (b : List ℕ) (d : ℕ × Ask) → isRegister b ≡ true → isRegister (called b d .0) ≡ true
       unfolding onBuffer registerIn
-      after-register b d p = rw (called-is b d, p) (register-when (inside (held b) d .0) (good-inside (held b) d (register-told b p .0)))
+      after-register b d p = rw (called-is b d, p) (register-when (inContents (held b) d .0) (good-after (held b) d (register-told b p .0)))
 
-      after-held : (b : List ℕ) (d : ℕ × Ask) → isRegister b ≡ true → held (called b d .0) ≡ inside (held b) d .0
+      after-held : (b : List ℕ) (d : ℕ × Ask) → isRegister b ≡ true → held (called b d .0) ≡ inContents (held b) d .0
       unfolding onBuffer registerIn
-      after-held b d p = rw (called-is b d, p) (held-written (inside (held b) d .0) (good-inside (held b) d (register-told b p .0)))
+      after-held b d p = rw (called-is b d, p) (held-written (inContents (held b) d .0) (good-after (held b) d (register-told b p .0)))
 
       own-view : (a : ℕ) (b : List ℕ) (x : Ask) → isRegister b ≡ true → viewOf (held (called b (a, x) .0)) a ≡ pick (isAccount a) (viewAfter a (viewOf (held b) a) x) (viewOf (held b) a)
       unfolding viewAfter
       own-view a b x p =
           ap (λ (c : Contents). viewOf c a) (after-held b (a, x) p)
           ∙ choose (isAccount a)
-          (λ q. rw (inside-yes (held b) (a, x) q, q) (view-same (held b) a (recordsBy x (viewOf (held b) a)) (register-told b p .0) q))
-          (λ q. rw (inside-no (held b) (a, x) q, q))
+          (λ q. rw (in-yes (held b) (a, x) q, q) (view-same (held b) a (recordsBy x (viewOf (held b) a)) (register-told b p .0) q))
+          (λ q. rw (in-no (held b) (a, x) q, q))
 
       -- two registers that are the same to an account, whatever the others hold: its calls get the same replies, and it finds them the same afterwards
       pub nothing-learnt : (a : ℕ) (b c : List ℕ) → isRegister b ≡ true → isRegister c ≡ true → viewOf (held b) a ≡ viewOf (held c) a → (x : Ask)

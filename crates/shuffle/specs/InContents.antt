@@ -17,17 +17,18 @@ use Rattle.shuffle.specs.Calls.{Apart}
 use Rattle.shuffle.specs.Register.{Ask, Reply, answerBy, recordsBy, lentBy, outputBy}
 
 -- what the call of an account leaves of the contents, and its reply
-abbrev pub insideBy : Contents → ℕ × Ask → Contents × Reply
-insideBy c d =
-    (withRecords c (d .0) (recordsBy (d .1) (viewOf c (d .0))),
-    record { answer = answerBy (d .1) (viewOf c (d .0)); output = outputBy (d .1) (viewOf c (d .0)) })
+abbrev pub byView : Contents → ℕ × Ask → Contents × Reply
+byView c d = (
+  withRecords c (d .0) (recordsBy (d .1) (viewOf c (d .0))),
+  record { answer = answerBy (d .1) (viewOf c (d .0)); output = outputBy (d .1) (viewOf c (d .0)) },
+)
 
 -- a number that is no account's gets 2, and nothing changes
 abbrev pub noAccount : Contents → ℕ × Ask → Contents × Reply
 noAccount c d = (c, record { answer = badAccount; output = lentBy (d .1) })
 
-unfoldable pub inside : Contents → ℕ × Ask → Contents × Reply
-inside c d = pick (isAccount (d .0)) (insideBy c d) (noAccount c d)
+unfoldable pub inContents : Contents → ℕ × Ask → Contents × Reply
+inContents c d = pick (isAccount (d .0)) (byView c d) (noAccount c d)
 
 -- ---- different accounts
 
@@ -49,29 +50,28 @@ module _ (c : Contents) (a d : ℕ) (p : isAccount a ≡ true) (q : isAccount d 
   unfolding withRecords
   records-apart rs qs = rw (set-comm (c .accounts) (a - 1) (d - 1) rs qs places-differ)
 
-pub inside-yes : (c : Contents) (d : ℕ × Ask) → isAccount (d .0) ≡ true → inside c d ≡ insideBy c d
-unfolding inside
-inside-yes c d p = rw (inside, p)
+pub in-yes : (c : Contents) (d : ℕ × Ask) → isAccount (d .0) ≡ true → inContents c d ≡ byView c d
+unfolding inContents
+in-yes c d p = rw (inContents, p)
 
-pub inside-no : (c : Contents) (d : ℕ × Ask) → isAccount (d .0) ≡ false → inside c d ≡ noAccount c d
-unfolding inside
-inside-no c d p = rw (inside, p)
+pub in-no : (c : Contents) (d : ℕ × Ask) → isAccount (d .0) ≡ false → inContents c d ≡ noAccount c d
+unfolding inContents
+in-no c d p = rw (inContents, p)
 
-pub inside-apart : Apart inside
-inside-apart s c d n =
+pub in-apart : Apart inContents
+in-apart s c d n =
     choose (isAccount (c .0))
     (λ p.
     choose (isAccount (d .0))
     (λ q. both-accounts p q)
-    (λ q. (rw (inside-yes s c p, inside-no s d q, inside-no (insideBy s c .0) d q, inside-yes s c p), rw (inside-yes s c p, inside-no s d q, inside-no (insideBy s c .0) d q))))
-    (λ p. (rw (inside-no s c p, inside-no (inside s d .0) c p), rw (inside-no s c p)))
+    (λ q. (rw (in-yes s c p, in-no s d q, in-no (byView s c .0) d q, in-yes s c p), rw (in-yes s c p, in-no s d q, in-no (byView s c .0) d q))))
+    (λ p. (rw (in-no s c p, in-no (inContents s d .0) c p), rw (in-no s c p)))
   where
-    both-accounts : isAccount (c .0) ≡ true → isAccount (d .0) ≡ true → (inside (inside s c .0) d .0 ≡ inside (inside s d .0) c .0) × (inside (inside s c .0) d .1 ≡ inside s d .1)
+    both-accounts : isAccount (c .0) ≡ true → isAccount (d .0) ≡ true → (inContents (inContents s c .0) d .0 ≡ inContents (inContents s d .0) c .0) × (inContents (inContents s c .0) d .1 ≡ inContents s d .1)
     both-accounts p q =
         let v = view-apart s (c .0) (d .0) p q n (recordsBy (c .1) (viewOf s (c .0))) in
-        let w = view-apart s (d .0) (c .0) q p (λ e. n (sym e)) (recordsBy (d .1) (viewOf s (d .0))) in
-        (
-          rw (inside-yes s c p, inside-yes s d q, inside-yes (insideBy s c .0) d q, inside-yes (insideBy s d .0) c p, v, w)
-          (records-apart s (c .0) (d .0) p q n (recordsBy (c .1) (viewOf s (c .0))) (recordsBy (d .1) (viewOf s (d .0)))),
-          rw (inside-yes s c p, inside-yes s d q, inside-yes (insideBy s c .0) d q, v),
+        let w = view-apart s (d .0) (c .0) q p (λ e. n (sym e)) (recordsBy (d .1) (viewOf s (d .0))) in (
+          rw (in-yes s c p, in-yes s d q, in-yes (byView s c .0) d q, in-yes (byView s d .0) c p, v, w)
+              (records-apart s (c .0) (d .0) p q n (recordsBy (c .1) (viewOf s (c .0))) (recordsBy (d .1) (viewOf s (d .0)))),
+          rw (in-yes s c p, in-yes s d q, in-yes (byView s c .0) d q, v),
         )
