@@ -28,10 +28,12 @@ module _ (c : Contents) (q : good c ≡ true) where
   pub good-window : goodWindow (c .first) ≡ true
   good-window = good-parts .0
 
+  pub good-quotas : goodQuotas (c .quotas) ≡ true
+  good-quotas = both-parts (goodQuotas (c .quotas)) (goodAccounts (c .quotas) (c .accounts)) (good-parts .1) .0
+
   quotas-parts : (eqb (length (c .quotas)) 8 ≡ true) × (leb (total (c .quotas)) 256 ≡ true)
   unfolding goodQuotas
-  quotas-parts =
-      both-parts (eqb (length (c .quotas)) 8) (leb (total (c .quotas)) 256) (both-parts (goodQuotas (c .quotas)) (goodAccounts (c .quotas) (c .accounts)) (good-parts .1) .0)
+  quotas-parts = both-parts (eqb (length (c .quotas)) 8) (leb (total (c .quotas)) 256) good-quotas
 
   pub good-eight : length (c .quotas) ≡ 8
   good-eight = eqb-true (length (c .quotas)) 8 (quotas-parts .0)
