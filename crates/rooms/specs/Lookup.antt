@@ -3,7 +3,7 @@
 use mathlib.Core.Path.{_≡_, refl, sym, _∙_, ap, subst}
 use mathlib.Core.Bool.{Bool, true, false}
 use mathlib.Core.Option.{Option, none, some}
-use mathlib.Core.List.{List, [], _∷_}
+use mathlib.Core.List.{List, [], _∷_, _++_}
 use Prim.Native.Nat.{ℕ}
 use native.Mathlib.Omega.{arith}
 use Rattle.laws.specs.Choice.{pick, both, all, choose, both-parts, false≢true}
@@ -15,7 +15,7 @@ use Rattle.slots.specs.Rising.{isBefore}
 use Rattle.records.specs.Order.{after≢before, before-trans, before-flip, after-flip}
 use Rattle.records.specs.Found.{is-before}
 use Rattle.contents.specs.Contents.{Record, goodNumber, goodRecord, comesBefore, beforeNext, inOrder}
-use Rattle.contents.specs.Calls.{lookup}
+use Rattle.contents.specs.Calls.{lookup, listed, changed}
 use Rattle.rooms.specs.Order.{isSame, before-order, same-order, same-told, same-itself}
 use Rattle.rooms.specs.Slots.{record-number}
 
@@ -93,6 +93,33 @@ lookup-bad x rs g b = go (lookup x rs) refl
     go none e = e
     go (some r) e =
         absurd (false≢true (sym b ∙ ap goodNumber (sym (lookup-number x rs r e)) ∙ record-number r (lookup-all goodRecord x rs r g e)))
+
+-- ---- the first record's part in what is looked up and in what is changed
+
+module _ (x : List ℕ) (r : Record) (rs : List Record) where
+  pub lookup-passed : orderOf (r .number) x ≡ Before → lookup x (r ∷ rs) ≡ lookup x rs
+  unfolding lookup
+  lookup-passed e = rw (same-by (r .number) x Before e)
+
+  pub lookup-found : orderOf (r .number) x ≡ Same → lookup x (r ∷ rs) ≡ some r
+  unfolding lookup
+  lookup-found e = rw (same-by (r .number) x Same e)
+
+  pub lookup-gap : inOrder (r ∷ rs) ≡ true → orderOf (r .number) x ≡ After → lookup x (r ∷ rs) ≡ none
+  lookup-gap w e = lookup-before x r rs w (after-flip (r .number) x e)
+
+  module _ (f : Option Record → Option Record) where
+    pub changed-passed : orderOf (r .number) x ≡ Before → changed x f (r ∷ rs) ≡ r ∷ changed x f rs
+    unfolding changed
+    changed-passed e = rw (same-by (r .number) x Before e, before-by x (r .number) After (before-flip (r .number) x e))
+
+    pub changed-found : orderOf (r .number) x ≡ Same → changed x f (r ∷ rs) ≡ listed (f (some r)) ++ rs
+    unfolding changed
+    changed-found e = rw (same-by (r .number) x Same e)
+
+    pub changed-gap : orderOf (r .number) x ≡ After → changed x f (r ∷ rs) ≡ listed (f none) ++ (r ∷ rs)
+    unfolding changed
+    changed-gap e = rw (same-by (r .number) x After e, before-by x (r .number) Before (after-flip (r .number) x e))
 
 -- ---- the law
 
