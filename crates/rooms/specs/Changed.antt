@@ -1,0 +1,157 @@
+-- Records in order with that of one number changed: in order, good, counted, number by number, and in either order of two changes.
+-- Assumes nothing.
+use mathlib.Core.Path.{_≡_, refl, sym, _∙_, ap, subst}
+use mathlib.Core.Bool.{Bool, true, false}
+use mathlib.Core.Option.{Option, none, some}
+use mathlib.Core.List.{List, [], _∷_, _++_, append-nil}
+use Prim.Native.Nat.{ℕ, suc, _+_}
+use native.Mathlib.Omega.{arith}
+use lib.ListN.{length, length-append}
+use Rattle.laws.specs.Choice.{pick, both, all, choose, both-parts}
+use Rattle.values.specs.Values.{sameText}
+use Rattle.slots.specs.declared.Order.{Order}
+use Rattle.slots.specs.declared.Order.the-variants.{Before, Same, After}
+use Rattle.slots.specs.Order.{orderOf}
+use Rattle.records.specs.Order.{same-text, after-flip}
+use Rattle.contents.specs.Contents.{Record, goodRecord, comesBefore, beforeNext, inOrder}
+use Rattle.contents.specs.Calls.{lookup, listed, changed}
+use Rattle.rooms.specs.Order.{same-told, same-when, same-not, not-same}
+use Rattle.rooms.specs.Lookup.{same-lookup, before-by, before-told, before-through, tail-order, next-before, lookup-before, lookup-first, lookup-passed, lookup-found, lookup-gap, changed-passed, changed-found, changed-gap}
+
+-- a change keeps the number: what it comes to, if anything, has it
+abbrev pub Keeps : List ℕ → Option Record → Type 0
+Keeps x none = Unit {0}
+Keeps x (some r) = r .number ≡ x
+
+-- whether a test holds of what it comes to
+abbrev pub passes : (Record → Bool) → Option Record → Bool
+passes g none = true
+passes g (some r) = g r
+
+abbrev pub countOf : Option Record → ℕ
+countOf none = 0
+countOf (some r) = 1
+
+-- ---- what a change comes to, before other records
+
+-- whether a number comes before the first record's
+abbrev beforeFirst : List ℕ → List Record → Bool
+beforeFirst x [] = true
+beforeFirst x (q ∷ rs) = comesBefore x (q .number)
+
+next-first : (r : Record) (rs : List Record) → beforeNext r rs ≡ beforeFirst (r .number) rs
+next-first r [] = refl
+next-first r (q ∷ rs) = refl
+
+module _ (x : List ℕ) (t : List Record) where
+  look-same : (o : Option Record) → Keeps x o → lookup x t ≡ none → lookup x (listed o ++ t) ≡ o
+  unfolding lookup
+  look-same none k e = e
+  look-same (some r) k e = rw (same-when (r .number) x k)
+
+  look-other : (y : List ℕ) (o : Option Record) → Keeps x o → (x ≡ y → ⊥) → lookup y (listed o ++ t) ≡ lookup y t
+  unfolding lookup
+  look-other y none k n = refl
+  look-other y (some r) k n = rw (same-not (r .number) y (λ e. n (sym k ∙ e)))
+
+  order-listed : (o : Option Record) → Keeps x o → beforeFirst x t ≡ true → inOrder t ≡ true → inOrder (listed o ++ t) ≡ true
+  unfolding inOrder
+  order-listed none k b w = w
+  order-listed (some r) k b w = rw (next-first r t, k, b) w
+
+  front-listed : (y : List ℕ) (o : Option Record) → Keeps x o → orderOf y x ≡ Before → beforeFirst y t ≡ true → beforeFirst y (listed o ++ t) ≡ true
+  front-listed y none k b e = e
+  front-listed y (some r) k b e = rw k (before-by y x Before b)
+
+look-on : (y : List ℕ) (r : Record) (l rs : List Record) → lookup y l ≡ lookup y rs → lookup y (r ∷ l) ≡ lookup y (r ∷ rs)
+unfolding lookup
+look-on y r l rs e = rw e
+
+look-none : (x : List ℕ) → lookup x [] ≡ none
+unfolding lookup
+look-none x = refl
+
+all-listed : (g : Record → Bool) (o : Option Record) (t : List Record) → passes g o ≡ true → all g t ≡ true → all g (listed o ++ t) ≡ true
+all-listed g none t p q = q
+all-listed g (some r) t p q = rw (p, q)
+
+length-listed : (o : Option Record) (t : List Record) → length (listed o ++ t) ≡ countOf o + length t
+length-listed none t = omega arith
+length-listed (some r) t = omega arith
+
+first-after : (r : Record) (rs : List Record) → inOrder (r ∷ rs) ≡ true → beforeFirst (r .number) rs ≡ true
+unfolding inOrder
+first-after r rs w = sym (next-first r rs) ∙ both-parts (beforeNext r rs) (inOrder rs) w .0
+
+skip-first : (y : List ℕ) (p : Record) (rs : List Record) → inOrder (p ∷ rs) ≡ true → orderOf y (p .number) ≡ Before → beforeFirst y rs ≡ true
+skip-first y p [] w b = refl
+skip-first y p (q ∷ rs) w b = before-by y (q .number) Before (before-through y (p .number) (q .number) b (next-before p q rs w))
+
+-- ---- by cases of where the number's place is
+
+-- what holds of records, the one looked up, and the changed records, holds of all if it does where the number's place is at the end, at the
+-- first record and before it, and where it goes on from the rest to a first record that comes before
+module _
+    (x : List ℕ)
+    (f : Option Record → Option Record)
+    (P : List Record → Option Record → List Record → Type 0)
+    (ended : P [] none (listed (f none) ++ []))
+    (found : (r : Record) (rs : List Record) → inOrder (r ∷ rs) ≡ true → r .number ≡ x → P (r ∷ rs) (some r) (listed (f (some r)) ++ rs))
+    (gap : (r : Record) (rs : List Record) → inOrder (r ∷ rs) ≡ true → orderOf x (r .number) ≡ Before → P (r ∷ rs) none (listed (f none) ++ (r ∷ rs)))
+    (passed : (r : Record) (rs : List Record) (o : Option Record) (l : List Record) → inOrder (r ∷ rs) ≡ true → orderOf (r .number) x ≡ Before → P rs o l → P (r ∷ rs) o (r ∷ l))
+  where
+    here : (r : Record) (rs : List Record) → inOrder (r ∷ rs) ≡ true → P rs (lookup x rs) (changed x f rs) → (o : Order) → orderOf (r .number) x ≡ o
+        → P (r ∷ rs) (lookup x (r ∷ rs)) (changed x f (r ∷ rs))
+    here r rs w ih Before e = rw (lookup-passed x r rs e, changed-passed x r rs f e) (passed r rs (lookup x rs) (changed x f rs) w e ih)
+    here r rs w ih Same e = rw (lookup-found x r rs e, changed-found x r rs f e) (found r rs w (same-text (r .number) x e))
+    here r rs w ih After e = rw (lookup-gap x r rs w e, changed-gap x r rs f e) (gap r rs w (after-flip (r .number) x e))
+
+    by-place : (rs : List Record) → inOrder rs ≡ true → P rs (lookup x rs) (changed x f rs)
+    unfolding lookup changed
+    by-place [] w = subst (P [] none) (append-nil (listed (f none))) ended
+    by-place (r ∷ rs) w = here r rs w (by-place rs (tail-order r rs w)) (orderOf (r .number) x) refl
+
+-- ---- the laws
+
+module _ (x : List ℕ) (f : Option Record → Option Record) where
+  pub lookup-changed-same : (rs : List Record) → inOrder rs ≡ true → Keeps x (f (lookup x rs)) → lookup x (changed x f rs) ≡ f (lookup x rs)
+  lookup-changed-same =
+      by-place x f (λ rs o l. Keeps x (f o) → lookup x l ≡ f o)
+      (λ k. look-same x [] (f none) k (look-none x))
+      (λ r rs w e k. look-same x rs (f (some r)) k (ap (λ (y : List ℕ). lookup y rs) (sym e) ∙ lookup-first r rs w))
+      (λ r rs w e k. look-same x (r ∷ rs) (f none) k (lookup-before x r rs w e))
+      (λ r rs o l w e ih k. lookup-passed x r l e ∙ ih k)
+
+  pub lookup-changed-other : (y : List ℕ) → (x ≡ y → ⊥) → (rs : List Record) → inOrder rs ≡ true → Keeps x (f (lookup x rs)) → lookup y (changed x f rs) ≡ lookup y rs
+  lookup-changed-other y n =
+      by-place x f (λ rs o l. Keeps x (f o) → lookup y l ≡ lookup y rs)
+      (λ k. look-other x [] y (f none) k n)
+      (λ r rs w e k. look-other x rs y (f (some r)) k n ∙ sym (look-other x rs y (some r) e n))
+      (λ r rs w e k. look-other x (r ∷ rs) y (f none) k n)
+      (λ r rs o l w e ih k. look-on y r l rs (ih k))
+
+  -- what is looked up afterwards
+  pub lookup-changed : (y : List ℕ) (rs : List Record) → inOrder rs ≡ true → Keeps x (f (lookup x rs)) → lookup y (changed x f rs) ≡ pick (sameText x y) (f (lookup x rs)) (lookup y rs)
+  lookup-changed y rs w k =
+      choose (sameText x y)
+      (λ t. rw t (ap (λ (z : List ℕ). lookup z (changed x f rs)) (sym (same-told x y t)) ∙ lookup-changed-same rs w k))
+      (λ t. rw t (lookup-changed-other y (not-same x y t) rs w k))
+
+  pub changed-all : (g : Record → Bool) (rs : List Record) → inOrder rs ≡ true → all g rs ≡ true → passes g (f (lookup x rs)) ≡ true → all g (changed x f rs) ≡ true
+  changed-all g =
+      by-place x f (λ rs o l. all g rs ≡ true → passes g (f o) ≡ true → all g l ≡ true)
+      (λ a p. all-listed g (f none) [] p refl)
+      (λ r rs w e a p. all-listed g (f (some r)) rs p (both-parts (g r) (all g rs) a .1))
+      (λ r rs w e a p. all-listed g (f none) (r ∷ rs) p a)
+      (λ r rs o l w e ih a p. let v = both-parts (g r) (all g rs) a in rw (v .0) (ih (v .1) p))
+
+  pub changed-good : (rs : List Record) → inOrder rs ≡ true → all goodRecord rs ≡ true → passes goodRecord (f (lookup x rs)) ≡ true → all goodRecord (changed x f rs) ≡ true
+  changed-good = changed-all goodRecord
+
+  pub changed-length : (rs : List Record) → inOrder rs ≡ true → length (changed x f rs) + countOf (lookup x rs) ≡ length rs + countOf (f (lookup x rs))
+  changed-length =
+      by-place x f (λ rs o l. length l + countOf o ≡ length rs + countOf (f o))
+      (rw (length-listed (f none) []) (omega arith))
+      (λ r rs w e. rw (length-listed (f (some r)) rs) (omega arith))
+      (λ r rs w e. rw (length-listed (f none) (r ∷ rs)) (omega arith))
+      (λ r rs o l w e ih. omega arith)
