@@ -1,18 +1,13 @@
 -- A call on contents, and that calls of different accounts do not touch each other there.
 -- Assumes nothing.
-use mathlib.Core.Path.{_≡_, refl, sym, _∙_, ap}
+use mathlib.Core.Path.{_≡_, sym}
 use mathlib.Core.Bool.{true, false}
-use mathlib.Core.List.{List, []}
-use Prim.Native.Nat.{ℕ, _-_, _≤_}
-use native.Mathlib.Omega.{arith}
-use lib.Dec.{leb}
-use borrow.Author.Tests.{leb-true}
-use lib.ListN.{getD, set}
-use lib.Seq.{getD-set-other, set-comm}
-use Rattle.laws.specs.Choice.{pick, both, choose, both-parts}
+use Prim.Native.Nat.{ℕ}
+use Rattle.laws.specs.Choice.{pick, choose}
 use Rattle.answers.specs.Answers.{badAccount}
-use Rattle.contents.specs.Contents.{Record, Contents}
-use Rattle.contents.specs.Calls.{View, isAccount, viewOf, withRecords}
+use Rattle.contents.specs.Contents.{Contents}
+use Rattle.contents.specs.Calls.{isAccount, viewOf, withRecords}
+use Rattle.rooms.specs.Views.{view-other, records-swap}
 use Rattle.shuffle.specs.Calls.{Apart}
 use Rattle.shuffle.specs.Register.{Ask, Reply, answerBy, recordsBy, lentBy, outputBy}
 
@@ -31,24 +26,6 @@ unfoldable pub inContents : Contents → ℕ × Ask → Contents × Reply
 inContents c d = pick (isAccount (d .0)) (byView c d) (noAccount c d)
 
 -- ---- different accounts
-
-pub positive : (a : ℕ) → isAccount a ≡ true → 1 ≤ a
-positive a p = leb-true 1 a (both-parts (leb 1 a) (leb a 8) p .0)
-
-module _ (c : Contents) (a d : ℕ) (p : isAccount a ≡ true) (q : isAccount d ≡ true) (n : a ≡ d → ⊥) where
-  places-differ : a - 1 ≡ d - 1 → ⊥
-  places-differ e =
-      let h = positive a p in
-      let k = positive d q in
-      n (omega arith)
-
-  pub view-apart : (rs : List Record) → viewOf (withRecords c a rs) d ≡ viewOf c d
-  unfolding viewOf withRecords
-  view-apart rs = rw (getD-set-other (c .accounts) (a - 1) (d - 1) rs [] (λ e. places-differ (sym e)))
-
-  pub records-apart : (rs qs : List Record) → withRecords (withRecords c a rs) d qs ≡ withRecords (withRecords c d qs) a rs
-  unfolding withRecords
-  records-apart rs qs = rw (set-comm (c .accounts) (a - 1) (d - 1) rs qs places-differ)
 
 pub in-yes : (c : Contents) (d : ℕ × Ask) → isAccount (d .0) ≡ true → inContents c d ≡ byView c d
 unfolding inContents
@@ -69,9 +46,9 @@ in-apart s c d n =
   where
     both-accounts : isAccount (c .0) ≡ true → isAccount (d .0) ≡ true → (inContents (inContents s c .0) d .0 ≡ inContents (inContents s d .0) c .0) × (inContents (inContents s c .0) d .1 ≡ inContents s d .1)
     both-accounts p q =
-        let v = view-apart s (c .0) (d .0) p q n (recordsBy (c .1) (viewOf s (c .0))) in
-        let w = view-apart s (d .0) (c .0) q p (λ e. n (sym e)) (recordsBy (d .1) (viewOf s (d .0))) in (
+        let v = view-other s (c .0) (recordsBy (c .1) (viewOf s (c .0))) (d .0) p q n in
+        let w = view-other s (d .0) (recordsBy (d .1) (viewOf s (d .0))) (c .0) q p (λ e. n (sym e)) in (
           rw (in-yes s c p, in-yes s d q, in-yes (byView s c .0) d q, in-yes (byView s d .0) c p, v, w)
-              (records-apart s (c .0) (d .0) p q n (recordsBy (c .1) (viewOf s (c .0))) (recordsBy (d .1) (viewOf s (d .0)))),
+              (records-swap s (c .0) (recordsBy (c .1) (viewOf s (c .0))) (d .0) p q n (recordsBy (d .1) (viewOf s (d .0)))),
           rw (in-yes s c p, in-yes s d q, in-yes (byView s c .0) d q, v),
         )
