@@ -13,7 +13,7 @@ use Rattle.dates.specs.Dates.{date, number}
 use Rattle.dates.specs.declared.Date.{Date}
 use Rattle.contents.specs.Contents.{Pending, nothing, put, removal, Contents}
 use Rattle.shuffle.specs.Register.{stage, withdraw}
-use Rattle.cases.specs.Text.{bytes}
+use Rattle.laws.specs.Text.{bytes}
 use Rattle.cases.specs.Table.{Case, pop, call, refused, period, every, only, holds, comesOf, expected, sameAnswer, keeps, callHolds}
 use Rattle.syntax.specs.Bytes.{permittedOf, plainOn}
 use Rattle.syntax.specs.Pieces.{first, later, partOf}

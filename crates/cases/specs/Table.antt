@@ -6,7 +6,7 @@ use mathlib.Core.Bool.{Bool, true, false}
 use mathlib.Core.List.{List, [], _∷_}
 use lib.Dec.{eqb}
 use lib.ListN.{length}
-use Rattle.cases.specs.Text.{bytes}
+use Rattle.laws.specs.Text.{bytes}
 use Rattle.laws.specs.Choice.{both, among}
 use Rattle.laws.specs.Sweep.{same, below}
 use Rattle.syntax.specs.Segment.{bodyAt, segmentAt}
