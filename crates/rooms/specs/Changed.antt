@@ -79,6 +79,14 @@ length-listed : (o : Option Record) (t : List Record) → length (listed o ++ t)
 length-listed none t = omega arith
 length-listed (some r) t = omega arith
 
+none-order : inOrder [] ≡ true
+unfolding inOrder
+none-order = refl
+
+order-on : (r : Record) (l : List Record) → beforeFirst (r .number) l ≡ true → inOrder l ≡ true → inOrder (r ∷ l) ≡ true
+unfolding inOrder
+order-on r l b w = rw (next-first r l, b) w
+
 first-after : (r : Record) (rs : List Record) → inOrder (r ∷ rs) ≡ true → beforeFirst (r .number) rs ≡ true
 unfolding inOrder
 first-after r rs w = sym (next-first r rs) ∙ both-parts (beforeNext r rs) (inOrder rs) w .0
@@ -155,3 +163,19 @@ module _ (x : List ℕ) (f : Option Record → Option Record) where
       (λ r rs w e. rw (length-listed (f (some r)) rs) (omega arith))
       (λ r rs w e. rw (length-listed (f none) (r ∷ rs)) (omega arith))
       (λ r rs o l w e ih. omega arith)
+
+  -- the changed records are in order, and a number before the first record's and before the changed one is before the first one's again
+  in-order : (rs : List Record) → inOrder rs ≡ true → Keeps x (f (lookup x rs))
+      → (inOrder (changed x f rs) ≡ true) × ((y : List ℕ) → beforeFirst y rs ≡ true → orderOf y x ≡ Before → beforeFirst y (changed x f rs) ≡ true)
+  in-order =
+      by-place x f (λ rs o l. Keeps x (f o) → (inOrder l ≡ true) × ((y : List ℕ) → beforeFirst y rs ≡ true → orderOf y x ≡ Before → beforeFirst y l ≡ true))
+      (λ k. (order-listed x [] (f none) k refl none-order, λ y b e. front-listed x [] y (f none) k e b))
+      (λ r rs w n k. (
+        order-listed x rs (f (some r)) k (subst (λ (y : List ℕ). beforeFirst y rs ≡ true) n (first-after r rs w)) (tail-order r rs w),
+        λ y b e. front-listed x rs y (f (some r)) k e (skip-first y r rs w (before-told y (r .number) b)),
+      ))
+      (λ r rs w n k. (order-listed x (r ∷ rs) (f none) k (before-by x (r .number) Before n) w, λ y b e. front-listed x (r ∷ rs) y (f none) k e b))
+      (λ r rs o l w n ih k. (order-on r l (ih k .1 (r .number) (first-after r rs w) n) (ih k .0), λ y b e. b))
+
+  pub changed-order : (rs : List Record) → inOrder rs ≡ true → Keeps x (f (lookup x rs)) → inOrder (changed x f rs) ≡ true
+  changed-order rs w k = in-order rs w k .0
