@@ -29,16 +29,16 @@ unfolding isCalendar
 calendar-length c q = eqb-true (length c) 64 (both-parts (eqb (length c) 64) (all (λ b. ltb b 256) c) q .0)
 
 -- the entries' calendars, where there are any
-abbrev goodLive : Option (List ℕ) → Bool
+abbrev pub goodLive : Option (List ℕ) → Bool
 goodLive none = true
 goodLive (some c) = isCalendar c
 
-abbrev goodPending : Pending → Bool
+abbrev pub goodPending : Pending → Bool
 goodPending nothing = true
 goodPending (put c) = isCalendar c
 goodPending removal = true
 
-entries-parts : (l : Option (List ℕ)) (p : Pending) → goodEntries l p ≡ true → (goodLive l ≡ true) × (goodPending p ≡ true)
+pub entries-parts : (l : Option (List ℕ)) (p : Pending) → goodEntries l p ≡ true → (goodLive l ≡ true) × (goodPending p ≡ true)
 unfolding goodEntries
 entries-parts none nothing q = absurd (false≢true q)
 entries-parts none (put c) q = (refl, q)
@@ -92,7 +92,7 @@ first-used [] t u h = absurd (omega arith)
 first-used (b ∷ x) t u h = u .0
 
 module _ (r : Record) (q : goodRecord r ≡ true) where
-  record-parts : (goodNumber (r .number) ≡ true) × (goodEntries (r .live) (r .pending) ≡ true)
+  pub record-parts : (goodNumber (r .number) ≡ true) × (goodEntries (r .live) (r .pending) ≡ true)
   unfolding goodRecord
   record-parts = both-parts (goodNumber (r .number)) (goodEntries (r .live) (r .pending)) q
 

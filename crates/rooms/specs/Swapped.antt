@@ -11,7 +11,8 @@ use Rattle.contents.specs.Contents.{Record, inOrder}
 use Rattle.contents.specs.Calls.{lookup, changed}
 use Rattle.rooms.specs.Order.{same-told}
 use Rattle.rooms.specs.Lookup.{same-lookup}
-use Rattle.rooms.specs.Changed.{Keeps, lookup-changed, lookup-changed-other, changed-order}
+use Rattle.rooms.specs.Listed.{Keeps}
+use Rattle.rooms.specs.Changed.{lookup-changed, lookup-changed-other, changed-order}
 
 -- a second change is given what it would be given without the first
 kept-other : (x y : List ℕ) (f g : Option Record → Option Record) (rs : List Record) → (x ≡ y → ⊥) → inOrder rs ≡ true → Keeps x (f (lookup x rs)) → Keeps y (g (lookup y rs))
