@@ -22,7 +22,7 @@ use Rattle.rooms.specs.Slots.{record-number}
 pub none≢some : {A : Type 0} {a : A} → none ≡ some a → ⊥
 none≢some q = let z : _≡_ {A = ℕ} 0 1 = cc in omega arith
 
-some-is : {A : Type 0} {a b : A} → some a ≡ some b → a ≡ b
+pub some-is : {A : Type 0} {a b : A} → some a ≡ some b → a ≡ b
 some-is q = cc
 
 -- the tests by the order that they come to

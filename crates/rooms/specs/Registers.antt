@@ -64,7 +64,7 @@ length-head c h = let n = length-numbers (c .quotas) in omega arith
 
 -- ---- a room read again
 
-room-cons : (quota : ℕ) (r : Record) (rs : List Record) → roomBytes (suc quota) (r ∷ rs) ≡ slotOf r ++ roomBytes quota rs
+pub room-cons : (quota : ℕ) (r : Record) (rs : List Record) → roomBytes (suc quota) (r ∷ rs) ≡ slotOf r ++ roomBytes quota rs
 unfolding roomBytes joined
 room-cons quota r rs =
     let e : suc quota - suc (length rs) ≡ quota - length rs = omega arith in
