@@ -1,13 +1,13 @@
 -- Records in order with that of one number changed: in order, good, counted, number by number, and in either order of two changes.
 -- Assumes nothing.
 use mathlib.Core.Path.{_≡_, refl, sym, _∙_, ap, subst}
-use mathlib.Core.Bool.{Bool, true, false}
+use mathlib.Core.Bool.{Bool, true}
 use mathlib.Core.Option.{Option, none, some}
 use mathlib.Core.List.{List, [], _∷_, _++_, append-nil}
 use Prim.Native.Nat.{ℕ, _+_, _≤_}
 use native.Mathlib.Omega.{arith}
 use lib.ListN.{length}
-use Rattle.laws.specs.Choice.{pick, both, all, choose, both-parts}
+use Rattle.laws.specs.Choice.{pick, all, choose, both-parts}
 use Rattle.values.specs.Values.{sameText}
 use Rattle.slots.specs.declared.Order.{Order}
 use Rattle.slots.specs.declared.Order.the-variants.{Before, Same, After}
@@ -16,7 +16,7 @@ use Rattle.records.specs.Order.{same-text, after-flip}
 use Rattle.contents.specs.Contents.{Record, goodRecord, inOrder, goodAccount}
 use Rattle.contents.specs.Calls.{lookup, listed, changed}
 use Rattle.rooms.specs.Order.{same-told, not-same}
-use Rattle.rooms.specs.Slots.{account-fits, account-records, account-order, account-good}
+use Rattle.rooms.specs.Slots.{account-records, account-order, account-good}
 use Rattle.rooms.specs.Lookup.{before-by, before-told, tail-order, lookup-before, lookup-first, lookup-passed, lookup-found, lookup-gap, changed-passed, changed-found, changed-gap}
 use Rattle.rooms.specs.Listed.{Keeps, passes, countOf, beforeFirst, look-same, look-other, look-on, look-none, order-listed, front-listed, all-listed, length-listed, none-order, order-on, first-after, skip-first}
 

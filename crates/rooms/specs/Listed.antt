@@ -1,13 +1,13 @@
 -- What a change of one number comes to, one record or none, before other records.
 -- Assumes nothing.
-use mathlib.Core.Path.{_≡_, refl, sym, _∙_, ap}
-use mathlib.Core.Bool.{Bool, true, false}
+use mathlib.Core.Path.{_≡_, refl, sym, _∙_}
+use mathlib.Core.Bool.{Bool, true}
 use mathlib.Core.Option.{Option, none, some}
 use mathlib.Core.List.{List, [], _∷_, _++_}
 use Prim.Native.Nat.{ℕ, _+_}
 use native.Mathlib.Omega.{arith}
 use lib.ListN.{length}
-use Rattle.laws.specs.Choice.{both, all, both-parts}
+use Rattle.laws.specs.Choice.{all, both-parts}
 use Rattle.slots.specs.declared.Order.the-variants.{Before}
 use Rattle.slots.specs.Order.{orderOf}
 use Rattle.contents.specs.Contents.{Record, comesBefore, beforeNext, inOrder}

@@ -6,7 +6,7 @@ use mathlib.Core.Option.{Option, none, some}
 use mathlib.Core.List.{List, [], _∷_, _++_}
 use Prim.Native.Nat.{ℕ}
 use native.Mathlib.Omega.{arith}
-use Rattle.laws.specs.Choice.{pick, both, all, choose, both-parts, false≢true}
+use Rattle.laws.specs.Choice.{all, choose, both-parts, false≢true}
 use Rattle.values.specs.Values.{sameText}
 use Rattle.slots.specs.declared.Order.{Order}
 use Rattle.slots.specs.declared.Order.the-variants.{Before, Same, After}

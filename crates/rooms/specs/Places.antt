@@ -2,22 +2,25 @@
 -- Assumes nothing.
 use mathlib.Core.Path.{_≡_, refl, sym, _∙_, ap}
 use mathlib.Core.Bool.{true}
-use mathlib.Core.Option.{Option, none, some}
+use mathlib.Core.Option.{none, some}
 use mathlib.Core.List.{List, [], _∷_, _++_, map, map-append}
 use Prim.Native.Nat.{ℕ, zero, suc, _+_, _*_, _-_, _≤_, _<_}
 use native.Mathlib.Omega.{arith}
 use native.Mathlib.Numerals.{add-one}
 use native.Mathlib.Nat.{le-of-suc-le-suc, not-suc-le-zero}
-use lib.ListN.{length, getD, set, take, drop, length-map}
+use lib.ListN.{length, getD, set, take, drop, replicate, length-map}
 use lib.Seq.{paste, take-at, drop-at, drop-drop, set-split, getD-take, getD-drop}
 use Rattle.laws.specs.Choice.{all, both-parts}
 use Rattle.gaps.specs.Move.{closed, inserted}
-use Rattle.records.specs.Put.{insertAt, removeAt}
-use Rattle.records.specs.Room.{roomOf, room-insert, room-remove, room-set}
+use Rattle.slots.specs.Slots.{slotsOf}
+use Rattle.slots.specs.Rising.{leading}
+use Rattle.records.specs.Joined.{slots-joined}
+use Rattle.records.specs.Read.{leading-room}
+use Rattle.records.specs.Room.{padded, each-padded, insertAt, removeAt, roomOf, room-insert, room-remove, room-set}
 use Rattle.contents.specs.Contents.{Record, goodRecord}
 use Rattle.contents.specs.Written.{slotOf, roomBytes}
 use Rattle.contents.specs.Calls.{recordAt}
-use Rattle.rooms.specs.Slots.{length-slot, slots-each, room-slots}
+use Rattle.rooms.specs.Slots.{length-slot, slots-each, slots-used, room-slots}
 use Rattle.rooms.specs.Registers.{room-cons}
 use Rattle.rooms.specs.Lookup.{none≢some, some-is}
 
@@ -65,6 +68,23 @@ pub slot-byte : (quota : ℕ) (rs : List Record) (k : ℕ) (r : Record) → all 
 slot-byte quota rs k r q h e j l =
     sym (getD-take 140 (drop (k * 140) (roomBytes quota rs)) j 0 l ∙ getD-drop (k * 140) (roomBytes quota rs) j 0)
     ∙ ap (λ (s : List ℕ). getD s j 0) (slot-there quota rs k r q h e)
+
+-- ---- all slots of a room
+
+module _ (quota : ℕ) (rs : List Record) (q : all goodRecord rs ≡ true) where
+  pub slots-in-room : slotsOf (roomBytes quota rs) ≡ map slotOf rs ++ replicate (quota - length rs) (replicate 140 0)
+  unfolding roomOf padded
+  slots-in-room =
+      ap slotsOf (room-slots quota rs)
+      ∙ slots-joined (padded 140 quota (map slotOf rs)) (each-padded 140 quota (map slotOf rs) (slots-each rs q))
+      ∙ rw (length-map rs slotOf)
+
+  pub used-in-room : leading (slotsOf (roomBytes quota rs)) ≡ length rs
+  used-in-room = ap (λ (s : List ℕ). leading (slotsOf s)) (room-slots quota rs) ∙ leading-room quota (map slotOf rs) (slots-each rs q) (slots-used rs q) ∙ length-map rs slotOf
+
+  -- the slots in use are the records'
+  pub used-slots : take (leading (slotsOf (roomBytes quota rs))) (slotsOf (roomBytes quota rs)) ≡ map slotOf rs
+  used-slots = rw (used-in-room, slots-in-room) (take-at (map slotOf rs) (replicate (quota - length rs) (replicate 140 0)) (length rs) (length-map rs slotOf))
 
 -- ---- slots of records with one taken out, put in, written over
 

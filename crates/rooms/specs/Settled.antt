@@ -1,17 +1,15 @@
 -- An account stays good when its pending entries are released, or one is withdrawn.
 -- Assumes nothing.
-use mathlib.Core.Path.{_≡_, refl, sym, _∙_, ap}
-use mathlib.Core.Bool.{Bool, true, false}
+use mathlib.Core.Path.{_≡_, refl}
+use mathlib.Core.Bool.{true}
 use mathlib.Core.Option.{Option, none, some}
-use mathlib.Core.List.{List, [], _∷_, _++_}
-use Prim.Native.Nat.{ℕ, _+_, _≤_}
+use mathlib.Core.List.{List, [], _∷_}
+use Prim.Native.Nat.{ℕ, _≤_}
 use native.Mathlib.Omega.{arith}
 use lib.ListN.{length}
-use Rattle.laws.specs.Choice.{pick, both, all, choose, both-parts}
-use Rattle.slots.specs.declared.Order.the-variants.{Before}
-use Rattle.slots.specs.Order.{orderOf}
+use Rattle.laws.specs.Choice.{all, choose, both-parts}
 use Rattle.contents.specs.Contents.{Pending, nothing, put, removal, Record, goodNumber, isCalendar, goodEntries, goodRecord, inOrder, goodAccount}
-use Rattle.contents.specs.Calls.{View, lookup, listed, changed, settledBy, released, releaseOf, hasPending, keptLive, withdrawn, withdrawOf}
+use Rattle.contents.specs.Calls.{View, lookup, changed, settledBy, released, hasPending, keptLive, withdrawn, withdrawOf}
 use Rattle.rooms.specs.Slots.{goodLive, goodPending, entries-parts, record-number, record-parts, account-fits, account-records, account-order, account-good}
 use Rattle.rooms.specs.Lookup.{before-told, tail-order, lookup-number, lookup-all}
 use Rattle.rooms.specs.Listed.{Keeps, passes, countOf, beforeFirst, order-listed, front-listed, all-listed, length-listed, none-order, first-after, skip-first}

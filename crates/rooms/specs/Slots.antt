@@ -1,24 +1,23 @@
 -- A record's slot, read again; the slots of an account's records as a room of `records`.
 -- Assumes nothing.
 use mathlib.Core.Path.{_≡_, refl, sym, _∙_, ap, subst}
-use mathlib.Core.Bool.{Bool, true, false}
+use mathlib.Core.Bool.{Bool, true}
 use mathlib.Core.List.{List, [], _∷_, _++_, map, append-assoc}
 use mathlib.Core.Option.{Option, none, some}
-use Prim.Native.Nat.{ℕ, zero, suc, _+_, _-_, _*_, _≤_}
+use Prim.Native.Nat.{ℕ, suc, _+_, _-_, _*_, _≤_}
 use native.Mathlib.Omega.{arith}
 use lib.Dec.{leb, ltb, eqb}
 use borrow.Author.Tests.{eqb-true, leb-true, le-leb}
 use lib.ListN.{length, getD, take, drop, replicate, length-append, length-replicate, length-map}
 use lib.Seq.{take-at, take-all, getD-at, getD-append-add, drop-append-add}
-use Rattle.laws.specs.Choice.{pick, both, all, both-parts, false≢true}
-use Rattle.laws.specs.Joined.{joined, Each, joined-append, length-each}
-use Rattle.slots.specs.Order.{orderOf}
-use Rattle.slots.specs.Rising.{isBefore, rises, rising}
+use Rattle.laws.specs.Choice.{both, all, both-parts, false≢true}
+use Rattle.laws.specs.Joined.{Each, joined-append, length-each}
+use Rattle.slots.specs.Rising.{rises, rising}
 use Rattle.records.specs.Found.{Used}
 use Rattle.records.specs.Padded.{NoZero}
-use Rattle.records.specs.Room.{padded, roomOf, each-padded, length-padded}
+use Rattle.records.specs.Room.{padded, roomOf}
 use Rattle.records.specs.Read.{joined-zeros}
-use Rattle.contents.specs.Contents.{Pending, nothing, put, removal, Record, goodNumber, isCalendar, goodEntries, goodRecord, comesBefore, beforeNext, inOrder, goodAccount}
+use Rattle.contents.specs.Contents.{Pending, nothing, put, removal, Record, goodNumber, isCalendar, goodEntries, goodRecord, comesBefore, inOrder, goodAccount}
 use Rattle.contents.specs.Written.{filledUp, liveBytes, pendingBytes, slotOf, roomBytes, upToZero, liveIn, pendingIn, recordIn}
 use Rattle.rooms.specs.Order.{before-order, number-least, number-used, length-filled, number-again, number-order}
 
