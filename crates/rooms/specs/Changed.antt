@@ -1,91 +1,24 @@
 -- Records in order with that of one number changed: in order, good, counted, number by number, and in either order of two changes.
 -- Assumes nothing.
 use mathlib.Core.Path.{_≡_, refl, sym, _∙_, ap, subst}
-use mathlib.Core.Bool.{Bool, true, false}
+use mathlib.Core.Bool.{Bool, true}
 use mathlib.Core.Option.{Option, none, some}
 use mathlib.Core.List.{List, [], _∷_, _++_, append-nil}
-use Prim.Native.Nat.{ℕ, suc, _+_}
+use Prim.Native.Nat.{ℕ, _+_, _≤_}
 use native.Mathlib.Omega.{arith}
-use lib.ListN.{length, length-append}
-use Rattle.laws.specs.Choice.{pick, both, all, choose, both-parts}
+use lib.ListN.{length}
+use Rattle.laws.specs.Choice.{pick, all, choose, both-parts}
 use Rattle.values.specs.Values.{sameText}
 use Rattle.slots.specs.declared.Order.{Order}
 use Rattle.slots.specs.declared.Order.the-variants.{Before, Same, After}
 use Rattle.slots.specs.Order.{orderOf}
 use Rattle.records.specs.Order.{same-text, after-flip}
-use Rattle.contents.specs.Contents.{Record, goodRecord, comesBefore, beforeNext, inOrder}
+use Rattle.contents.specs.Contents.{Record, goodRecord, inOrder, goodAccount}
 use Rattle.contents.specs.Calls.{lookup, listed, changed}
-use Rattle.rooms.specs.Order.{same-told, same-when, same-not, not-same}
-use Rattle.rooms.specs.Lookup.{same-lookup, before-by, before-told, before-through, tail-order, next-before, lookup-before, lookup-first, lookup-passed, lookup-found, lookup-gap, changed-passed, changed-found, changed-gap}
-
--- a change keeps the number: what it comes to, if anything, has it
-abbrev pub Keeps : List ℕ → Option Record → Type 0
-Keeps x none = Unit {0}
-Keeps x (some r) = r .number ≡ x
-
--- whether a test holds of what it comes to
-abbrev pub passes : (Record → Bool) → Option Record → Bool
-passes g none = true
-passes g (some r) = g r
-
-abbrev pub countOf : Option Record → ℕ
-countOf none = 0
-countOf (some r) = 1
-
--- ---- what a change comes to, before other records
-
--- whether a number comes before the first record's
-abbrev beforeFirst : List ℕ → List Record → Bool
-beforeFirst x [] = true
-beforeFirst x (q ∷ rs) = comesBefore x (q .number)
-
-next-first : (r : Record) (rs : List Record) → beforeNext r rs ≡ beforeFirst (r .number) rs
-next-first r [] = refl
-next-first r (q ∷ rs) = refl
-
-module _ (x : List ℕ) (t : List Record) where
-  look-same : (o : Option Record) → Keeps x o → lookup x t ≡ none → lookup x (listed o ++ t) ≡ o
-  unfolding lookup
-  look-same none k e = e
-  look-same (some r) k e = rw (same-when (r .number) x k)
-
-  look-other : (y : List ℕ) (o : Option Record) → Keeps x o → (x ≡ y → ⊥) → lookup y (listed o ++ t) ≡ lookup y t
-  unfolding lookup
-  look-other y none k n = refl
-  look-other y (some r) k n = rw (same-not (r .number) y (λ e. n (sym k ∙ e)))
-
-  order-listed : (o : Option Record) → Keeps x o → beforeFirst x t ≡ true → inOrder t ≡ true → inOrder (listed o ++ t) ≡ true
-  unfolding inOrder
-  order-listed none k b w = w
-  order-listed (some r) k b w = rw (next-first r t, k, b) w
-
-  front-listed : (y : List ℕ) (o : Option Record) → Keeps x o → orderOf y x ≡ Before → beforeFirst y t ≡ true → beforeFirst y (listed o ++ t) ≡ true
-  front-listed y none k b e = e
-  front-listed y (some r) k b e = rw k (before-by y x Before b)
-
-look-on : (y : List ℕ) (r : Record) (l rs : List Record) → lookup y l ≡ lookup y rs → lookup y (r ∷ l) ≡ lookup y (r ∷ rs)
-unfolding lookup
-look-on y r l rs e = rw e
-
-look-none : (x : List ℕ) → lookup x [] ≡ none
-unfolding lookup
-look-none x = refl
-
-all-listed : (g : Record → Bool) (o : Option Record) (t : List Record) → passes g o ≡ true → all g t ≡ true → all g (listed o ++ t) ≡ true
-all-listed g none t p q = q
-all-listed g (some r) t p q = rw (p, q)
-
-length-listed : (o : Option Record) (t : List Record) → length (listed o ++ t) ≡ countOf o + length t
-length-listed none t = omega arith
-length-listed (some r) t = omega arith
-
-first-after : (r : Record) (rs : List Record) → inOrder (r ∷ rs) ≡ true → beforeFirst (r .number) rs ≡ true
-unfolding inOrder
-first-after r rs w = sym (next-first r rs) ∙ both-parts (beforeNext r rs) (inOrder rs) w .0
-
-skip-first : (y : List ℕ) (p : Record) (rs : List Record) → inOrder (p ∷ rs) ≡ true → orderOf y (p .number) ≡ Before → beforeFirst y rs ≡ true
-skip-first y p [] w b = refl
-skip-first y p (q ∷ rs) w b = before-by y (q .number) Before (before-through y (p .number) (q .number) b (next-before p q rs w))
+use Rattle.rooms.specs.Order.{same-told, not-same}
+use Rattle.rooms.specs.Slots.{account-records, account-order, account-good}
+use Rattle.rooms.specs.Lookup.{before-by, before-told, tail-order, lookup-before, lookup-first, lookup-passed, lookup-found, lookup-gap, changed-passed, changed-found, changed-gap}
+use Rattle.rooms.specs.Listed.{Keeps, passes, countOf, beforeFirst, look-same, look-other, look-on, look-none, order-listed, front-listed, all-listed, length-listed, none-order, order-on, first-after, skip-first}
 
 -- ---- by cases of where the number's place is
 
@@ -155,3 +88,26 @@ module _ (x : List ℕ) (f : Option Record → Option Record) where
       (λ r rs w e. rw (length-listed (f (some r)) rs) (omega arith))
       (λ r rs w e. rw (length-listed (f none) (r ∷ rs)) (omega arith))
       (λ r rs o l w e ih. omega arith)
+
+  -- the changed records are in order, and a number before the first record's and before the changed one is before the first one's again
+  in-order : (rs : List Record) → inOrder rs ≡ true → Keeps x (f (lookup x rs))
+      → (inOrder (changed x f rs) ≡ true) × ((y : List ℕ) → beforeFirst y rs ≡ true → orderOf y x ≡ Before → beforeFirst y (changed x f rs) ≡ true)
+  in-order =
+      by-place x f (λ rs o l. Keeps x (f o) → (inOrder l ≡ true) × ((y : List ℕ) → beforeFirst y rs ≡ true → orderOf y x ≡ Before → beforeFirst y l ≡ true))
+      (λ k. (order-listed x [] (f none) k refl none-order, λ y b e. front-listed x [] y (f none) k e b))
+      (λ r rs w n k. (
+        order-listed x rs (f (some r)) k (subst (λ (y : List ℕ). beforeFirst y rs ≡ true) n (first-after r rs w)) (tail-order r rs w),
+        λ y b e. front-listed x rs y (f (some r)) k e (skip-first y r rs w (before-told y (r .number) b)),
+      ))
+      (λ r rs w n k. (order-listed x (r ∷ rs) (f none) k (before-by x (r .number) Before n) w, λ y b e. front-listed x (r ∷ rs) y (f none) k e b))
+      (λ r rs o l w n ih k. (order-on r l (ih k .1 (r .number) (first-after r rs w) n) (ih k .0), λ y b e. b))
+
+  pub changed-order : (rs : List Record) → inOrder rs ≡ true → Keeps x (f (lookup x rs)) → inOrder (changed x f rs) ≡ true
+  changed-order rs w k = in-order rs w k .0
+
+  -- a good account stays one
+  pub changed-account : (quota : ℕ) (rs : List Record) → goodAccount quota rs ≡ true → Keeps x (f (lookup x rs)) → passes goodRecord (f (lookup x rs)) ≡ true → length (changed x f rs) ≤ quota
+      → goodAccount quota (changed x f rs) ≡ true
+  changed-account quota rs q k p h =
+      let w = account-order quota rs q in
+      account-good quota (changed x f rs) h (changed-good rs w (account-records quota rs q) p) (changed-order rs w k)

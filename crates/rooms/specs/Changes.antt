@@ -1,26 +1,22 @@
 -- A number's place among records in order, by which it is looked up and changed.
 -- Assumes nothing.
 use mathlib.Core.Path.{_≡_, refl, sym, _∙_, ap}
-use mathlib.Core.Bool.{Bool, true, false}
-use mathlib.Core.Option.{Option, none, some}
+use mathlib.Core.Bool.{true}
+use mathlib.Core.Option.{Option, none}
 use mathlib.Core.List.{List, [], _∷_, _++_, map, append-nil}
-use Prim.Native.Nat.{ℕ, zero, suc, _+_, suc-le-suc}
+use Prim.Native.Nat.{ℕ, suc, _+_, suc-le-suc}
 use native.Mathlib.Omega.{arith}
-use native.Mathlib.Numerals.{add-one}
 use borrow.Author.Tests.{ne-eqb}
 use lib.ListN.{length, getD, take, drop}
-use Rattle.laws.specs.Choice.{pick, both, all, both-parts}
+use Rattle.laws.specs.Choice.{all, both-parts}
 use Rattle.slots.specs.declared.Order.{Order}
 use Rattle.slots.specs.declared.Order.the-variants.{Before, Same, After}
 use Rattle.slots.specs.declared.Found.{Found}
 use Rattle.slots.specs.declared.Found.the-variants.{At, Gap}
 use Rattle.slots.specs.Order.{orderOf}
 use Rattle.slots.specs.Find.{numberOrder, findOf, Within}
-use Rattle.slots.specs.Rising.{rising}
-use Rattle.records.specs.Order.{before-flip, after-flip}
 use Rattle.records.specs.Linear.{byOrder}
 use Rattle.records.specs.Found.{findIn}
-use Rattle.records.specs.Room.{roomOf}
 use Rattle.records.specs.Read.{find-room}
 use Rattle.contents.specs.Contents.{Record, goodNumber, goodRecord, inOrder, goodAccount}
 use Rattle.contents.specs.Written.{filledUp, slotOf, roomBytes}

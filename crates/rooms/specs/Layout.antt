@@ -1,14 +1,14 @@
 -- Written contents cut at one account's room: what is before it, the room, what is behind it. Accounts are counted from 0 here.
 -- Assumes nothing.
-use mathlib.Core.Path.{_≡_, refl, sym, _∙_, ap}
-use mathlib.Core.Bool.{Bool, true, false}
+use mathlib.Core.Path.{_≡_, refl, sym, ap}
+use mathlib.Core.Bool.{true}
 use mathlib.Core.List.{List, [], _∷_, _++_, append-assoc}
 use Prim.Native.Nat.{ℕ, zero, suc, _+_, _-_, _*_, _≤_, _<_}
 use native.Mathlib.Omega.{arith}
 use native.Mathlib.Nat.{le-of-suc-le-suc, not-suc-le-zero}
 use lib.ListN.{length, getD, set, take, drop, replicate, length-append}
 use lib.Seq.{set-getD}
-use Rattle.laws.specs.Choice.{both, both-parts, false≢true}
+use Rattle.laws.specs.Choice.{both-parts, false≢true}
 use Rattle.laws.specs.Joined.{total}
 use Rattle.contents.specs.Contents.{Record, Contents, goodAccount, goodAccounts, good}
 use Rattle.contents.specs.Written.{headOf, roomBytes, roomsBytes, written}

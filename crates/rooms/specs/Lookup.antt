@@ -6,7 +6,7 @@ use mathlib.Core.Option.{Option, none, some}
 use mathlib.Core.List.{List, [], _∷_, _++_}
 use Prim.Native.Nat.{ℕ}
 use native.Mathlib.Omega.{arith}
-use Rattle.laws.specs.Choice.{pick, both, all, choose, both-parts, false≢true}
+use Rattle.laws.specs.Choice.{all, choose, both-parts, false≢true}
 use Rattle.values.specs.Values.{sameText}
 use Rattle.slots.specs.declared.Order.{Order}
 use Rattle.slots.specs.declared.Order.the-variants.{Before, Same, After}
@@ -22,7 +22,7 @@ use Rattle.rooms.specs.Slots.{record-number}
 pub none≢some : {A : Type 0} {a : A} → none ≡ some a → ⊥
 none≢some q = let z : _≡_ {A = ℕ} 0 1 = cc in omega arith
 
-some-is : {A : Type 0} {a b : A} → some a ≡ some b → a ≡ b
+pub some-is : {A : Type 0} {a b : A} → some a ≡ some b → a ≡ b
 some-is q = cc
 
 -- the tests by the order that they come to

@@ -2,19 +2,19 @@
 -- some good contents, written."
 -- Assumes nothing.
 use mathlib.Core.Path.{_≡_, refl, sym, _∙_, ap}
-use mathlib.Core.Bool.{Bool, true, false}
+use mathlib.Core.Bool.{true, false}
 use mathlib.Core.List.{List, [], _∷_, _++_, map, append-assoc}
 use Prim.Native.Nat.{ℕ, zero, suc, _+_, _-_, _*_, _/_, _%_, _≤_}
 use native.Mathlib.Omega.{arith}
 use lib.Dec.{leb, eqb}
 use borrow.Author.Tests.{eqb-true, leb-true, ne-eqb}
-use lib.ListN.{length, getD, take, drop, replicate, length-append, length-replicate, List·getD-append}
+use lib.ListN.{length, getD, drop, replicate, length-append, length-replicate, List·getD-append}
 use lib.Seq.{take-at, drop-at}
-use Rattle.laws.specs.Choice.{pick, both, all, both-parts, false≢true}
+use Rattle.laws.specs.Choice.{both, all, both-parts, false≢true}
 use Rattle.laws.specs.Joined.{joined, total}
 use Rattle.values.specs.Values.{sameText}
 use Rattle.contents.specs.Contents.{Record, Contents, goodRecord, goodAccount, goodAccounts, goodWindow, goodQuotas, good}
-use Rattle.contents.specs.Written.{twoBytes, headOf, slotOf, roomBytes, roomsBytes, written, recordIn, recordsIn, accountsIn, numbersIn, held, isRegister}
+use Rattle.contents.specs.Written.{twoBytes, headOf, slotOf, roomBytes, roomsBytes, written, recordsIn, accountsIn, numbersIn, held, isRegister}
 use Rattle.rooms.specs.Order.{same-told, same-itself}
 use Rattle.rooms.specs.Slots.{length-slot, slot-again, slot-used, length-room, account-fits, account-records}
 
@@ -64,7 +64,7 @@ length-head c h = let n = length-numbers (c .quotas) in omega arith
 
 -- ---- a room read again
 
-room-cons : (quota : ℕ) (r : Record) (rs : List Record) → roomBytes (suc quota) (r ∷ rs) ≡ slotOf r ++ roomBytes quota rs
+pub room-cons : (quota : ℕ) (r : Record) (rs : List Record) → roomBytes (suc quota) (r ∷ rs) ≡ slotOf r ++ roomBytes quota rs
 unfolding roomBytes joined
 room-cons quota r rs =
     let e : suc quota - suc (length rs) ≡ quota - length rs = omega arith in

@@ -1,24 +1,23 @@
 -- A record's slot, read again; the slots of an account's records as a room of `records`.
 -- Assumes nothing.
 use mathlib.Core.Path.{_≡_, refl, sym, _∙_, ap, subst}
-use mathlib.Core.Bool.{Bool, true, false}
+use mathlib.Core.Bool.{Bool, true}
 use mathlib.Core.List.{List, [], _∷_, _++_, map, append-assoc}
 use mathlib.Core.Option.{Option, none, some}
-use Prim.Native.Nat.{ℕ, zero, suc, _+_, _-_, _*_, _≤_}
+use Prim.Native.Nat.{ℕ, suc, _+_, _-_, _*_, _≤_}
 use native.Mathlib.Omega.{arith}
 use lib.Dec.{leb, ltb, eqb}
 use borrow.Author.Tests.{eqb-true, leb-true, le-leb}
 use lib.ListN.{length, getD, take, drop, replicate, length-append, length-replicate, length-map}
 use lib.Seq.{take-at, take-all, getD-at, getD-append-add, drop-append-add}
-use Rattle.laws.specs.Choice.{pick, both, all, both-parts, false≢true}
-use Rattle.laws.specs.Joined.{joined, Each, joined-append, length-each}
-use Rattle.slots.specs.Order.{orderOf}
-use Rattle.slots.specs.Rising.{isBefore, rises, rising}
+use Rattle.laws.specs.Choice.{both, all, both-parts, false≢true}
+use Rattle.laws.specs.Joined.{Each, joined-append, length-each}
+use Rattle.slots.specs.Rising.{rises, rising}
 use Rattle.records.specs.Found.{Used}
 use Rattle.records.specs.Padded.{NoZero}
-use Rattle.records.specs.Room.{padded, roomOf, each-padded, length-padded}
+use Rattle.records.specs.Room.{padded, roomOf}
 use Rattle.records.specs.Read.{joined-zeros}
-use Rattle.contents.specs.Contents.{Pending, nothing, put, removal, Record, goodNumber, isCalendar, goodEntries, goodRecord, comesBefore, beforeNext, inOrder, goodAccount}
+use Rattle.contents.specs.Contents.{Pending, nothing, put, removal, Record, goodNumber, isCalendar, goodEntries, goodRecord, comesBefore, inOrder, goodAccount}
 use Rattle.contents.specs.Written.{filledUp, liveBytes, pendingBytes, slotOf, roomBytes, upToZero, liveIn, pendingIn, recordIn}
 use Rattle.rooms.specs.Order.{before-order, number-least, number-used, length-filled, number-again, number-order}
 
@@ -29,16 +28,16 @@ unfolding isCalendar
 calendar-length c q = eqb-true (length c) 64 (both-parts (eqb (length c) 64) (all (λ b. ltb b 256) c) q .0)
 
 -- the entries' calendars, where there are any
-abbrev goodLive : Option (List ℕ) → Bool
+abbrev pub goodLive : Option (List ℕ) → Bool
 goodLive none = true
 goodLive (some c) = isCalendar c
 
-abbrev goodPending : Pending → Bool
+abbrev pub goodPending : Pending → Bool
 goodPending nothing = true
 goodPending (put c) = isCalendar c
 goodPending removal = true
 
-entries-parts : (l : Option (List ℕ)) (p : Pending) → goodEntries l p ≡ true → (goodLive l ≡ true) × (goodPending p ≡ true)
+pub entries-parts : (l : Option (List ℕ)) (p : Pending) → goodEntries l p ≡ true → (goodLive l ≡ true) × (goodPending p ≡ true)
 unfolding goodEntries
 entries-parts none nothing q = absurd (false≢true q)
 entries-parts none (put c) q = (refl, q)
@@ -92,7 +91,7 @@ first-used [] t u h = absurd (omega arith)
 first-used (b ∷ x) t u h = u .0
 
 module _ (r : Record) (q : goodRecord r ≡ true) where
-  record-parts : (goodNumber (r .number) ≡ true) × (goodEntries (r .live) (r .pending) ≡ true)
+  pub record-parts : (goodNumber (r .number) ≡ true) × (goodEntries (r .live) (r .pending) ≡ true)
   unfolding goodRecord
   record-parts = both-parts (goodNumber (r .number)) (goodEntries (r .live) (r .pending)) q
 

@@ -1,21 +1,21 @@
 -- An account's room in a register: where it lies, that it is the account's records, and what comes of other records put there.
 -- Assumes nothing.
-use mathlib.Core.Path.{_≡_, refl, sym, _∙_, ap, subst}
-use mathlib.Core.Bool.{Bool, true, false}
-use mathlib.Core.List.{List, [], _∷_, _++_, append-assoc}
-use Prim.Native.Nat.{ℕ, zero, suc, _+_, _-_, _*_, _≤_, _<_}
+use mathlib.Core.Path.{_≡_, refl, sym, _∙_, ap}
+use mathlib.Core.Bool.{true}
+use mathlib.Core.List.{List, [], _++_}
+use Prim.Native.Nat.{ℕ, suc, _+_, _-_, _*_, _≤_, _<_}
 use native.Mathlib.Omega.{arith}
 use lib.Dec.{leb}
 use borrow.Author.Tests.{leb-true}
 use borrow.Rule.Slice.PartMut.{midOf, putMid}
-use lib.ListN.{length, getD, set, take, drop}
+use lib.ListN.{length, getD, take, drop}
 use lib.Seq.{take-at, drop-at, drop-drop, getD-set-same, getD-set-other, set-set, set-comm}
-use Rattle.laws.specs.Choice.{both, all, both-parts}
+use Rattle.laws.specs.Choice.{all, both-parts}
 use Rattle.laws.specs.Lists.{between}
 use Rattle.laws.specs.Joined.{total}
 use Rattle.contents.specs.Contents.{Record, Contents, goodRecord, goodAccount, goodWindow, good}
 use Rattle.contents.specs.Written.{roomBytes, numbersIn, written, held, isRegister}
-use Rattle.contents.specs.Calls.{View, isAccount, viewOf, withRecords}
+use Rattle.contents.specs.Calls.{isAccount, viewOf, withRecords}
 use Rattle.rooms.specs.Slots.{length-room, account-fits, account-records}
 use Rattle.rooms.specs.Registers.{good-window, good-eight, good-total, good-accounts, held-written, register-told, register-when, length-register}
 use Rattle.rooms.specs.Layout.{good-at, total-more, total-front, frontOf, behindOf, length-front, with-room, with-own, good-with}
