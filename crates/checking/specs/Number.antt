@@ -8,7 +8,8 @@ use native.Mathlib.Omega.{arith}
 use native.Mathlib.Nat.{sub-zero}
 use lib.Dec.{eqb, ltb, leb}
 use borrow.Author.Tests.{eq-eqb, ne-eqb, eqb-true, eqb-false, ltb-true, ltb-false, leb-true, le-leb}
-use lib.ListN.{length, getD, take, drop, replicate, length-append, length-replicate}
+use lib.ListN.{length, getD, take, drop, replicate, length-append, length-replicate, length-drop}
+use lib.Seq.{take-all}
 use Rattle.laws.specs.Choice.{pick, both, either, choose, all, both-parts, both-assoc, both-false, both-true}
 use Rattle.laws.specs.Lists.{drop-here, drop-past}
 use Rattle.syntax.specs.Bytes.{permittedOf}
@@ -109,6 +110,18 @@ number-is x h =
     (both-assoc a (all permittedOf (upToZero x)) (sameText (filledUp 10 (upToZero x)) x)
     ∙ ap (λ (n : ℕ). both a (both (all permittedOf (upToZero x)) (sameText (filledUp n (upToZero x)) x))) (sym h)
     ∙ rw (rest-zero x) (some-first x))
+
+module _ (x : List ℕ) (h : length x ≡ 10) (n : ℕ) (e : n ≡ permittedRun x) where
+  pub run-inside : n ≤ length x
+  run-inside = let k = run-le x in omega arith
+
+  pub number-none : n ≡ 0 → false ≡ isNumber x
+  number-none q = sym (number-is x h ∙ rw (← e, q))
+
+  pub number-rest : (n ≡ 0 → ⊥) → (z : Bool) → z ≡ allZero (take (length x - n) (drop n x)) → z ≡ isNumber x
+  number-rest q z t =
+      let d = length-drop n x in
+      t ∙ rw (take-all (length x - n) (drop n x) (omega arith)) (sym (number-is x h ∙ rw (← e, le-leb 1 n (omega arith))))
 
 -- ---- numbers filled up with zeros stand to each other as the numbers do
 

@@ -5,14 +5,14 @@ use mathlib.Core.Bool.{Bool, true, false}
 use mathlib.Core.List.{List, [], _∷_, _++_, map, append-assoc}
 use Prim.Native.Nat.{ℕ, zero, suc, _+_, _-_, _*_, _/_, _%_, _≤_, _<_}
 use native.Mathlib.Omega.{arith}
-use native.Mathlib.Nat.{sub-zero}
+use native.Mathlib.Nat.{sub-zero, add-zero}
 use lib.Dec.{eqb, leb, lit≤}
 use borrow.Author.Tests.{eq-eqb, eqb-true, le-leb, lt-leb, leb-true, leb-false}
 use lib.ListN.{length, getD, take, drop, replicate, length-append, length-replicate, length-drop}
-use lib.Seq.{take-take, drop-drop, getD-take, getD-drop, length-take-le}
+use lib.Seq.{take-all, take-take, drop-drop, getD-take, getD-drop, length-take-le}
 use Rattle.laws.specs.Choice.{pick, both, choose, all, both-parts, both-assoc₃, both-false, false≢true}
 use Rattle.laws.specs.Joined.{joined, total}
-use Rattle.laws.specs.Lists.{drop-take}
+use Rattle.laws.specs.Lists.{between, length-between, drop-take}
 use Rattle.values.specs.Values.{sameText}
 use Rattle.gaps.specs.Zero.{allZero}
 use Rattle.contents.specs.Contents.{Record, Contents, goodAccount, goodAccounts, goodWindow, goodQuotas, good}
@@ -171,3 +171,77 @@ register-is b f h =
     rw (head-here b rest f (omega arith), eq-eqb (length qs) 8 (numbers-length 8 (drop 2 b)))
     (both-assoc₃ (goodWindow (getD b 0 0 + 256 * getD b 1 0)) (leb (total qs) 256) (goodAccounts qs l) (sameText rest (drop 18 b))
     ∙ ap (both (goodWindow (getD b 0 0 + 256 * getD b 1 0))) (rooms-fit qs 256 (drop 18 b) (omega arith)))
+
+-- ---- for the code
+
+-- the rooms of the accounts from k on begin at an index
+pub record RoomsLeft (b : List ℕ) (at k : ℕ) : Type 0 where
+  pub inside : at ≤ length b
+  pub accounts : k ≤ 8
+  pub same : roomsFit (numbersIn (8 - k) (drop (2 + k * 2) b)) (drop at b) ≡ roomsFit (numbersIn 8 (drop 2 b)) (drop 18 b)
+
+pub rooms-start : (b : List ℕ) → 18 ≤ length b → RoomsLeft b 18 0
+rooms-start b h = record { inside = h; accounts = omega arith; same = refl }
+
+numbers-here : (b : List ℕ) (k : ℕ) → k < 8 → (n : ℕ) → n ≡ getD b (2 + k * 2) 0 + 256 * getD b (2 + k * 2 + 1) 0
+    → numbersIn (8 - k) (drop (2 + k * 2) b) ≡ n ∷ numbersIn (8 - (k + 1)) (drop (2 + (k + 1) * 2) b)
+unfolding numbersIn
+numbers-here b k h n q =
+    let e : 8 - k ≡ suc (8 - (k + 1)) = omega arith in
+    let f : 2 + k * 2 + 2 ≡ 2 + (k + 1) * 2 = omega arith in
+    rw (e, getD-drop (2 + k * 2) b 0 0, getD-drop (2 + k * 2) b 1 0, add-zero, ← q, drop-drop 2 (2 + k * 2) b, f)
+
+module _ (b : List ℕ) (at k : ℕ) (l : RoomsLeft b at k) where
+  abbrev fit : Bool
+  fit = roomsFit (numbersIn 8 (drop 2 b)) (drop 18 b)
+
+  pub rooms-end : 8 ≤ k → (z : Bool) → z ≡ allZero (take (length b - at) (drop at b)) → z ≡ fit
+  unfolding roomsFit numbersIn
+  rooms-end h z q =
+      let a = l .accounts in
+      let e : 8 - k ≡ 0 = omega arith in
+      let d = length-drop at b in
+      q ∙ ap allZero (take-all (length b - at) (drop at b) (omega arith)) ∙ (rw e at (l .same))
+
+  module _ (h : k < 8) (n : ℕ) (e : n ≡ getD b (2 + k * 2) 0 + 256 * getD b (2 + k * 2 + 1) 0) where
+    next-room : both (leb (n * 140) (length b - at)) (both (isRoom n (take (n * 140) (drop at b))) (roomsFit (numbersIn (8 - (k + 1)) (drop (2 + (k + 1) * 2) b)) (drop (at + n * 140) b))) ≡ fit
+    unfolding roomsFit
+    next-room =
+        rw (← length-drop at b, ← drop-drop (n * 140) at b)
+        (ap (λ (qs : List ℕ). roomsFit qs (drop at b)) (sym (numbers-here b k h n e)) ∙ l .same)
+
+    pub rooms-too-long : length b - at < n * 140 → false ≡ fit
+    rooms-too-long g = rw (lt-leb (n * 140) (length b - at) g) at next-room
+
+    module _ (g : n * 140 ≤ length b - at) where
+      pub room-inside : at + n * 140 ≤ length b
+      room-inside = let i = l .inside in omega arith
+
+      module _ (v : Bool) (q : v ≡ isRoom (length (between b at (at + n * 140)) / 140) (between b at (at + n * 140))) where
+        told-room : isRoom n (take (n * 140) (drop at b)) ≡ v
+        told-room =
+            let d = length-drop at b in
+            let f : at + n * 140 - at ≡ n * 140 = omega arith in
+            let m : n * 140 / 140 ≡ n = omega arith in
+            sym (q ∙ rw (f, length-take-le (n * 140) (drop at b) (omega arith), m))
+
+        pub rooms-no-room : v ≡ false → false ≡ fit
+        rooms-no-room t = rw (le-leb (n * 140) (length b - at) g, told-room, t) at next-room
+
+        pub rooms-on : v ≡ true → RoomsLeft b (at + n * 140) (k + 1)
+        rooms-on t =
+            record {
+              inside = room-inside;
+              accounts = omega arith;
+              same = rw (le-leb (n * 140) (length b - at) g, told-room, t) at next-room;
+            }
+
+module _ (b : List ℕ) (f : Bytes b) (h : length b ≡ 35858) (n : ℕ) (e : n ≡ getD b 0 0 + 256 * getD b 1 0) where
+  window-is : isRegister b ≡ both (leb (n + 512) 40177) (roomsFit (numbersIn 8 (drop 2 b)) (drop 18 b))
+  window-is = register-is b f h ∙ ap (λ (k : ℕ). both (leb (k + 512) 40177) (roomsFit (numbersIn 8 (drop 2 b)) (drop 18 b))) (sym e)
+
+  pub window-outside : 40177 < n + 512 → false ≡ isRegister b
+  window-outside k = sym (window-is ∙ rw (lt-leb (n + 512) 40177 k))
+
+  pub window-inside : n + 512 ≤ 40177 → roomsFit (numbersIn 8 (drop 2 b)) (drop 18 b) ≡ isRegister b
+  window-inside k = sym (window-is ∙ rw (le-leb (n + 512) 40177 k))

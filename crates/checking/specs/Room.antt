@@ -4,13 +4,13 @@ use mathlib.Core.Path.{_≡_, refl, sym, _∙_, ap}
 use mathlib.Core.Bool.{Bool, true, false}
 use mathlib.Core.List.{List, [], _∷_, _++_, map, append-assoc}
 use mathlib.Core.Logic.{_⊎_, inl, inr}
-use Prim.Native.Nat.{ℕ, zero, suc, _+_, _-_, _*_, _≤_, _<_}
+use Prim.Native.Nat.{ℕ, zero, suc, _+_, _-_, _*_, _/_, _%_, _≤_, _<_}
 use native.Mathlib.Omega.{arith}
-use native.Mathlib.Nat.{sub-zero}
+use native.Mathlib.Nat.{sub-zero, add-zero}
 use lib.Dec.{eqb, leb, lit≤}
 use borrow.Author.Tests.{eq-eqb, ne-eqb, eqb-true, eqb-false, le-leb, leb-true}
 use lib.ListN.{length, getD, take, drop, replicate, length-append, length-replicate, length-drop}
-use lib.Seq.{take-take, length-take-le}
+use lib.Seq.{take-take, take-all, drop-drop, getD-drop, length-take-le}
 use Rattle.laws.specs.Choice.{pick, both, choose, all, both-parts, both-assoc, both-true, both-false, false≢true}
 use Rattle.laws.specs.Joined.{joined}
 use Rattle.syntax.specs.Bytes.{permittedOf}
@@ -178,3 +178,99 @@ unfolding isRoom goodAccount upToZero
 room-is n b h =
     let rs : List Record = recordsIn n b in
     rw (le-leb (length rs) n (records-le n b), from-none rs) (rows-fit [] n b (inl refl) h)
+
+-- ---- for the code
+
+slots-end : (x : List ℕ) (n : ℕ) (b : List ℕ) → n ≡ 0 → slotsFit x n b ≡ true
+unfolding slotsFit
+slots-end x zero b h = refl
+slots-end x (suc n) b h = absurd (omega arith)
+
+module _ (x : List ℕ) (b : List ℕ) where
+  slots-unused : (n : ℕ) → 0 < n → getD b 0 0 ≡ 0 → slotsFit x n b ≡ allZero b
+  unfolding slotsFit
+  slots-unused zero h e = absurd (omega arith)
+  slots-unused (suc n) h e = rw (eq-eqb (getD b 0 0) 0 e)
+
+  slots-used : (n : ℕ) → 0 < n → (getD b 0 0 ≡ 0 → ⊥)
+      → slotsFit x n b ≡ both (isBefore (orderOf x (take 10 b))) (both (isSlot (take 140 b)) (slotsFit (take 10 b) (n - 1) (drop 140 b)))
+  unfolding slotsFit
+  slots-used zero h e = absurd (omega arith)
+  slots-used (suc n) h e =
+      let k : suc n - 1 ≡ n = omega arith in
+      rw (ne-eqb (getD b 0 0) 0 e, k)
+
+-- the number before stands from one index to another, and so many slots are left from an index on
+pub record Left (room : List ℕ) (from to at : ℕ) : Type 0 where
+  pub order : from ≤ to
+  pub inside : to ≤ length room
+  pub slots : ℕ
+  pub end : length room ≡ at + slots * 140
+  pub same : slotsFit (take (to - from) (drop from room)) slots (drop at room) ≡ isRoom (length room / 140) room
+
+pub left-start : (room : List ℕ) → length room % 140 ≡ 0 → Left room 0 0 0
+left-start room h =
+    record {
+      order = omega arith;
+      inside = omega arith;
+      slots = length room / 140;
+      end = omega arith;
+      same = sym (room-is (length room / 140) room (omega arith));
+    }
+
+module _ (room : List ℕ) (from to at : ℕ) (l : Left room from to at) where
+  abbrev before : List ℕ
+  before = take (to - from) (drop from room)
+
+  pub left-end : length room ≤ at → true ≡ isRoom (length room / 140) room
+  left-end h = let e = l .end in sym (slots-end before (l .slots) (drop at room) (omega arith)) ∙ l .same
+
+  module _ (h : at < length room) where
+    pub room-for-slot : at + 140 ≤ length room
+    room-for-slot = let e = l .end in omega arith
+
+    first-here : getD (drop at room) 0 0 ≡ getD room at 0
+    first-here = rw (getD-drop, add-zero)
+
+    pub left-unused : getD room at 0 ≡ 0 → (z : Bool) → z ≡ allZero (take (length room - at) (drop at room)) → z ≡ isRoom (length room / 140) room
+    left-unused e z q =
+        let k = l .end in
+        let d = length-drop at room in
+        q ∙ ap allZero (take-all (length room - at) (drop at room) (omega arith)) ∙ sym (slots-unused before (drop at room) (l .slots) (omega arith) (first-here ∙ e)) ∙ l .same
+
+    module _ (d : getD room at 0 ≡ 0 → ⊥) where
+      used-here :
+          both (isBefore (orderOf before (take 10 (drop at room))))
+          (both (isSlot (take 140 (drop at room))) (slotsFit (take 10 (drop at room)) (l .slots - 1) (drop 140 (drop at room))))
+          ≡ isRoom (length room / 140) room
+      used-here = let k = l .end in sym (slots-used before (drop at room) (l .slots) (omega arith) (λ e. d (sym first-here ∙ e))) ∙ l .same
+
+      module _ (u : Bool) (p : u ≡ isBefore (orderOf before (take (at + 10 - at) (drop at room)))) where
+        told-rises : isBefore (orderOf before (take 10 (drop at room))) ≡ u
+        told-rises =
+            let e : 10 ≡ at + 10 - at = omega arith in
+            ap (λ (k : ℕ). isBefore (orderOf before (take k (drop at room)))) e ∙ sym p
+
+        pub left-falls : u ≡ false → false ≡ isRoom (length room / 140) room
+        left-falls t = rw (told-rises, t) at used-here
+
+        module _ (t : u ≡ true) (v : Bool) (q : v ≡ isSlot (take (at + 140 - at) (drop at room))) where
+          told-slot : isSlot (take 140 (drop at room)) ≡ v
+          told-slot =
+              let e : 140 ≡ at + 140 - at = omega arith in
+              ap (λ (k : ℕ). isSlot (take k (drop at room))) e ∙ sym q
+
+          pub left-no-slot : v ≡ false → false ≡ isRoom (length room / 140) room
+          left-no-slot r = rw (told-rises, t, told-slot, r) at used-here
+
+          pub left-on : v ≡ true → Left room at (at + 10) (at + 140)
+          left-on r =
+              let k = l .end in
+              let e : at + 10 - at ≡ 10 = omega arith in
+              record {
+                order = omega arith;
+                inside = omega arith;
+                slots = l .slots - 1;
+                end = omega arith;
+                same = rw (e, ← drop-drop 140 at room) (rw (told-rises, t, told-slot, r) at used-here);
+              }

@@ -7,7 +7,7 @@ use mathlib.Core.Option.{Option, none, some}
 use Prim.Native.Nat.{ℕ, suc, _+_, _-_, _≤_, _<_}
 use native.Mathlib.Omega.{arith}
 use lib.Dec.{eqb, leb, ltb}
-use borrow.Author.Tests.{eq-eqb, ne-eqb, eqb-true, eqb-false, leb-true, lt-leb}
+use borrow.Author.Tests.{eq-eqb, ne-eqb, eqb-true, eqb-false, leb-true, le-leb, lt-leb}
 use lib.ListN.{length, getD, take, drop, length-append, length-drop}
 use lib.Seq.{drop-cons, drop-drop, take-all, length-take-le}
 use Rattle.laws.specs.Choice.{pick, both, either, choose, all, both-parts, both-true, both-false, false≢true}
@@ -152,6 +152,42 @@ module _ (s : List ℕ) (h : length s ≡ 140) where
         ∙ ap (both (isNumber (take 10 s)))
         (ap (both (goodEntries (liveIn s) (pendingIn s))) entries-same
         ∙ entries-fit (getD s 10 0) (getD s 75 0) c d (calendar-at 11 (omega arith)) (calendar-at 76 (omega arith)) (allZero c) (allZero d))
+
+-- ---- for the code, way by way
+
+module _ (l p : ℕ) (z w : Bool) where
+  pub fits-put : l ≡ 0 → p ≡ 1 → z ≡ fits l p z w
+  unfolding fits
+  fits-put e q = rw (e, q)
+
+  pub fits-none : l ≡ 0 → (p ≡ 1 → ⊥) → false ≡ fits l p z w
+  unfolding fits
+  fits-none e q = rw (e, ne-eqb p 1 q)
+
+  pub fits-no-flag : (l ≡ 0 → ⊥) → (l ≡ 1 → ⊥) → false ≡ fits l p z w
+  unfolding fits
+  fits-no-flag e q = rw (ne-eqb l 0 e, ne-eqb l 1 q)
+
+  module _ (e : l ≡ 1) where
+    pub fits-both : p ≡ 1 → true ≡ fits l p z w
+    unfolding fits
+    fits-both q = rw (e, q)
+
+    module _ (q : p ≡ 1 → ⊥) where
+      pub fits-no-entry : 2 < p → false ≡ fits l p z w
+      unfolding fits
+      fits-no-entry k = rw (e, ne-eqb p 1 q, lt-leb p 2 k)
+
+      pub fits-live : p ≤ 2 → w ≡ fits l p z w
+      unfolding fits
+      fits-live k = rw (e, ne-eqb p 1 q, le-leb p 2 k)
+
+module _ (s : List ℕ) (h : length s ≡ 140) (b : Bytes s) (m : Bool) (q : m ≡ isNumber (take 10 s)) where
+  pub slot-no-number : m ≡ false → false ≡ isSlot s
+  slot-no-number t = sym (slot-is s h b ∙ rw (← q, t))
+
+  pub slot-number-fits : m ≡ true → fits (getD s 10 0) (getD s 75 0) (allZero (take 64 (drop 11 s))) (allZero (take 64 (drop 76 s))) ≡ isSlot s
+  slot-number-fits t = sym (slot-is s h b ∙ rw (← q, t))
 
 -- ---- a good record's slot is as long as any
 
