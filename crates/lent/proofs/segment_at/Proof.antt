@@ -19,7 +19,7 @@ use Rattle.lent.specs.Laws.{found-over, found-told}
 returns : tie.Need-returns
 returns c =
     let a = c .before .before .args in
-    found-over (now (a .s)) (a .at) (c .if1 .taken)
+    found-over (now (a .s)) (a .at) (omega arith)
 
 read-segment-requires : tie.Need-read-segment-requires
 read-segment-requires c κs = search needs
