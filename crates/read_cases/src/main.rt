@@ -273,4 +273,7 @@ fn main() {
     let mut buffer = [0u8; 65536];
     let n = io::read_full(0, &mut buffer);
     answer_all(&buffer[..n]);
+    // The largest numbers that are printed; and rows that the buffer does not hold are none.
+    answer_refusal(255, 18446744073709551615);
+    answer_rows(&[55, 0, 0x55495A, 63], 15000);
 }
