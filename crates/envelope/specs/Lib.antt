@@ -3,4 +3,3 @@ pub mod Envelope
 pub mod Laws
 pub mod Ways
 pub mod Written
-pub mod Cases

@@ -5,7 +5,6 @@ pub mod Reading
 pub mod Tags
 pub mod Skdupd
 pub mod Tsdupd
-pub mod Cases
 pub mod Walks
 pub mod Laws
 pub mod WellFormed
