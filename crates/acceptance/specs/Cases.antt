@@ -16,8 +16,9 @@ use Rattle.placing.specs.Skdupd.{skdupdTable}
 use Rattle.placing.specs.Tsdupd.{tsdupdTable}
 use Rattle.envelope.specs.Decimal.{decimalOn}
 use Rattle.envelope.specs.Envelope.{uibOf, uihOf, trailerOf}
+use Rattle.answers.specs.Answers.{refused}
 use Rattle.steps.specs.Step.{opening, between, closing, trailing, placed, inside, stepBy}
-use Rattle.interchange.specs.Reader.{faulty, turnAt, readOn, readingOf, numbers}
+use Rattle.interchange.specs.Reader.{turnAt, readOn, readingOf, numbers}
 use Rattle.acceptance.specs.Interchange.{written, unbroken, isSegment, Interchange, segmentsOf, placesFrom, isMessage, holds, rowsFrom, rowsOf}
 
 -- `UIB+UNOB:4+7`
@@ -68,11 +69,11 @@ unfolding holds isMessage isSegment unbroken placesFrom permittedOf plainOn firs
 printed-four = refl
 
 -- "With `UIT+1+4'` it is 7 at 47."
-pub refused-four : readingOf (written (segmentsOf (one uit-four))) .verdict ≡ faulty (record { number = 7; position = 47 })
+pub refused-four : readingOf (written (segmentsOf (one uit-four))) .verdict ≡ refused 7 47
 unfolding written permittedOf plainOn first later partOf tagged componentFits occurrenceFits elementFits withinLimits wellFormed scanOf permittedRun spanOf countedAt elementAt sameText entryOf afterOf endOf placesOn reachable firstFit inGroup again laterOnes choicesFrom firstOf stepOf skdupdTable tsdupdTable decimalOn uibOf uihOf trailerOf opening between closing trailing placed inside stepBy turnAt readOn readingOf
 refused-four = refl
 
 -- "A newline added at the end is 7 at 63."
-pub refused-newline : readingOf (written (segmentsOf (one uit)) ++ (10 ∷ [])) .verdict ≡ faulty (record { number = 7; position = 63 })
+pub refused-newline : readingOf (written (segmentsOf (one uit)) ++ (10 ∷ [])) .verdict ≡ refused 7 63
 unfolding written permittedOf plainOn first later partOf tagged componentFits occurrenceFits elementFits withinLimits wellFormed scanOf permittedRun spanOf countedAt elementAt sameText entryOf afterOf endOf placesOn reachable firstFit inGroup again laterOnes choicesFrom firstOf stepOf skdupdTable tsdupdTable decimalOn uibOf uihOf trailerOf opening between closing trailing placed inside stepBy turnAt readOn readingOf
 refused-newline = refl

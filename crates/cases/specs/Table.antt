@@ -14,7 +14,8 @@ use Rattle.syntax.specs.declared.segment.Scanned.{Scanned}
 use Rattle.syntax.specs.declared.segment.Scanned.the-variants.{End, NotPermitted, Unended, Malformed}
 use Rattle.dates.specs.Dates.{number}
 use Rattle.dates.specs.declared.Date.{Date}
-use Rattle.period.specs.Period.{periodOf, paperNumber, runsIn}
+use Rattle.answers.specs.Answers as answers
+use Rattle.period.specs.Period.{periodOf, periodAnswer, runsIn}
 use Rattle.period.specs.declared.Period.{Period}
 use Rattle.period.specs.declared.Period.the-variants.{Good, Wrong}
 use Rattle.values.specs.Values.{sameText}
@@ -57,7 +58,7 @@ whole n Unended = false
 whole n Malformed = false
 
 unfoldable pub comesOf : List ℕ → Period → Outcome → Bool
-comesOf g p (refused x) = eqb (paperNumber p) x
+comesOf g p (refused x) = eqb (answers.number (periodAnswer 0 p)) x
 comesOf g (Wrong x) (period first last n days) = false
 comesOf g (Good f m form) (period first last n days) =
     both (eqb f (number first))

@@ -1,6 +1,8 @@
 pub mod Table
 pub mod Place
 pub mod Rule
+pub mod Answer
+pub mod Said
 pub mod Reading
 pub mod Tags
 pub mod Skdupd
