@@ -2,9 +2,22 @@
 -- Assumes nothing.
 use Prim.Native.Nat.{ℕ}
 use Rattle.answers.specs.Answers.{Answer, done, refused}
+use Rattle.dates.specs.declared.Date.{Date}
+use Rattle.dates.specs.declared.Made.{Made}
+use Rattle.dates.specs.declared.Made.the-variants.{Valid, NoDate}
+use Rattle.dates.specs.Dates.{date, madeOf}
 use Rattle.desk.specs.declared.Reply.{Reply}
+use Rattle.desk.specs.declared.calendars.Day.{Day}
 
--- "0 done", with how many rows were written; else the refusal's number and position
+-- "0 done", with a value; else the refusal's number and position
 abbrev pub replyOf : Answer ℕ → Reply
-replyOf (done n) = record { number = 0; position = 0; rows = n }
-replyOf (refused number position) = record { number = number; position = position; rows = 0 }
+replyOf (done n) = record { number = 0; position = 0; value = n }
+replyOf (refused number position) = record { number = number; position = position; value = 0 }
+
+-- a date as C gives it: any three numbers; where they are no date, 0000-00-00, which is none either
+abbrev pub orNone : Made → Date
+orNone (Valid d) = d
+orNone NoDate = date 0 0 0
+
+abbrev pub dateOf : Day → Date
+dateOf d = orNone (madeOf (d .year) (d .month) (d .day))

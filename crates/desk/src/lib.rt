@@ -1,35 +1,52 @@
-//! What C calls: numbers and slices only. A slice is a pointer and, after it, a length.
+//! What C calls: numbers and slices only (include/drumcallisto.h). A slice is a pointer and, after it, a length.
+
+pub mod calendars;
+pub mod reading;
 
 use interchange::reader::Reading;
 use interchange::reader::read;
 ghost use mathlib.Core.Path.{_≡_};
 ghost use lib.ListN.{length};
 ghost use Rattle.interchange.specs.Reader.{readingOf, readAnswer, answerOf, rowsAfter};
+ghost use Rattle.answers.specs.Answers as answer;
 ghost use Rattle.desk.specs.Desk.{replyOf};
 
-/// What reading an interchange comes to. Number 0 is accepted, with how many rows were written; any other number is a
-/// refusal, with its position and no row.
+/// What a call comes to. Number 0 is done, with a value; any other number is a refusal, with its position and no value.
 #[repr(C)]
 pub struct Reply {
     pub number: u8,
     pub position: usize,
-    pub rows: usize,
+    pub value: usize,
+}
+
+// The reply of a call that is done.
+fn done(value: usize) -> Reply
+    ensures { λ r. ⌜ r ≡ replyOf (answer.done value) ⌝ }
+{
+    Reply {
+        number: 0,
+        position: 0,
+        value,
+    }
+}
+
+// The reply of a refusal.
+fn refused(number: u8, position: usize) -> Reply
+    ensures { λ r. ⌜ r ≡ replyOf (answer.refused number position) ⌝ }
+{
+    Reply {
+        number,
+        position,
+        value: 0,
+    }
 }
 
 fn told(reading: Reading) -> Reply
     ensures { λ r. ⌜ r ≡ replyOf (readAnswer reading) ⌝ }
 {
     match reading {
-        Reading::Rows(n) => Reply {
-            number: 0,
-            position: 0,
-            rows: n,
-        },
-        Reading::Refused(refusal) => Reply {
-            number: refusal.number,
-            position: refusal.position,
-            rows: 0,
-        },
+        Reading::Rows(n) => done(n),
+        Reading::Refused(refusal) => refused(refusal.number, refusal.position),
     }
 }
 
