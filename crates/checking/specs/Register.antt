@@ -6,18 +6,18 @@ use mathlib.Core.List.{List, [], _∷_, _++_, map, append-assoc}
 use Prim.Native.Nat.{ℕ, zero, suc, _+_, _-_, _*_, _/_, _%_, _≤_, _<_}
 use native.Mathlib.Omega.{arith}
 use native.Mathlib.Nat.{sub-zero, add-zero}
-use lib.Dec.{eqb, leb, lit≤}
+use lib.Dec.{eqb, leb}
 use borrow.Author.Tests.{eq-eqb, eqb-true, le-leb, lt-leb, leb-true, leb-false}
 use lib.ListN.{length, getD, take, drop, replicate, length-append, length-replicate, length-drop}
 use lib.Seq.{take-all, take-take, drop-drop, getD-take, getD-drop, length-take-le}
-use Rattle.laws.specs.Choice.{pick, both, choose, all, both-parts, both-assoc₃, both-false, false≢true}
+use Rattle.laws.specs.Choice.{both, choose, both-parts, both-assoc₃, both-false, false≢true}
 use Rattle.laws.specs.Joined.{joined, total}
-use Rattle.laws.specs.Lists.{between, length-between, drop-take}
+use Rattle.laws.specs.Lists.{between, drop-take}
 use Rattle.values.specs.Values.{sameText}
 use Rattle.gaps.specs.Zero.{allZero}
 use Rattle.contents.specs.Contents.{Record, Contents, goodAccount, goodAccounts, goodWindow, goodQuotas, good}
-use Rattle.contents.specs.Written.{twoBytes, headOf, roomBytes, roomsBytes, written, recordIn, recordsIn, accountsIn, numbersIn, held, isRegister}
-use Rattle.checking.specs.Same.{Bytes, bytes-drop, same-itself, same-append, same-zeros, other-length}
+use Rattle.contents.specs.Written.{twoBytes, headOf, roomBytes, roomsBytes, written, recordsIn, accountsIn, numbersIn, held, isRegister}
+use Rattle.slot_check.specs.Same.{Bytes, same-itself, same-append, same-zeros, other-length}
 use Rattle.checking.specs.Room.{isRoom, room-length}
 
 -- whether bytes are rooms of so many slots each, one behind the other, and zeros

@@ -8,10 +8,10 @@ use Prim.Native.Nat.{ℕ, zero, suc, _+_, _-_, _*_, _/_, _%_, _≤_, _<_}
 use native.Mathlib.Omega.{arith}
 use native.Mathlib.Nat.{sub-zero, add-zero}
 use lib.Dec.{eqb, leb, lit≤}
-use borrow.Author.Tests.{eq-eqb, ne-eqb, eqb-true, eqb-false, le-leb, leb-true}
+use borrow.Author.Tests.{eq-eqb, ne-eqb, le-leb, leb-true}
 use lib.ListN.{length, getD, take, drop, replicate, length-append, length-replicate, length-drop}
 use lib.Seq.{take-take, take-all, drop-drop, getD-drop, length-take-le}
-use Rattle.laws.specs.Choice.{pick, both, choose, all, both-parts, both-assoc, both-true, both-false, false≢true}
+use Rattle.laws.specs.Choice.{pick, both, choose, all, both-parts, both-assoc, both-false}
 use Rattle.laws.specs.Joined.{joined}
 use Rattle.syntax.specs.Bytes.{permittedOf}
 use Rattle.values.specs.Values.{sameText}
@@ -20,9 +20,9 @@ use Rattle.slots.specs.Order.{orderOf}
 use Rattle.slots.specs.Rising.{isBefore}
 use Rattle.contents.specs.Contents.{Record, goodNumber, goodEntries, goodRecord, comesBefore, inOrder, goodAccount}
 use Rattle.contents.specs.Written.{upToZero, slotOf, roomBytes, recordIn, recordsIn}
-use Rattle.checking.specs.Same.{same-append, same-zeros, other-length}
-use Rattle.checking.specs.Number.{isNumber, before-any, before-first, before-filled}
-use Rattle.checking.specs.Slot.{isSlot, slot-parts, length-slot}
+use Rattle.slot_check.specs.Same.{same-append, same-zeros}
+use Rattle.slot_check.specs.Number.{isNumber, before-any, before-first, before-filled}
+use Rattle.slot_check.specs.Slot.{isSlot, slot-parts, length-slot}
 
 -- whether n slots are used ones whose numbers rise, the first above the number before it, and zeros from the first unused one on
 unfoldable pub slotsFit : List ℕ → ℕ → List ℕ → Bool

@@ -18,7 +18,7 @@ abbrev μ-loop : tie.MeasureT-loop
 μ-loop b at₀ k₀ at k = 8 - k
 
 loop-holds : tie.Need-loop-holds Inv-loop μ-loop
-loop-holds c = rooms-start (c .before .args .b .now) (c .before .pre)
+loop-holds c = let h = c .before .pre in rooms-start (c .before .args .b .now) (omega arith)
 
 mul-number-at : tie.Need-mul-number-at Inv-loop μ-loop
 mul-number-at c = omega arith

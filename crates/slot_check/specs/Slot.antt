@@ -2,9 +2,9 @@
 -- Assumes nothing.
 use mathlib.Core.Path.{_≡_, refl, sym, _∙_, ap}
 use mathlib.Core.Bool.{Bool, true, false}
-use mathlib.Core.List.{List, [], _∷_, _++_}
+use mathlib.Core.List.{List, _∷_, _++_}
 use mathlib.Core.Option.{Option, none, some}
-use Prim.Native.Nat.{ℕ, suc, _+_, _-_, _≤_, _<_}
+use Prim.Native.Nat.{ℕ, _+_, _≤_, _<_}
 use native.Mathlib.Omega.{arith}
 use lib.Dec.{eqb, leb, ltb}
 use borrow.Author.Tests.{eq-eqb, ne-eqb, eqb-true, eqb-false, leb-true, le-leb, lt-leb}
@@ -16,8 +16,8 @@ use Rattle.values.specs.Values.{sameText}
 use Rattle.gaps.specs.Zero.{allZero}
 use Rattle.contents.specs.Contents.{Pending, nothing, put, removal, Record, isCalendar, goodNumber, goodEntries, goodRecord}
 use Rattle.contents.specs.Written.{filledUp, upToZero, liveBytes, pendingBytes, slotOf, liveIn, pendingIn, recordIn}
-use Rattle.checking.specs.Same.{Bytes, bytes-drop, bytes-all, same-itself, same-append, same-number, same-zeros}
-use Rattle.checking.specs.Number.{isNumber, length-filled, length-up}
+use Rattle.slot_check.specs.Same.{Bytes, bytes-drop, bytes-all, same-itself, same-append, same-number, same-zeros, other-length}
+use Rattle.slot_check.specs.Number.{isNumber, length-filled, length-up}
 
 -- whether bytes are a good record, written
 unfoldable pub isSlot : List ℕ → Bool
@@ -214,3 +214,12 @@ length-slot r q =
     let v = both-parts (both (leb 1 (length x)) (leb (length x) 10)) (all permittedOf x) (w .0) in
     let u = leb-true (length x) 10 (both-parts (leb 1 (length x)) (leb (length x) 10) (v .0) .1) in
     rw (length-append, length-filled 10 x u, entries-length (r .live) (r .pending) (w .1))
+
+pub other-slot : (s : List ℕ) → (length s ≡ 140 → ⊥) → isSlot s ≡ false
+unfolding isSlot
+other-slot s h =
+    choose (goodRecord (recordIn s))
+    (λ g.
+    let l = length-slot (recordIn s) g in
+    rw g (other-length (slotOf (recordIn s)) s (λ e. h (sym e ∙ l))))
+    (λ g. rw g)

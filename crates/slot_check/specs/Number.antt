@@ -2,28 +2,26 @@
 -- Assumes nothing.
 use mathlib.Core.Path.{_≡_, refl, sym, _∙_, ap}
 use mathlib.Core.Bool.{Bool, true, false}
-use mathlib.Core.List.{List, [], _∷_, _++_}
-use Prim.Native.Nat.{ℕ, zero, suc, _+_, _-_, _≤_, _<_}
+use mathlib.Core.List.{List, [], _∷_}
+use Prim.Native.Nat.{ℕ, suc, _+_, _-_, _≤_, _<_}
 use native.Mathlib.Omega.{arith}
 use native.Mathlib.Nat.{sub-zero}
 use lib.Dec.{eqb, ltb, leb}
 use borrow.Author.Tests.{eq-eqb, ne-eqb, eqb-true, eqb-false, ltb-true, ltb-false, leb-true, le-leb}
-use lib.ListN.{length, getD, take, drop, replicate, length-append, length-replicate, length-drop}
+use lib.ListN.{length, getD, take, drop, length-append, length-replicate, length-drop}
 use lib.Seq.{take-all}
-use Rattle.laws.specs.Choice.{pick, both, either, choose, all, both-parts, both-assoc, both-false, both-true}
+use Rattle.laws.specs.Choice.{pick, both, choose, all, both-parts, both-assoc, both-true}
 use Rattle.laws.specs.Lists.{drop-here, drop-past}
 use Rattle.syntax.specs.Bytes.{permittedOf}
 use Rattle.values.specs.Values.{sameText}
 use Rattle.gaps.specs.Zero.{allZero}
-use Rattle.slots.specs.declared.Order.{Order}
-use Rattle.slots.specs.declared.Order.the-variants.{Before, Same, After}
 use Rattle.slots.specs.Order.{orderOf}
 use Rattle.slots.specs.Rising.{isBefore}
 use Rattle.records.specs.Padded.{NoZero, order-filled}
 use Rattle.records.specs.Padded as padded
 use Rattle.contents.specs.Contents.{goodNumber, comesBefore}
 use Rattle.contents.specs.Written.{filledUp, upToZero}
-use Rattle.checking.specs.Same.{same-zeros, same-told}
+use Rattle.slot_check.specs.Same.{same-zeros, same-told}
 
 -- how many bytes, from the first on, are permitted
 unfoldable pub permittedRun : List ℕ → ℕ
