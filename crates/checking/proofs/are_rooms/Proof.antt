@@ -98,10 +98,10 @@ loop-again c =
     rooms-on (buffer i) (l .at) (l .k) (l .inv) (i .loop-test .taken) (quota e) (e .before .number-at .ensures .0) (e .if1 .left) (c .before .is-room .result) (c .before .is-room .ensures) (not-false _ (c .if2 .left))
 
 sub-is-zero : tie.Need-sub-is-zero Inv-loop μ-loop
-sub-is-zero c = c .before .loop .inv .inside
+sub-is-zero c = let h = c .before .loop .inv .inside in let p = c .before .before .before .pre in omega arith
 
 part-is-zero-start : tie.Need-part-is-zero-start Inv-loop μ-loop
-part-is-zero-start c = c .before .loop .inv .inside
+part-is-zero-start c = let h = c .before .loop .inv .inside in let p = c .before .before .before .pre in search needs
 
 part-is-zero-end : tie.Need-part-is-zero-end Inv-loop μ-loop
 part-is-zero-end c = search needs
