@@ -195,13 +195,13 @@ module _ (b : List ℕ) (at k : ℕ) (l : RoomsLeft b at k) where
   abbrev fit : Bool
   fit = roomsFit (numbersIn 8 (drop 2 b)) (drop 18 b)
 
-  pub rooms-end : 8 ≤ k → (z : Bool) → z ≡ allZero (take (length b - at) (drop at b)) → z ≡ fit
+  pub rooms-end : 8 ≤ k → (n : ℕ) → length b ≤ n → (z : Bool) → z ≡ allZero (between b at n) → z ≡ fit
   unfolding roomsFit numbersIn
-  rooms-end h z q =
+  rooms-end h n m z q =
       let a = l .accounts in
       let e : 8 - k ≡ 0 = omega arith in
       let d = length-drop at b in
-      q ∙ ap allZero (take-all (length b - at) (drop at b) (omega arith)) ∙ (rw e at (l .same))
+      q ∙ ap allZero (take-all (n - at) (drop at b) (omega arith)) ∙ (rw e at (l .same))
 
   module _ (h : k < 8) (n : ℕ) (e : n ≡ getD b (2 + k * 2) 0 + 256 * getD b (2 + k * 2 + 1) 0) where
     next-room : both (leb (n * 140) (length b - at)) (both (isRoom n (take (n * 140) (drop at b))) (roomsFit (numbersIn (8 - (k + 1)) (drop (2 + (k + 1) * 2) b)) (drop (at + n * 140) b))) ≡ fit

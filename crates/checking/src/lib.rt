@@ -19,6 +19,11 @@ const SLOT: usize = 140;
 
 const NUMBER: usize = 10;
 
+// The days of a window, and how many dates there are.
+const WINDOW: usize = 512;
+
+const DATES: usize = 40177;
+
 // Whether one text comes before another.
 fn comes_before(a: &[u8], b: &[u8]) -> bool
     ensures { λ r. ⌜ r ≡ isBefore (orderOf (now (a .entry)) (now (b .entry))) ⌝ }
@@ -90,7 +95,7 @@ fn are_rooms(b: &[u8]) -> bool
         at = end;
         k += 1;
     }
-    gaps::is_zero(&b[at..])
+    gaps::is_zero(&b[at..LENGTH])
 }
 
 /// Whether bytes are a register.
@@ -100,7 +105,7 @@ pub fn is_register(b: &[u8]) -> bool
     if b.len() != LENGTH {
         return false;
     }
-    if number_at(b, 0) + 512 > 40177 {
+    if number_at(b, 0) + WINDOW > DATES {
         return false;
     }
     are_rooms(b)

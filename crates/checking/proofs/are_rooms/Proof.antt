@@ -113,7 +113,8 @@ returns-3 : tie.Need-returns-3 Inv-loop μ-loop
 returns-3 c =
     let a = c .before .before in
     let l = a .before .loop in
-    rooms-end (a .before .before .before .args .b .now) (l .at) (l .k) (l .inv) (a .loop-test .left) (c .is-zero .result) (c .is-zero .ensures)
+    let p = a .before .before .before .pre in
+    rooms-end (a .before .before .before .args .b .now) (l .at) (l .k) (l .inv) (a .loop-test .left) 35858 (omega arith) (c .is-zero .result) (c .is-zero .ensures)
 
 pub are-rooms-spec : {M : Type 1} → statement M
 are-rooms-spec =
