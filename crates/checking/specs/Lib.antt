@@ -1,5 +1,2 @@
-pub mod Same
-pub mod Number
-pub mod Slot
 pub mod Room
 pub mod Register

@@ -6,18 +6,20 @@ use mathlib.Core.List.{List, [], _∷_, _++_, map, append-assoc}
 use Prim.Native.Nat.{ℕ, zero, suc, _+_, _-_, _*_, _/_, _%_, _≤_, _<_}
 use native.Mathlib.Omega.{arith}
 use native.Mathlib.Nat.{sub-zero, add-zero}
-use lib.Dec.{eqb, leb, lit≤}
-use borrow.Author.Tests.{eq-eqb, eqb-true, le-leb, lt-leb, leb-true, leb-false}
-use lib.ListN.{length, getD, take, drop, replicate, length-append, length-replicate, length-drop}
+use lib.Dec.{leb}
+use borrow.Author.Tests.{eq-eqb, le-leb, lt-leb, leb-true, leb-false}
+use lib.ListN.{length, getD, take, drop, replicate, length-drop}
 use lib.Seq.{take-all, take-take, drop-drop, getD-take, getD-drop, length-take-le}
-use Rattle.laws.specs.Choice.{pick, both, choose, all, both-parts, both-assoc₃, both-false, false≢true}
+use Rattle.laws.specs.Choice.{both, choose, both-assoc₃, both-false}
 use Rattle.laws.specs.Joined.{joined, total}
-use Rattle.laws.specs.Lists.{between, length-between, drop-take}
+use Rattle.laws.specs.Lists.{between, drop-take}
 use Rattle.values.specs.Values.{sameText}
 use Rattle.gaps.specs.Zero.{allZero}
-use Rattle.contents.specs.Contents.{Record, Contents, goodAccount, goodAccounts, goodWindow, goodQuotas, good}
-use Rattle.contents.specs.Written.{twoBytes, headOf, roomBytes, roomsBytes, written, recordIn, recordsIn, accountsIn, numbersIn, held, isRegister}
-use Rattle.checking.specs.Same.{Bytes, bytes-drop, same-itself, same-append, same-zeros, other-length}
+use Rattle.contents.specs.Contents.{Record, goodAccount, goodAccounts, goodWindow, goodQuotas, good}
+use Rattle.contents.specs.Written.{twoBytes, headOf, roomBytes, roomsBytes, written, recordsIn, accountsIn, numbersIn, held, isRegister}
+use Rattle.rooms.specs.Order.{same-itself}
+use Rattle.rooms.specs.Registers.{length-register}
+use Rattle.slot_check.specs.Same.{Bytes, same-append, same-zeros}
 use Rattle.checking.specs.Room.{isRoom, room-length}
 
 -- whether bytes are rooms of so many slots each, one behind the other, and zeros
@@ -33,17 +35,6 @@ records-take zero b = refl
 records-take (suc n) b =
     let e : suc n * 140 - 140 ≡ n * 140 = omega arith in
     rw (getD-take (suc n * 140) b 0 0 (omega arith), take-take 140 (suc n * 140) b (omega arith), drop-take 140 (suc n * 140) b, e, records-take n (drop 140 b))
-
-rooms-length : (qs : List ℕ) (l : List (List Record)) → goodAccounts qs l ≡ true → length (roomsBytes qs l) ≡ total qs * 140
-unfolding goodAccounts roomsBytes total
-rooms-length [] [] g = refl
-rooms-length [] (rs ∷ l) g = absurd (false≢true g)
-rooms-length (q ∷ qs) [] g = absurd (false≢true g)
-rooms-length (q ∷ qs) (rs ∷ l) g =
-    let w = both-parts (goodAccount q rs) (goodAccounts qs l) g in
-    let h = room-length q rs (w .0) in
-    let k = rooms-length qs l (w .1) in
-    simp length-append (omega arith)
 
 regrouped : (a g s t : Bool) → both a (both g (both s t)) ≡ both s (both a (both g t))
 regrouped true true s t = refl
@@ -124,41 +115,13 @@ head-again [] f h = absurd (omega arith)
 head-again (x ∷ []) f h = absurd (omega arith)
 head-again (x ∷ y ∷ b) f h = rw (low-byte x y (f 0), high-byte x y (f 0), numbers-again 8 b (λ i. f (suc (suc i))) (omega arith))
 
-pairs-length : (qs : List ℕ) → length (joined (map twoBytes qs)) ≡ length qs * 2
-unfolding joined
-pairs-length [] = refl
-pairs-length (q ∷ qs) = let h = pairs-length qs in omega arith
-
-head-length : (c : Contents) → length (c .quotas) ≡ 8 → length (headOf c) ≡ 18
-unfolding headOf
-head-length c h = rw (length-append, pairs-length (c .quotas), h)
-
 head-here : (b rest : List ℕ) → Bytes b → 18 ≤ length b → sameText (headOf (held b) ++ rest) b ≡ sameText rest (drop 18 b)
 head-here b rest f h = rw (head-again b f h) (same-append (take 18 b) rest b ∙ rw (length-take-le 18 b h, same-itself (take 18 b)))
 
 -- ---- the whole
 
--- good contents fill 35,858 bytes
-written-length : (c : Contents) → good c ≡ true → length (written c) ≡ 35858
-unfolding good goodQuotas written
-written-length c g =
-    let qs : List ℕ = c .quotas in
-    let w = both-parts (goodWindow (c .first)) (both (goodQuotas qs) (goodAccounts qs (c .accounts))) g .1 in
-    let v = both-parts (goodQuotas qs) (goodAccounts qs (c .accounts)) w in
-    let u = both-parts (eqb (length qs) 8) (leb (total qs) 256) (v .0) in
-    let k = head-length c (eqb-true (length qs) 8 (u .0)) in
-    let m = leb-true (total qs) 256 (u .1) in
-    let n = rooms-length qs (c .accounts) (v .1) in
-    simp (length-append, length-replicate) (omega arith)
-
 pub other-buffer : (b : List ℕ) → (length b ≡ 35858 → ⊥) → isRegister b ≡ false
-unfolding isRegister
-other-buffer b h =
-    choose (good (held b))
-    (λ g.
-    let l = written-length (held b) g in
-    rw g (other-length (written (held b)) b (λ e. h (sym e ∙ l))))
-    (λ g. rw g)
+other-buffer b h = choose (isRegister b) (λ q. absurd (h (length-register b q))) (λ q. q)
 
 -- what `is_register` tests
 pub register-is : (b : List ℕ) → Bytes b → length b ≡ 35858 → isRegister b ≡ both (goodWindow (getD b 0 0 + 256 * getD b 1 0)) (roomsFit (numbersIn 8 (drop 2 b)) (drop 18 b))
@@ -195,13 +158,13 @@ module _ (b : List ℕ) (at k : ℕ) (l : RoomsLeft b at k) where
   abbrev fit : Bool
   fit = roomsFit (numbersIn 8 (drop 2 b)) (drop 18 b)
 
-  pub rooms-end : 8 ≤ k → (z : Bool) → z ≡ allZero (take (length b - at) (drop at b)) → z ≡ fit
+  pub rooms-end : 8 ≤ k → (n : ℕ) → length b ≤ n → (z : Bool) → z ≡ allZero (between b at n) → z ≡ fit
   unfolding roomsFit numbersIn
-  rooms-end h z q =
+  rooms-end h n m z q =
       let a = l .accounts in
       let e : 8 - k ≡ 0 = omega arith in
       let d = length-drop at b in
-      q ∙ ap allZero (take-all (length b - at) (drop at b) (omega arith)) ∙ (rw e at (l .same))
+      q ∙ ap allZero (take-all (n - at) (drop at b) (omega arith)) ∙ (rw e at (l .same))
 
   module _ (h : k < 8) (n : ℕ) (e : n ≡ getD b (2 + k * 2) 0 + 256 * getD b (2 + k * 2 + 1) 0) where
     next-room : both (leb (n * 140) (length b - at)) (both (isRoom n (take (n * 140) (drop at b))) (roomsFit (numbersIn (8 - (k + 1)) (drop (2 + (k + 1) * 2) b)) (drop (at + n * 140) b))) ≡ fit

@@ -2,27 +2,29 @@
 -- Assumes nothing.
 use mathlib.Core.Path.{_≡_, refl, sym, _∙_, ap}
 use mathlib.Core.Bool.{Bool, true, false}
-use mathlib.Core.List.{List, [], _∷_, _++_, map, append-assoc}
+use mathlib.Core.List.{List, [], _∷_}
 use mathlib.Core.Logic.{_⊎_, inl, inr}
 use Prim.Native.Nat.{ℕ, zero, suc, _+_, _-_, _*_, _/_, _%_, _≤_, _<_}
 use native.Mathlib.Omega.{arith}
 use native.Mathlib.Nat.{sub-zero, add-zero}
-use lib.Dec.{eqb, leb, lit≤}
-use borrow.Author.Tests.{eq-eqb, ne-eqb, eqb-true, eqb-false, le-leb, leb-true}
-use lib.ListN.{length, getD, take, drop, replicate, length-append, length-replicate, length-drop}
+use lib.Dec.{eqb, lit≤}
+use borrow.Author.Tests.{eq-eqb, ne-eqb, le-leb}
+use lib.ListN.{length, getD, take, drop, length-drop}
 use lib.Seq.{take-take, take-all, drop-drop, getD-drop, length-take-le}
-use Rattle.laws.specs.Choice.{pick, both, choose, all, both-parts, both-assoc, both-true, both-false, false≢true}
+use Rattle.laws.specs.Choice.{pick, both, choose, all, both-parts, both-assoc, both-false}
 use Rattle.laws.specs.Joined.{joined}
-use Rattle.syntax.specs.Bytes.{permittedOf}
 use Rattle.values.specs.Values.{sameText}
 use Rattle.gaps.specs.Zero.{allZero}
 use Rattle.slots.specs.Order.{orderOf}
 use Rattle.slots.specs.Rising.{isBefore}
-use Rattle.contents.specs.Contents.{Record, goodNumber, goodEntries, goodRecord, comesBefore, inOrder, goodAccount}
+use Rattle.contents.specs.Contents.{Record, goodRecord, comesBefore, inOrder, goodAccount}
 use Rattle.contents.specs.Written.{upToZero, slotOf, roomBytes, recordIn, recordsIn}
-use Rattle.checking.specs.Same.{same-append, same-zeros, other-length}
-use Rattle.checking.specs.Number.{isNumber, before-any, before-first, before-filled}
-use Rattle.checking.specs.Slot.{isSlot, slot-parts, length-slot}
+use Rattle.rooms.specs.Order.{number-least}
+use Rattle.rooms.specs.Slots.{record-number, length-slot, length-room, account-records, account-fits}
+use Rattle.rooms.specs.Registers.{room-cons}
+use Rattle.slot_check.specs.Same.{same-append, same-zeros}
+use Rattle.slot_check.specs.Number.{isNumber, before-any, before-first, before-filled}
+use Rattle.slot_check.specs.Slot.{isSlot, slot-parts}
 
 -- whether n slots are used ones whose numbers rise, the first above the number before it, and zeros from the first unused one on
 unfoldable pub slotsFit : List ℕ → ℕ → List ℕ → Bool
@@ -53,22 +55,8 @@ unfolding recordsIn
 records-le zero b = omega arith
 records-le (suc n) b = choose (eqb (getD b 0 0) 0) (λ p. rw p (omega arith)) (λ p. rw p (let h = records-le n (drop 140 b) in omega arith))
 
-slots-length : (rs : List Record) → all goodRecord rs ≡ true → length (joined (map slotOf rs)) ≡ length rs * 140
-unfolding joined
-slots-length [] q = refl
-slots-length (r ∷ rs) q =
-    let w = both-parts (goodRecord r) (all goodRecord rs) q in
-    let l = length-slot r (w .0) in
-    let h = slots-length rs (w .1) in
-    simp length-append (omega arith)
-
 pub room-length : (n : ℕ) (rs : List Record) → goodAccount n rs ≡ true → length (roomBytes n rs) ≡ n * 140
-unfolding goodAccount roomBytes
-room-length n rs q =
-    let w = both-parts (leb (length rs) n) (both (all goodRecord rs) (inOrder rs)) q in
-    let h = leb-true (length rs) n (w .0) in
-    let l = slots-length rs (both-parts (all goodRecord rs) (inOrder rs) (w .1) .0) in
-    simp (length-append, length-replicate) (omega arith)
+room-length n rs q = length-room n rs (account-records n rs q) (account-fits n rs q)
 
 -- ---- slot by slot
 
@@ -91,12 +79,10 @@ regrouped g a c o s t p q = rw (p, q) (go a c)
 -- a record's slot, then the room of the others
 first-row : (r : Record) (rs : List Record) (n : ℕ) (b : List ℕ) → goodRecord r ≡ true
     → sameText (roomBytes (suc n) (r ∷ rs)) b ≡ both (sameText (slotOf r) (take 140 b)) (sameText (roomBytes n rs) (drop 140 b))
-unfolding roomBytes joined
 first-row r rs n b g =
-    let e : suc n - suc (length rs) ≡ n - length rs = omega arith in
-    rw (e, append-assoc (slotOf r) (joined (map slotOf rs)) (replicate ((n - length rs) * 140) 0))
-    (same-append (slotOf r) (joined (map slotOf rs) ++ replicate ((n - length rs) * 140) 0) b
-    ∙ ap (λ (k : ℕ). both (sameText (slotOf r) (take k b)) (sameText (joined (map slotOf rs) ++ replicate ((n - length rs) * 140) 0) (drop k b))) (length-slot r g))
+    rw (room-cons n r rs)
+    (same-append (slotOf r) (roomBytes n rs) b
+    ∙ ap (λ (k : ℕ). both (sameText (slotOf r) (take k b)) (sameText (roomBytes n rs) (drop k b))) (length-slot r g))
 
 -- good records in order behind the number x, written
 abbrev goodRows : List ℕ → ℕ → List Record → List ℕ → Bool
@@ -157,12 +143,7 @@ rows-fit x (suc n) b t h =
 
 -- before the first record's number stands none
 some-number : (r : Record) → goodRecord r ≡ true → comesBefore [] (r .number) ≡ true
-unfolding goodRecord goodNumber
-some-number r q =
-    let x : List ℕ = r .number in
-    let w = both-parts (goodNumber x) (goodEntries (r .live) (r .pending)) q in
-    let v = both-parts (both (leb 1 (length x)) (leb (length x) 10)) (all permittedOf x) (w .0) in
-    before-any x (leb-true 1 (length x) (both-parts (leb 1 (length x)) (leb (length x) 10) (v .0) .0))
+some-number r q = before-any (r .number) (number-least (r .number) (record-number r q))
 
 from-none : (rs : List Record) → both (all goodRecord rs) (inOrder rs) ≡ both (all goodRecord rs) (risingFrom [] rs)
 unfolding risingFrom inOrder

@@ -7,8 +7,6 @@ ghost use lib.ListN.{length, getD, drop};
 ghost use Rattle.slots.specs.Order.{orderOf};
 ghost use Rattle.slots.specs.Rising.{isBefore};
 ghost use Rattle.contents.specs.Written.{numbersIn, isRegister};
-ghost use Rattle.checking.specs.Number.{permittedRun, isNumber};
-ghost use Rattle.checking.specs.Slot.{isSlot};
 ghost use Rattle.checking.specs.Room.{isRoom};
 ghost use Rattle.checking.specs.Register.{roomsFit};
 use slots::Order;
@@ -21,59 +19,10 @@ const SLOT: usize = 140;
 
 const NUMBER: usize = 10;
 
-// How many bytes, from the first on, are permitted.
-fn permitted_run(x: &[u8]) -> usize
-    ensures { λ r. ⌜ r ≡ permittedRun (now (x .entry)) ⌝ }
-{
-    let mut i = 0;
-    while i < x.len() {
-        if !syntax::bytes::permitted(x[i]) {
-            return i;
-        }
-        i += 1;
-    }
-    i
-}
+// The days of a window, and how many dates there are.
+const WINDOW: usize = 512;
 
-// Whether bytes are a number, filled up with zeros.
-fn is_number(x: &[u8]) -> bool
-    requires { ⌜ length (now x) ≡ 10 ⌝ }
-    ensures { λ r. ⌜ r ≡ isNumber (now (x .entry)) ⌝ }
-{
-    let end = permitted_run(x);
-    if end == 0 {
-        return false;
-    }
-    gaps::is_zero(&x[end..])
-}
-
-// Whether bytes are a slot in use: its number, a live calendar or none, a pending entry or none.
-fn is_slot(slot: &[u8]) -> bool
-    requires { ⌜ length (now slot) ≡ 140 ⌝ }
-    ensures { λ r. ⌜ r ≡ isSlot (now (slot .entry)) ⌝ }
-{
-    let live = slot[10];
-    let pending = slot[75];
-    if !is_number(&slot[..NUMBER]) {
-        return false;
-    }
-    if live == 0 {
-        if pending != 1 {
-            return false;
-        }
-        return gaps::is_zero(&slot[11..75]);
-    }
-    if live != 1 {
-        return false;
-    }
-    if pending == 1 {
-        return true;
-    }
-    if pending > 2 {
-        return false;
-    }
-    gaps::is_zero(&slot[76..140])
-}
+const DATES: usize = 40177;
 
 // Whether one text comes before another.
 fn comes_before(a: &[u8], b: &[u8]) -> bool
@@ -103,7 +52,7 @@ fn is_room(room: &[u8]) -> bool
             return false;
         }
         let next = at + SLOT;
-        if !is_slot(&room[at..next]) {
+        if !slot_check::is_slot(&room[at..next]) {
             return false;
         }
         from = at;
@@ -129,7 +78,7 @@ fn number_at(b: &[u8], at: usize) -> usize
 
 // Whether behind the head stand a room for each quota, and zeros.
 fn are_rooms(b: &[u8]) -> bool
-    requires { ⌜ 18 ≤ length (now b) ⌝ }
+    requires { ⌜ length (now b) ≡ 35858 ⌝ }
     ensures { λ r. ⌜ r ≡ roomsFit (numbersIn 8 (drop 2 (now (b .entry)))) (drop 18 (now (b .entry))) ⌝ }
 {
     let mut at = HEAD;
@@ -146,7 +95,7 @@ fn are_rooms(b: &[u8]) -> bool
         at = end;
         k += 1;
     }
-    gaps::is_zero(&b[at..])
+    gaps::is_zero(&b[at..LENGTH])
 }
 
 /// Whether bytes are a register.
@@ -156,7 +105,7 @@ pub fn is_register(b: &[u8]) -> bool
     if b.len() != LENGTH {
         return false;
     }
-    if number_at(b, 0) + 512 > 40177 {
+    if number_at(b, 0) + WINDOW > DATES {
         return false;
     }
     are_rooms(b)

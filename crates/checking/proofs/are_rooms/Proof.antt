@@ -18,7 +18,7 @@ abbrev μ-loop : tie.MeasureT-loop
 μ-loop b at₀ k₀ at k = 8 - k
 
 loop-holds : tie.Need-loop-holds Inv-loop μ-loop
-loop-holds c = rooms-start (c .before .args .b .now) (c .before .pre)
+loop-holds c = let h = c .before .pre in rooms-start (c .before .args .b .now) (omega arith)
 
 mul-number-at : tie.Need-mul-number-at Inv-loop μ-loop
 mul-number-at c = omega arith
@@ -98,10 +98,10 @@ loop-again c =
     rooms-on (buffer i) (l .at) (l .k) (l .inv) (i .loop-test .taken) (quota e) (e .before .number-at .ensures .0) (e .if1 .left) (c .before .is-room .result) (c .before .is-room .ensures) (not-false _ (c .if2 .left))
 
 sub-is-zero : tie.Need-sub-is-zero Inv-loop μ-loop
-sub-is-zero c = c .before .loop .inv .inside
+sub-is-zero c = let h = c .before .loop .inv .inside in let p = c .before .before .before .pre in omega arith
 
 part-is-zero-start : tie.Need-part-is-zero-start Inv-loop μ-loop
-part-is-zero-start c = c .before .loop .inv .inside
+part-is-zero-start c = let h = c .before .loop .inv .inside in let p = c .before .before .before .pre in search needs
 
 part-is-zero-end : tie.Need-part-is-zero-end Inv-loop μ-loop
 part-is-zero-end c = search needs
@@ -113,7 +113,8 @@ returns-3 : tie.Need-returns-3 Inv-loop μ-loop
 returns-3 c =
     let a = c .before .before in
     let l = a .before .loop in
-    rooms-end (a .before .before .before .args .b .now) (l .at) (l .k) (l .inv) (a .loop-test .left) (c .is-zero .result) (c .is-zero .ensures)
+    let p = a .before .before .before .pre in
+    rooms-end (a .before .before .before .args .b .now) (l .at) (l .k) (l .inv) (a .loop-test .left) 35858 (omega arith) (c .is-zero .result) (c .is-zero .ensures)
 
 pub are-rooms-spec : {M : Type 1} → statement M
 are-rooms-spec =

@@ -6,7 +6,6 @@ use native.Mathlib.Omega.{arith}
 use lib.ListN.{length}
 use borrow.Author.Tests.{not-true, not-false}
 use borrow.Author.Needs.{needs}
-use Rattle.laws.specs.Lists.{length-between}
 use Rattle.checking.specs.Room.{Left, left-start, left-end, room-for-slot, left-unused, left-falls, left-no-slot, left-on}
 use Rattle.checking.proofs.is_room.Statement.{statement}
 use Rattle.checking.proofs.is_room.Tie as tie
@@ -98,11 +97,7 @@ part-is-slot-end : tie.Need-part-is-slot-end Inv-loop μ-loop
 part-is-slot-end c = let h = inside (c .before .before .before .before .before .before) in search needs
 
 is-slot-requires : tie.Need-is-slot-requires Inv-loop μ-loop
-is-slot-requires c κs =
-    let i = c .before .before .before .before .before .before .before in
-    let h = inside i in
-    let l = length-between (room i) (at i) (at i + 140) h in
-    omega arith
+is-slot-requires c κs = search needs
 
 returns-3 : tie.Need-returns-3 Inv-loop μ-loop
 returns-3 c =

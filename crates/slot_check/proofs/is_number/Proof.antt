@@ -1,13 +1,11 @@
--- `checking::is_number` meets its contract.
+-- `slot_check::is_number` meets its contract.
 -- Assumes nothing.
-use mathlib.Core.List.{List}
-use Prim.Native.Nat.{ℕ, _≤_}
-use native.Mathlib.Omega.{arith}
+use Prim.Native.Nat.{_≤_}
 use lib.ListN.{length}
 use borrow.Author.Needs.{needs}
-use Rattle.checking.specs.Number.{run-inside, number-none, number-rest}
-use Rattle.checking.proofs.is_number.Statement.{statement}
-use Rattle.checking.proofs.is_number.Tie as tie
+use Rattle.slot_check.specs.Number.{run-inside, number-none, number-rest}
+use Rattle.slot_check.proofs.is_number.Statement.{statement}
+use Rattle.slot_check.proofs.is_number.Tie as tie
 
 permitted-run-requires : tie.Need-permitted-run-requires
 permitted-run-requires c κs = search needs

@@ -2,28 +2,25 @@
 -- Assumes nothing.
 use mathlib.Core.Path.{_≡_, refl, sym, _∙_, ap}
 use mathlib.Core.Bool.{Bool, true, false}
-use mathlib.Core.List.{List, [], _∷_, _++_}
-use Prim.Native.Nat.{ℕ, zero, suc, _+_, _-_, _≤_, _<_}
+use mathlib.Core.List.{List, [], _∷_}
+use Prim.Native.Nat.{ℕ, suc, _+_, _-_, _≤_, _<_}
 use native.Mathlib.Omega.{arith}
 use native.Mathlib.Nat.{sub-zero}
-use lib.Dec.{eqb, ltb, leb}
-use borrow.Author.Tests.{eq-eqb, ne-eqb, eqb-true, eqb-false, ltb-true, ltb-false, leb-true, le-leb}
-use lib.ListN.{length, getD, take, drop, replicate, length-append, length-replicate, length-drop}
+use lib.Dec.{eqb, leb}
+use borrow.Author.Tests.{eq-eqb, eqb-true, le-leb}
+use lib.ListN.{length, getD, take, drop, length-append, length-replicate, length-drop}
 use lib.Seq.{take-all}
-use Rattle.laws.specs.Choice.{pick, both, either, choose, all, both-parts, both-assoc, both-false, both-true}
+use Rattle.laws.specs.Choice.{pick, both, choose, all, both-parts, both-assoc, both-true}
 use Rattle.laws.specs.Lists.{drop-here, drop-past}
 use Rattle.syntax.specs.Bytes.{permittedOf}
 use Rattle.values.specs.Values.{sameText}
 use Rattle.gaps.specs.Zero.{allZero}
-use Rattle.slots.specs.declared.Order.{Order}
-use Rattle.slots.specs.declared.Order.the-variants.{Before, Same, After}
 use Rattle.slots.specs.Order.{orderOf}
 use Rattle.slots.specs.Rising.{isBefore}
-use Rattle.records.specs.Padded.{NoZero, order-filled}
-use Rattle.records.specs.Padded as padded
 use Rattle.contents.specs.Contents.{goodNumber, comesBefore}
 use Rattle.contents.specs.Written.{filledUp, upToZero}
-use Rattle.checking.specs.Same.{same-zeros, same-told}
+use Rattle.rooms.specs.Order.{same-told, before-order, number-least, number-most, number-order}
+use Rattle.slot_check.specs.Same.{same-zeros}
 
 -- how many bytes, from the first on, are permitted
 unfoldable pub permittedRun : List ℕ → ℕ
@@ -125,29 +122,6 @@ module _ (x : List ℕ) (h : length x ≡ 10) (n : ℕ) (e : n ≡ permittedRun 
 
 -- ---- numbers filled up with zeros stand to each other as the numbers do
 
-pub before-order : (a b : List ℕ) → isBefore (orderOf a b) ≡ comesBefore a b
-unfolding orderOf comesBefore
-before-order [] [] = refl
-before-order [] (y ∷ m) = refl
-before-order (x ∷ l) [] = refl
-before-order (x ∷ l) (y ∷ m) =
-    choose (ltb x y)
-    (λ p. rw p)
-    (λ p.
-    let h = ltb-false x y p in
-    choose (ltb y x)
-    (λ q.
-    let k = ltb-true y x q in
-    rw (p, q, ne-eqb x y (λ e. omega arith)))
-    (λ q.
-    let k = ltb-false y x q in
-    rw (p, q, eq-eqb x y (omega arith)) (before-order l m)))
-
-no-zero : (x : List ℕ) → NoZero (upToZero x)
-unfolding upToZero
-no-zero [] = tt
-no-zero (b ∷ l) = choose (eqb b 0) (λ p. rw p tt) (λ p. rw p (eqb-false b 0 p, no-zero l))
-
 pub before-any : (l : List ℕ) → 1 ≤ length l → comesBefore [] l ≡ true
 unfolding comesBefore
 before-any [] h = absurd (omega arith)
@@ -162,25 +136,16 @@ module _ (x : List ℕ) (q : isNumber x ≡ true) where
   unfolding isNumber
   number-good = both-parts (goodNumber (upToZero x)) (sameText (filledUp 10 (upToZero x)) x) q .0
 
-  number-length : (1 ≤ length (upToZero x)) × (length (upToZero x) ≤ 10)
-  unfolding goodNumber
-  number-length =
-      let n : ℕ = length (upToZero x) in
-      let w = both-parts (both (leb 1 n) (leb n 10)) (all permittedOf (upToZero x)) number-good in
-      let v = both-parts (leb 1 n) (leb n 10) (w .0) in
-      (leb-true 1 n (v .0), leb-true n 10 (v .1))
-
   -- no number comes before every number
   pub before-first : isBefore (orderOf [] x) ≡ comesBefore [] (upToZero x)
   before-first =
-      let n = number-length in
-      let l : length x ≡ 10 = sym (ap length number-filled) ∙ length-filled 10 (upToZero x) (n .1) in
-      before-order [] x ∙ before-any x (omega arith) ∙ sym (before-any (upToZero x) (n .0))
+      let m = number-least (upToZero x) number-good in
+      let l : length x ≡ 10 = sym (ap length number-filled) ∙ length-filled 10 (upToZero x) (number-most (upToZero x) number-good) in
+      sym (before-order [] x) ∙ before-any x (omega arith) ∙ sym (before-any (upToZero x) m)
 
 pub before-filled : (x y : List ℕ) → isNumber x ≡ true → isNumber y ≡ true → isBefore (orderOf x y) ≡ comesBefore (upToZero x) (upToZero y)
-unfolding filledUp padded.filledUp
 before-filled x y p q =
     let a : List ℕ = upToZero x in
     let b : List ℕ = upToZero y in
     let e : orderOf x y ≡ orderOf (filledUp 10 a) (filledUp 10 b) = ap (λ (l : List ℕ). orderOf l y) (sym (number-filled x p)) ∙ ap (orderOf (filledUp 10 a)) (sym (number-filled y q)) in
-    ap isBefore (e ∙ order-filled 10 a b (number-length x p .1) (number-length y q .1) (no-zero x) (no-zero y)) ∙ before-order a b
+    ap isBefore (e ∙ number-order a b (number-good x p) (number-good y q)) ∙ sym (before-order a b)

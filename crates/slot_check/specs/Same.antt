@@ -1,7 +1,7 @@
 -- Comparing a text made of parts, or of zeros.
 -- Assumes nothing.
 use mathlib.Core.Path.{_≡_, refl, sym, ap}
-use mathlib.Core.Bool.{Bool, true, false}
+use mathlib.Core.Bool.{true, false}
 use mathlib.Core.List.{List, [], _∷_, _++_}
 use Prim.Native.Nat.{ℕ, zero, suc, _+_, _<_}
 use native.Mathlib.Omega.{arith}
@@ -9,15 +9,10 @@ use lib.Dec.{eqb, ltb}
 use borrow.Author.Tests.{eq-eqb, ne-eqb, eqb-true, eqb-false, lt-ltb}
 use lib.ListN.{length, getD, take, drop, replicate}
 use lib.Seq.{getD-drop}
-use Rattle.laws.specs.Choice.{both, choose, all, both-parts, both-assoc, false≢true}
+use Rattle.laws.specs.Choice.{both, choose, all, both-assoc}
 use Rattle.values.specs.Values.{sameText}
 use Rattle.gaps.specs.Zero.{allZero}
-
--- a text is the same as itself
-pub same-itself : (l : List ℕ) → sameText l l ≡ true
-unfolding sameText
-same-itself [] = refl
-same-itself (b ∷ l) = rw (eq-eqb b b refl) (same-itself l)
+use Rattle.rooms.specs.Order.{same-not}
 
 -- a text of two parts is compared part by part
 pub same-append : (a x b : List ℕ) → sameText (a ++ x) b ≡ both (sameText a (take (length a) b)) (sameText x (drop (length a) b))
@@ -27,18 +22,8 @@ same-append (c ∷ a) x [] = refl
 same-append (c ∷ a) x (d ∷ b) =
     rw (same-append a x b) (sym (both-assoc (eqb c d) (sameText a (take (length a) b)) (sameText x (drop (length a) b))))
 
--- two texts that are found the same are one
-pub same-told : (a b : List ℕ) → sameText a b ≡ true → a ≡ b
-unfolding sameText
-same-told [] [] q = refl
-same-told [] (d ∷ b) q = absurd (false≢true q)
-same-told (c ∷ a) [] q = absurd (false≢true q)
-same-told (c ∷ a) (d ∷ b) q =
-    let w = both-parts (eqb c d) (sameText a b) q in
-    rw (eqb-true c d (w .0), same-told a b (w .1))
-
 pub other-length : (a b : List ℕ) → (length a ≡ length b → ⊥) → sameText a b ≡ false
-other-length a b h = choose (sameText a b) (λ p. absurd (h (ap length (same-told a b p)))) (λ p. p)
+other-length a b h = same-not a b (λ e. h (ap length e))
 
 pub same-number : (a b : ℕ) → eqb a b ≡ eqb b a
 same-number a b =

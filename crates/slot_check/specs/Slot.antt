@@ -2,22 +2,23 @@
 -- Assumes nothing.
 use mathlib.Core.Path.{_≡_, refl, sym, _∙_, ap}
 use mathlib.Core.Bool.{Bool, true, false}
-use mathlib.Core.List.{List, [], _∷_, _++_}
-use mathlib.Core.Option.{Option, none, some}
-use Prim.Native.Nat.{ℕ, suc, _+_, _-_, _≤_, _<_}
+use mathlib.Core.List.{List, _∷_, _++_}
+use mathlib.Core.Option.{none, some}
+use Prim.Native.Nat.{ℕ, _+_, _≤_, _<_}
 use native.Mathlib.Omega.{arith}
-use lib.Dec.{eqb, leb, ltb}
-use borrow.Author.Tests.{eq-eqb, ne-eqb, eqb-true, eqb-false, leb-true, le-leb, lt-leb}
-use lib.ListN.{length, getD, take, drop, length-append, length-drop}
+use lib.Dec.{eqb, leb}
+use borrow.Author.Tests.{eq-eqb, ne-eqb, eqb-true, eqb-false, le-leb, lt-leb}
+use lib.ListN.{length, getD, take, drop, length-drop}
 use lib.Seq.{drop-cons, drop-drop, take-all, length-take-le}
-use Rattle.laws.specs.Choice.{pick, both, either, choose, all, both-parts, both-true, both-false, false≢true}
-use Rattle.syntax.specs.Bytes.{permittedOf}
+use Rattle.laws.specs.Choice.{pick, both, either, choose, both-true, both-false}
 use Rattle.values.specs.Values.{sameText}
 use Rattle.gaps.specs.Zero.{allZero}
-use Rattle.contents.specs.Contents.{Pending, nothing, put, removal, Record, isCalendar, goodNumber, goodEntries, goodRecord}
+use Rattle.contents.specs.Contents.{nothing, put, removal, isCalendar, goodNumber, goodEntries, goodRecord}
 use Rattle.contents.specs.Written.{filledUp, upToZero, liveBytes, pendingBytes, slotOf, liveIn, pendingIn, recordIn}
-use Rattle.checking.specs.Same.{Bytes, bytes-drop, bytes-all, same-itself, same-append, same-number, same-zeros}
-use Rattle.checking.specs.Number.{isNumber, length-filled, length-up}
+use Rattle.rooms.specs.Order.{same-itself}
+use Rattle.rooms.specs.Slots.{length-slot}
+use Rattle.slot_check.specs.Same.{Bytes, bytes-drop, bytes-all, same-append, same-number, same-zeros, other-length}
+use Rattle.slot_check.specs.Number.{isNumber, length-filled, length-up}
 
 -- whether bytes are a good record, written
 unfoldable pub isSlot : List ℕ → Bool
@@ -189,28 +190,13 @@ module _ (s : List ℕ) (h : length s ≡ 140) (b : Bytes s) (m : Bool) (q : m �
   pub slot-number-fits : m ≡ true → fits (getD s 10 0) (getD s 75 0) (allZero (take 64 (drop 11 s))) (allZero (take 64 (drop 76 s))) ≡ isSlot s
   slot-number-fits t = sym (slot-is s h b ∙ rw (← q, t))
 
--- ---- a good record's slot is as long as any
+-- ---- bytes of another length are no slot
 
-calendar-length : (c : List ℕ) → isCalendar c ≡ true → length c ≡ 64
-unfolding isCalendar
-calendar-length c q = eqb-true (length c) 64 (both-parts (eqb (length c) 64) (all (λ b. ltb b 256) c) q .0)
-
-entries-length : (l : Option (List ℕ)) (p : Pending) → goodEntries l p ≡ true → length (liveBytes l ++ pendingBytes p) ≡ 130
-unfolding goodEntries liveBytes pendingBytes
-entries-length none nothing q = absurd (false≢true q)
-entries-length none (put c) q = rw (length-append, calendar-length c q)
-entries-length none removal q = absurd (false≢true q)
-entries-length (some l) nothing q = rw (length-append, calendar-length l q)
-entries-length (some l) (put c) q =
-    let w = both-parts (isCalendar l) (isCalendar c) q in
-    rw (length-append, calendar-length l (w .0), calendar-length c (w .1))
-entries-length (some l) removal q = rw (length-append, calendar-length l q)
-
-pub length-slot : (r : Record) → goodRecord r ≡ true → length (slotOf r) ≡ 140
-unfolding goodRecord goodNumber slotOf
-length-slot r q =
-    let x : List ℕ = r .number in
-    let w = both-parts (goodNumber x) (goodEntries (r .live) (r .pending)) q in
-    let v = both-parts (both (leb 1 (length x)) (leb (length x) 10)) (all permittedOf x) (w .0) in
-    let u = leb-true (length x) 10 (both-parts (leb 1 (length x)) (leb (length x) 10) (v .0) .1) in
-    rw (length-append, length-filled 10 x u, entries-length (r .live) (r .pending) (w .1))
+pub other-slot : (s : List ℕ) → (length s ≡ 140 → ⊥) → isSlot s ≡ false
+unfolding isSlot
+other-slot s h =
+    choose (goodRecord (recordIn s))
+    (λ g.
+    let l = length-slot (recordIn s) g in
+    rw g (other-length (slotOf (recordIn s)) s (λ e. h (sym e ∙ l))))
+    (λ g. rw g)

@@ -1,15 +1,15 @@
--- `checking::permitted_run` meets its contract. Invariant: those passed and those that still lead are all that lead.
+-- `slot_check::permitted_run` meets its contract. Invariant: those passed and those that still lead are all that lead.
 -- Assumes nothing.
 use mathlib.Core.Path.{_≡_, sym, _∙_}
-use Prim.Native.Nat.{_≤_, _+_, _-_}
+use Prim.Native.Nat.{_+_, _-_}
 use native.Mathlib.Omega.{arith}
 use native.Mathlib.Nat.{zero-add}
 use lib.ListN.{length, drop}
 use borrow.Author.Tests.{not-true, not-false}
 use borrow.Author.Needs.{needs}
-use Rattle.checking.specs.Number.{permittedRun, run-end, run-stop, run-on}
-use Rattle.checking.proofs.permitted_run.Statement.{statement}
-use Rattle.checking.proofs.permitted_run.Tie as tie
+use Rattle.slot_check.specs.Number.{permittedRun, run-end, run-stop, run-on}
+use Rattle.slot_check.proofs.permitted_run.Statement.{statement}
+use Rattle.slot_check.proofs.permitted_run.Tie as tie
 
 abbrev Inv-loop : tie.InvT-loop
 Inv-loop x i₀ i = i + permittedRun (drop i x) ≡ permittedRun x
