@@ -1,15 +1,16 @@
--- Worked cases of the definitions: P2 and P3 of document 01, written.
+-- Worked cases of the definitions: P2 and P3 of document 01, written, and each refusal.
 -- Assumes nothing.
 use mathlib.Core.Path.{_≡_, refl}
 use mathlib.Core.Bool.{true, false}
 use mathlib.Core.List.{List, [], _∷_, _++_}
 use Prim.Native.Nat.{ℕ}
 use lib.ListN.{replicate}
+use Rattle.answers.specs.Answers.{refused}
 use Rattle.dates.specs.Days.{leapYear, monthLength, isDate, monthDays, yearDays, dayNumber, weekdayOf}
 use Rattle.dates.specs.Dates.{date, number}
 use Rattle.dates.specs.Text.{dateText}
 use Rattle.calendar.specs.Days.{day, hasBit}
-use Rattle.calendar.specs.Written.{anyDay, dayCount, goodPeriod, goodCalendar, start, dayCharacter, dayCharacters, dayStringText, named, allOn, weekdayForm, digitsFrom, namedText, weekdayText}
+use Rattle.calendar.specs.Written.{anyDay, dayCount, goodPeriod, goodCalendar, start, dayCharacter, dayCharacters, dayStringText, textAnswer, dayStringAnswer, named, allOn, weekdayForm, digitsFrom, namedText, weekdayText, weekdayAnswer}
 
 -- 64 bytes, of which the first two are given
 calendar : ℕ → ℕ → List ℕ
@@ -39,3 +40,10 @@ form = refl
 weekdays : weekdayText (calendar 48 24) (date 2000 8 1) (date 2000 8 13) ≡ 80 ∷ 79 ∷ 80 ∷ 43 ∷ 50 ∷ 55 ∷ 51 ∷ 58 ∷ 50 ∷ 48 ∷ 48 ∷ 48 ∷ 45 ∷ 48 ∷ 56 ∷ 45 ∷ 48 ∷ 49 ∷ 47 ∷ 50 ∷ 48 ∷ 48 ∷ 48 ∷ 45 ∷ 48 ∷ 56 ∷ 45 ∷ 49 ∷ 51 ∷ 43 ∷ 54 ∷ 55 ∷ 39 ∷ []
 unfolding calendar namedText start dateText digitsFrom named day hasBit weekdayOf dayNumber yearDays monthDays monthLength leapYear
 weekdays = refl
+
+-- a calendar of no byte is 19, one with no day is 20, and where no byte is lent it is 17
+refusals : (dayStringAnswer [] (date 2000 8 1) (date 2000 8 1) [] ≡ refused 19 0)
+    × (weekdayAnswer (calendar 0 0) (date 2000 8 1) (date 2000 8 1) [] ≡ refused 20 0)
+    × (dayStringAnswer (calendar 0 0) (date 2000 8 1) (date 2000 8 1) [] ≡ refused 17 0)
+unfolding calendar goodCalendar goodPeriod dayStringAnswer weekdayAnswer textAnswer dayStringText start dateText dayCharacters dayCharacter weekdayForm allOn named anyDay day hasBit weekdayOf dayNumber yearDays monthDays monthLength leapYear isDate
+refusals = (refl, refl, refl)

@@ -4,3 +4,4 @@ pub mod Weeks
 pub mod Told
 pub mod Union
 pub mod Bytes
+pub mod Cases
