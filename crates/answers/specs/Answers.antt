@@ -1,7 +1,7 @@
 -- "What each number means" (document 01): what a function answers, and one definition for each row of the table.
 -- A refusal's position is 0 where the table says so; else it is the offset that the definition takes.
 -- Assumes nothing.
-use Prim.Native.Nat.{ℕ, zero}
+use Prim.Native.Nat.{ℕ}
 
 -- "Every refusal returns number and position": done, number 0, with its value; or refused, with number and position
 pub data Answer (A : Type 0) : Type 0 where

@@ -1,7 +1,7 @@
 -- Done and refused are apart, and each tells what it holds.
 -- Assumes nothing.
 use Prim.Native.Nat.{ℕ}
-use mathlib.Core.Path.{_≡_}
+use mathlib.Core.Path.{_≡_, sym, ap, _∙_}
 use native.Mathlib.Omega.{arith}
 use Rattle.answers.specs.Answers.{Answer, done, refused}
 
@@ -13,3 +13,7 @@ done≢refused q = let z : _≡_ {A = ℕ} 0 1 = cc in omega arith
 
 pub done-is : {A : Type 0} {a b : A} → done a ≡ done b → a ≡ b
 done-is q = cc
+
+-- a mapping that can be undone gives no answer twice: an answer then fixes the case
+pub one-case : {A E : Type 0} (answer : E → Answer A) (case : Answer A → E) → ((x : E) → case (answer x) ≡ x) → (x y : E) → answer x ≡ answer y → x ≡ y
+one-case answer case back x y e = sym (back x) ∙ ap case e ∙ back y

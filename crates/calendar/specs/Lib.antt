@@ -2,6 +2,7 @@ pub mod Days
 pub mod Bits
 pub mod Laws
 pub mod Written
+pub mod Told
 pub mod Week
 pub mod WeekLaws
 pub mod Steps

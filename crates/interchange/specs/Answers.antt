@@ -15,9 +15,11 @@ use Rattle.syntax.specs.declared.segment.Refusal.{Refusal}
 use Rattle.steps.specs.declared.state.State.{State}
 use Rattle.steps.specs.declared.state.Row.{Row}
 use Rattle.answers.specs.Answers.{Answer, done, refused, badSize, outputTooShort}
-use Rattle.answers.specs.Laws.{done≢refused}
+use Rattle.answers.specs.Laws.{done≢refused, one-case}
+use Rattle.interchange.specs.declared.reader.Reading.{Reading}
+use Rattle.interchange.specs.declared.reader.Reading.the-variants.{Rows, Refused}
 use Rattle.steps.specs.State.{openingState}
-use Rattle.interchange.specs.Reader.{Verdict, accepted, faulty, Outcome, readOn, readingOf, numbers, answerOf, rowsAfter}
+use Rattle.interchange.specs.Reader.{Verdict, accepted, faulty, Outcome, readOn, readingOf, numbers, readAnswer, answerOf, rowsAfter}
 use Rattle.interchange.specs.Laws.{length-numbers}
 use Rattle.interchange.specs.Chunks.{wholeFrom, Filled}
 
@@ -197,3 +199,15 @@ module _ (n : ℕ) (w : Outcome) (lent : List ℕ) where
       b .0 ∙ behind-is (rest .verdict) ∙ ap (answerBehind n (w .rows) (length lent)) (f .verdict),
       ap (λ (x : List ℕ). onto x n (take k room)) (b .1) ∙ put-before m (rest .verdict) (b .0) h ∙ ap (rowsBehind n (w .rows) lent) (f .verdict),
     )
+
+-- what `read` answers fixes its case
+abbrev case : Answer ℕ → Reading
+case (done n) = Rows n
+case (refused number position) = Refused (record { number = number; position = position })
+
+back : (x : Reading) → case (readAnswer x) ≡ x
+back (Rows n) = refl
+back (Refused x) = refl
+
+pub reading-same : (x y : Reading) → readAnswer x ≡ readAnswer y → x ≡ y
+reading-same = one-case readAnswer case back

@@ -1,7 +1,7 @@
 -- What callers cite of the services and of their tests.
 -- Assumes nothing.
 use Prim.Native.Nat.{ℕ, _+_, _-_, _≤_, _<_}
-use mathlib.Core.Path.{_≡_, ap, _∙_}
+use mathlib.Core.Path.{_≡_, refl, ap, _∙_}
 use mathlib.Core.Bool.{Bool, true, false}
 use mathlib.Core.List.{List, []}
 use native.Mathlib.Omega.{arith}
@@ -10,17 +10,21 @@ use lib.Dec.{leb}
 use lib.ListN.{length}
 use Rattle.laws.specs.Choice.{both, both-parts, choose}
 use Rattle.placing.specs.Tags.{UIT}
-use Rattle.answers.specs.Answers.{done}
-use Rattle.answers.specs.Laws.{refused≢done}
+use Rattle.answers.specs.Answers.{Answer, done, refused}
+use Rattle.answers.specs.Laws.{refused≢done, one-case}
 use Rattle.syntax.specs.Bytes.{plain}
 use Rattle.syntax.specs.Pieces.{partOf}
 use Rattle.syntax.specs.Segment.{bodyAt}
 use Rattle.parts.specs.Places.{bytesOf}
 use Rattle.parts.specs.Located.{part-bytes}
 use Rattle.services.specs.declared.Service.{Service}
+use Rattle.services.specs.declared.Tested.{Tested}
+use Rattle.services.specs.declared.Tested.the-variants.{Good, Refused}
+use Rattle.services.specs.declared.Counted.{Counted}
+use Rattle.services.specs.declared.Counted.the-variants as counted
 use Rattle.services.specs.Rows.{isRow, rowCount, firstFrom, first-bounds, some-none}
 use Rattle.services.specs.Marks.{body-end}
-use Rattle.services.specs.Services.{isService, segmentOf, serviceEnd, numberOf, numberFits, periodsFit, hasPeriod, periodsOf, isWrong, isSame, isTwice, testedOf}
+use Rattle.services.specs.Services.{isService, segmentOf, serviceEnd, numberOf, numberFits, periodsFit, hasPeriod, periodsOf, isWrong, isSame, isTwice, testedOf, testedAnswer, countedAnswer}
 use Rattle.services.specs.Ways.{segment-bytes, has-none}
 
 -- the bytes of a number are the first component of the first occurrence of the PRD's first element
@@ -76,3 +80,26 @@ module _ (s rows : List ℕ) (v : Service) where
       choose (isTwice s rows (bytesOf s (v .number)) (v .from))
       (λ q. absurd (refused≢done (rw (p, q) at t)))
       (λ q. right-fine p q))
+
+-- what the tests answer fixes their case
+abbrev testedCase : Answer (Unit {0}) → Tested
+testedCase (done _) = Good
+testedCase (refused number position) = Refused (record { number = number; position = position })
+
+tested-back : (x : Tested) → testedCase (testedAnswer x) ≡ x
+tested-back Good = refl
+tested-back (Refused x) = refl
+
+pub tested-same : (x y : Tested) → testedAnswer x ≡ testedAnswer y → x ≡ y
+tested-same = one-case testedAnswer testedCase tested-back
+
+abbrev countedCase : Answer ℕ → Counted
+countedCase (done n) = counted.Services n
+countedCase (refused number position) = counted.Refused (record { number = number; position = position })
+
+counted-back : (x : Counted) → countedCase (countedAnswer x) ≡ x
+counted-back (counted.Services n) = refl
+counted-back (counted.Refused x) = refl
+
+pub counted-same : (x y : Counted) → countedAnswer x ≡ countedAnswer y → x ≡ y
+counted-same = one-case countedAnswer countedCase counted-back

@@ -8,7 +8,8 @@ use lib.Dec.{eqb, ltb}
 use borrow.Author.Tests.{eq-eqb, ne-eqb, lt-ltb, le-ltb}
 use native.Mathlib.Omega.{arith}
 use Rattle.laws.specs.Choice.{both, both-false}
-use Rattle.answers.specs.Answers.{done, wrongEnvelope, outOfPlace}
+use Rattle.answers.specs.Answers.{Answer, done, refused, wrongEnvelope, outOfPlace}
+use Rattle.answers.specs.Laws.{one-case}
 use Rattle.syntax.specs.Segment.{tagNumber}
 use lib.ListN.{length}
 use lib.Seq.{take-length}
@@ -27,8 +28,10 @@ use Rattle.steps.specs.declared.state.Phase.{Phase}
 use Rattle.steps.specs.declared.state.Phase.the-variants.{Inside}
 use Rattle.steps.specs.declared.state.State.{State}
 use Rattle.steps.specs.declared.state.Row.{Row}
+use Rattle.steps.specs.declared.state.Step.{Step}
+use Rattle.steps.specs.declared.state.Step.the-variants.{Next, Refused}
 use Rattle.steps.specs.State.{oneMore, openedState, closedState, onwardState, endedState}
-use Rattle.steps.specs.Step.{taken, rowOf, opening, headed, closing, between, trailing, isPeriod, judged, placed, inside, stepBy, segmentStep}
+use Rattle.steps.specs.Step.{Taken, taken, stepAnswer, rowOf, opening, headed, closing, between, trailing, isPeriod, judged, placed, inside, stepBy, segmentStep}
 
 pub next-is : {s t : State} {r q : Row} → s ≡ t → r ≡ q → done (taken s r) ≡ done (taken t q)
 next-is e f = cc
@@ -114,3 +117,15 @@ module _ (skdupd tsdupd : Table) (st : State) (at : ℕ) (g dialogue reference :
   pub in-tsdupd : (st .kind ≡ 0 → ⊥) → inside tsdupd st at g reference ≡ segmentStep skdupd tsdupd st at g dialogue reference
   unfolding stepBy
   in-tsdupd k = rw (e, ne-eqb (st .kind) 0 k)
+
+-- what a step answers fixes its case
+abbrev case : Answer Taken → Step
+case (done (taken st r)) = Next st r
+case (refused number position) = Refused (record { number = number; position = position })
+
+back : (x : Step) → case (stepAnswer x) ≡ x
+back (Next st r) = refl
+back (Refused x) = refl
+
+pub step-case : (x y : Step) → stepAnswer x ≡ stepAnswer y → x ≡ y
+step-case = one-case stepAnswer case back

@@ -12,11 +12,14 @@ use lib.Seq.{take-at, paste-zero}
 use borrow.Author.Tests.{le-leb, lt-leb}
 use Rattle.laws.specs.Choice.{choose, false≢true}
 use Rattle.laws.specs.Lists.{over, drop-here}
-use Rattle.answers.specs.Answers.{done, outputTooShort}
+use Rattle.answers.specs.Answers.{Answer, done, refused, outputTooShort}
+use Rattle.answers.specs.Laws.{one-case}
+use Rattle.text.specs.declared.Written.{Written}
+use Rattle.text.specs.declared.Written.the-variants.{Bytes, NoRoom}
 use Rattle.dates.specs.Text.{putAt}
 use Rattle.dates.specs.Put.{put-put, put-room, put-front, length-put}
 use Rattle.envelope.specs.Decimal.{decimalOn, decimalOf}
-use Rattle.text.specs.Text.{pairText, tailText, rowText, rowAt, rowsText, tableText, heading, refusal, refusalText, answerOf, bytesOf}
+use Rattle.text.specs.Text.{pairText, tailText, rowText, rowAt, rowsText, tableText, heading, refusal, refusalText, writtenAnswer, answerOf, bytesOf}
 
 pub leb-le : (a b : ℕ) → leb a b ≡ true → a ≤ b
 leb-le a b e =
@@ -204,3 +207,15 @@ module _ (number position n : ℕ) (e : n ≡ length (pairText number position (
       let w = behind z 0 refusal (pairText number position (10 ∷ [])) 8 ep eq refl refl (omega arith) in
       let t = front z (refusalText number position) q (8 + n) w (omega arith) (omega arith) in
       text-written (refusalText number position) o r (8 + n) (omega arith) (omega arith) (er ∙ ap (putAt o 0) t)
+
+-- what a writer answers fixes its case
+abbrev case : Answer ℕ → Written
+case (done n) = Bytes n
+case (refused number position) = NoRoom
+
+back : (x : Written) → case (writtenAnswer x) ≡ x
+back (Bytes n) = refl
+back NoRoom = refl
+
+pub written-same : (x y : Written) → writtenAnswer x ≡ writtenAnswer y → x ≡ y
+written-same = one-case writtenAnswer case back
