@@ -1,0 +1,4 @@
+pub mod Release
+pub mod Withdraw
+pub mod Released
+pub mod Withdrawing
