@@ -2,21 +2,22 @@
 -- live".
 -- Assumes nothing.
 use Prim.Native.Nat.{ℕ, _+_, _*_}
-use mathlib.Core.Bool.{Bool, true, false, not}
+use mathlib.Core.Bool.{Bool, false, not}
 use mathlib.Core.List.{List}
-use lib.Dec.{eqb, leb}
-use lib.ListN.{length, getD, replicate}
+use lib.Dec.{eqb}
+use lib.ListN.{getD, replicate}
 use lib.Seq.{paste}
-use Rattle.laws.specs.Choice.{pick, both, among}
+use Rattle.laws.specs.Choice.{pick}
 use Rattle.slots.specs.declared.Found.{Found}
 use Rattle.slots.specs.declared.Found.the-variants.{At, Gap}
 use Rattle.slots.specs.Find.{findOf}
 use Rattle.gaps.specs.Move.{closed}
+use Rattle.contents.specs.Contents.{goodNumber}
 use Rattle.contents.specs.Written.{filledUp}
 
--- a number's slot: one of more than ten bytes, or with a zero among them, has none
-unfoldable pub foundIn : List ℕ → List ℕ → Found
-foundIn s x = pick (both (leb (length x) 10) (not (among 0 x))) (findOf s (filledUp 10 x)) (Gap 0)
+-- a number's slot: a text that is no number has none
+unfoldable pub slotFound : List ℕ → List ℕ → Found
+slotFound s x = pick (goodNumber x) (findOf s (filledUp 10 x)) (Gap 0)
 
 -- whether the slot at an index has a pending entry, and the room without that: without the slot where nothing is live
 unfoldable pub withdrawsAt : List ℕ → ℕ → Bool

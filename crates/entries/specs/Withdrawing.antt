@@ -1,7 +1,7 @@
 -- The laws of a withdrawal for the code.
 -- Assumes nothing.
 use mathlib.Core.Path.{_≡_, refl, sym, _∙_, ap, subst}
-use mathlib.Core.Bool.{true, false}
+use mathlib.Core.Bool.{Bool, true, false}
 use mathlib.Core.List.{List, [], _∷_, _++_}
 use Prim.Native.Nat.{ℕ, zero, suc, _+_, _-_, _*_, _/_, _≤_, _<_}
 use native.Mathlib.Omega.{arith}
@@ -9,7 +9,7 @@ use native.Mathlib.Nat.{sub-zero, zero-sub}
 use borrow.Author.Tests.{eq-eqb, ne-eqb, le-leb, lt-leb}
 use lib.ListN.{length, getD, drop, replicate, length-replicate}
 use lib.Seq.{drop-nil}
-use Rattle.laws.specs.Choice.{among}
+use Rattle.laws.specs.Choice.{all}
 use Rattle.laws.specs.Lists.{drop-here, drop-past}
 use Rattle.dates.specs.Text.{putAt}
 use Rattle.dates.specs.Put.{put-room, put-front}
@@ -17,20 +17,35 @@ use Rattle.gaps.specs.Move.{closedIn, closed-fits}
 use Rattle.slots.specs.declared.Found.{Found}
 use Rattle.slots.specs.declared.Found.the-variants.{At, Gap}
 use Rattle.slots.specs.Find.{findOf, Within, find-within}
+use Rattle.syntax.specs.Bytes.{permittedOf}
+use Rattle.contents.specs.Contents.{goodNumber}
 use Rattle.contents.specs.Written.{filledUp}
-use Rattle.entries.specs.Withdraw.{foundIn, withdrawsAt, leftAt, withdraws, withdrawnRoom}
+use Rattle.entries.specs.Withdraw.{slotFound, withdrawsAt, leftAt, withdraws, withdrawnRoom}
 
--- ---- for `has_zero`, at an index
+-- ---- for `all_permitted`, at an index, and `is_number`
 
 module _ (x : List ℕ) (i : ℕ) where
-  pub zero-here : i < length x → getD x i 0 ≡ 0 → true ≡ among 0 (drop i x)
-  zero-here h q = sym (rw (drop-here x i h, eq-eqb 0 (getD x i 0) (sym q)))
+  pub permitted-not : (b : Bool) → b ≡ permittedOf (getD x i 0) → i < length x → b ≡ false → false ≡ all permittedOf (drop i x)
+  permitted-not b q h e = sym (rw (drop-here x i h, ← q, e))
 
-  pub zero-later : i < length x → (getD x i 0 ≡ 0 → ⊥) → among 0 (drop (i + 1) x) ≡ among 0 (drop i x)
-  zero-later h q = sym (rw (drop-here x i h, ne-eqb 0 (getD x i 0) (λ e. q (sym e))))
+  pub permitted-on : (b : Bool) → b ≡ permittedOf (getD x i 0) → i < length x → b ≡ true → all permittedOf (drop (i + 1) x) ≡ all permittedOf (drop i x)
+  permitted-on b q h e = sym (rw (drop-here x i h, ← q, e))
 
-  pub zero-never : length x ≤ i → false ≡ among 0 (drop i x)
-  zero-never h = sym (rw (drop-past x i h))
+  pub permitted-end : length x ≤ i → true ≡ all permittedOf (drop i x)
+  permitted-end h = sym (rw (drop-past x i h))
+
+module _ (x : List ℕ) where
+  pub number-none : length x < 1 → false ≡ goodNumber x
+  unfolding goodNumber
+  number-none h = sym (rw (lt-leb 1 (length x) h))
+
+  pub number-long : 10 < length x → false ≡ goodNumber x
+  unfolding goodNumber
+  number-long h = sym (rw (le-leb 1 (length x) (omega arith), lt-leb (length x) 10 h))
+
+  pub number-is : 1 ≤ length x → length x ≤ 10 → all permittedOf x ≡ goodNumber x
+  unfolding goodNumber
+  number-is h k = sym (rw (le-leb 1 (length x) h, le-leb (length x) 10 k))
 
 -- ---- for `filled_up`
 
@@ -67,32 +82,23 @@ module _ (s : List ℕ) (at : ℕ) where
 -- ---- for `withdraw_number`
 
 module _ (s x : List ℕ) where
-  found-none : foundIn s x ≡ Gap 0 → (false ≡ withdraws s (foundIn s x)) × (s ≡ withdrawnRoom s (foundIn s x))
-  unfolding withdraws withdrawnRoom
-  found-none q = (rw q, rw q)
+  pub found-no : goodNumber x ≡ false → (false ≡ withdraws s (slotFound s x)) × (s ≡ withdrawnRoom s (slotFound s x))
+  unfolding slotFound withdraws withdrawnRoom
+  found-no q = (rw q, rw q)
 
-  pub found-long : 10 < length x → (false ≡ withdraws s (foundIn s x)) × (s ≡ withdrawnRoom s (foundIn s x))
-  unfolding foundIn
-  found-long h = found-none (rw (lt-leb (length x) 10 h))
+  module _ (p : goodNumber x ≡ true) where
+    pub found-is : slotFound s x ≡ findOf s (filledUp 10 x)
+    unfolding slotFound
+    found-is = rw p
 
-  module _ (h : length x ≤ 10) where
-    pub found-zero : among 0 x ≡ true → (false ≡ withdraws s (foundIn s x)) × (s ≡ withdrawnRoom s (foundIn s x))
-    unfolding foundIn
-    found-zero p = found-none (rw (le-leb (length x) 10 h, p))
+    module _ (r : Found) (q : r ≡ findOf s (filledUp 10 x)) (k : ℕ) where
+      pub found-at : r ≡ At k → (withdrawsAt s (k * 140) ≡ withdraws s (slotFound s x)) × (leftAt s (k * 140) ≡ withdrawnRoom s (slotFound s x))
+      unfolding withdraws withdrawnRoom
+      found-at e = (rw (found-is, ← q, e), rw (found-is, ← q, e))
 
-    module _ (p : among 0 x ≡ false) where
-      found-is : foundIn s x ≡ findOf s (filledUp 10 x)
-      unfolding foundIn
-      found-is = rw (le-leb (length x) 10 h, p)
-
-      module _ (r : Found) (q : r ≡ findOf s (filledUp 10 x)) (k : ℕ) where
-        pub found-at : r ≡ At k → (withdrawsAt s (k * 140) ≡ withdraws s (foundIn s x)) × (leftAt s (k * 140) ≡ withdrawnRoom s (foundIn s x))
-        unfolding withdraws withdrawnRoom
-        found-at e = (rw (found-is, ← q, e), rw (found-is, ← q, e))
-
-        pub found-gap : r ≡ Gap k → (false ≡ withdraws s (foundIn s x)) × (s ≡ withdrawnRoom s (foundIn s x))
-        unfolding withdraws withdrawnRoom
-        found-gap e = (rw (found-is, ← q, e), rw (found-is, ← q, e))
+      pub found-gap : r ≡ Gap k → (false ≡ withdraws s (slotFound s x)) × (s ≡ withdrawnRoom s (slotFound s x))
+      unfolding withdraws withdrawnRoom
+      found-gap e = (rw (found-is, ← q, e), rw (found-is, ← q, e))
 
 pub found-within : (s y : List ℕ) (r : Found) (k : ℕ) → r ≡ findOf s y → r ≡ At k → k < length s / 140
 found-within s y r k q e = subst (Within (length s / 140)) (sym q ∙ e) (find-within s y)

@@ -1,15 +1,15 @@
 //! What release and withdraw do to an account's room, in place, on any bytes of a room. Document 01, "The register".
 use slots::Found;
 ghost use mathlib.Core.Path.{_≡_};
-ghost use mathlib.Core.Bool.{not};
 ghost use Prim.Native.Nat.{_+_, _≤_};
-ghost use lib.Dec.{eqb};
-ghost use lib.ListN.{length, getD, take, drop};
+ghost use lib.ListN.{length, take, drop};
 ghost use lib.Seq.{paste};
-ghost use Rattle.laws.specs.Choice.{pick, among};
+ghost use Rattle.laws.specs.Choice.{all};
+ghost use Rattle.syntax.specs.Bytes.{permittedOf};
+ghost use Rattle.contents.specs.Contents.{goodNumber};
 ghost use Rattle.contents.specs.Written.{filledUp};
 ghost use Rattle.entries.specs.Release.{madeLive, keptSlot, settledSlot, pendingOne, pendingSlots, usedSlots, releasedRoom};
-ghost use Rattle.entries.specs.Withdraw.{foundIn, withdrawsAt, leftAt, withdraws, withdrawnRoom};
+ghost use Rattle.entries.specs.Withdraw.{slotFound, withdrawsAt, leftAt, withdraws, withdrawnRoom};
 
 const SLOT: usize = 140;
 
@@ -95,18 +95,30 @@ pub fn release_room(room: &mut [u8]) -> usize
     count
 }
 
-// Whether a byte is 0: no number has such a one.
-fn has_zero(number: &[u8]) -> bool
-    ensures { λ r. ⌜ r ≡ among 0 (now (number .entry)) ⌝ }
+fn all_permitted(text: &[u8]) -> bool
+    ensures { λ r. ⌜ r ≡ all permittedOf (now (text .entry)) ⌝ }
 {
     let mut i = 0;
-    while i < number.len() {
-        if number[i] == 0 {
-            return true;
+    while i < text.len() {
+        if !syntax::bytes::permitted(text[i]) {
+            return false;
         }
         i += 1;
     }
-    false
+    true
+}
+
+// Whether a text is a service number: 1 to 10 permitted characters.
+fn is_number(text: &[u8]) -> bool
+    ensures { λ r. ⌜ r ≡ goodNumber (now (text .entry)) ⌝ }
+{
+    if text.len() < 1 {
+        return false;
+    }
+    if 10 < text.len() {
+        return false;
+    }
+    all_permitted(text)
 }
 
 // A number as it stands in a slot.
@@ -139,13 +151,10 @@ fn withdraw_at(room: &mut [u8], at: usize) -> bool
 
 /// Drops the pending entry of a number, and its record where nothing is live; says whether there was one.
 pub fn withdraw_number(room: &mut [u8], number: &[u8]) -> bool
-    ensures told { λ r. ⌜ r ≡ withdraws (now (room .entry)) (foundIn (now (room .entry)) (now (number .entry))) ⌝ }
-    ensures left { λ _. ⌜ now (room .exit) ≡ withdrawnRoom (now (room .entry)) (foundIn (now (room .entry)) (now (number .entry))) ⌝ }
+    ensures told { λ r. ⌜ r ≡ withdraws (now (room .entry)) (slotFound (now (room .entry)) (now (number .entry))) ⌝ }
+    ensures left { λ _. ⌜ now (room .exit) ≡ withdrawnRoom (now (room .entry)) (slotFound (now (room .entry)) (now (number .entry))) ⌝ }
 {
-    if 10 < number.len() {
-        return false;
-    }
-    if has_zero(number) {
+    if !is_number(number) {
         return false;
     }
     let filled = filled_up(number);
