@@ -18,7 +18,7 @@ use Rattle.contents.specs.Written.{roomBytes, numbersIn, written, held, isRegis
 use Rattle.contents.specs.Calls.{isAccount, viewOf, withRecords}
 use Rattle.rooms.specs.Slots.{length-room, account-fits, account-records}
 use Rattle.rooms.specs.Registers.{good-window, good-eight, good-total, good-accounts, held-written, register-told, register-when, length-register}
-use Rattle.rooms.specs.Layout.{good-at, total-more, total-front, frontOf, behindOf, length-front, with-room, with-own, good-with}
+use Rattle.rooms.specs.Layout.{good-lengths, good-at, total-more, total-front, frontOf, behindOf, length-front, with-room, with-own, good-with}
 
 -- the quotas that any bytes say
 unfoldable pub quotasIn : List ℕ → List ℕ
@@ -85,8 +85,27 @@ module _ (b : List ℕ) (q : isRegister b ≡ true) where
         let t = total-front (held b .quotas) account in
         rw quotas-held (omega arith)
 
+    start-least : 18 ≤ roomStart b account
+    unfolding roomStart
+    start-least = omega arith
+
     pub room-from : roomStart b account ≤ roomEnd b account
     room-from = let e = room-size in omega arith
+
+    pub start-within : roomStart b account ≤ length b
+    start-within =
+        let e = room-from in
+        let t = room-within in
+        omega arith
+
+    -- "the quotas summing to at most 256"
+    pub view-quota : viewOf (held b) account .quota ≤ 256
+    view-quota =
+        let l = length-register b q in
+        let e = room-size in
+        let t = room-within in
+        let s = start-least in
+        omega arith
 
     start-is : length (frontOf (held b) (account - 1)) ≡ roomStart b account
     unfolding roomStart
@@ -160,6 +179,15 @@ module _ (b : List ℕ) (q : isRegister b ≡ true) where
 
       pub held-after : held (written (withRecords (held b) account rs)) ≡ withRecords (held b) account rs
       held-after = held-written (withRecords (held b) account rs) register-stays
+
+      -- what the account holds then
+      pub records-after : viewOf (held (written (withRecords (held b) account rs))) account .records ≡ rs
+      unfolding viewOf withRecords
+      records-after =
+          let l = good-lengths (held b .quotas) (held b .accounts) (good-accounts (held b) contents-good) in
+          let n = good-eight (held b) contents-good in
+          let i = index in
+          ap (λ (c : Contents). viewOf c account .records) held-after ∙ getD-set-same (held b .accounts) (account - 1) rs [] (omega arith)
 
     -- what is before the room and behind it is as it was
     pub untouched : (rs : List Record) → all goodRecord rs ≡ true → length rs ≤ viewOf (held b) account .quota
