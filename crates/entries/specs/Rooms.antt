@@ -24,7 +24,7 @@ use Rattle.rooms.specs.Order.{length-filled}
 use Rattle.rooms.specs.Slots.{calendar-length, goodLive, entries-parts, record-number, record-parts, slot-number, slot-again, length-slot, slots-each, length-room, account-fits, account-records, account-order}
 use Rattle.rooms.specs.Lookup.{none≢some, some-is, lookup-bad}
 use Rattle.rooms.specs.Changes.{placeIn, find-place, foundIn, changedAt, place-within, lookup-place, changed-place}
-use Rattle.rooms.specs.Places.{record-within, record-there, slot-there, slot-byte, used-slots, room-removed, room-replaced}
+use Rattle.rooms.specs.Places.{record-within, record-there, record-good, slot-there, slot-byte, used-slots, room-removed, room-replaced}
 use Rattle.rooms.specs.Settled.{released-good}
 use Rattle.entries.specs.Release.{madeLive, settledBy, settledSlot, settledSlots, pendingOne, pendingSlots, usedSlots, releasedRoom}
 use Rattle.entries.specs.Withdraw.{slotFound, withdrawsAt, leftAt, withdraws, withdrawnRoom}
@@ -164,27 +164,19 @@ kept-good r c q e =
     let m : isCalendar c ≡ true = subst (λ (o : Option (List ℕ)). goodLive o ≡ true) e (entries-parts (r .live) (r .pending) (record-parts r q .1) .0) in
     rw (record-number r q, m)
 
--- what is good of each record is good of the k-th
-all-at : (f : Record → Bool) (k : ℕ) (rs : List Record) (r : Record) → all f rs ≡ true → recordAt k rs ≡ some r → f r ≡ true
-unfolding recordAt
-all-at f zero [] r q e = absurd (none≢some e)
-all-at f (suc k) [] r q e = absurd (none≢some e)
-all-at f zero (p ∷ rs) r q e = ap f (sym (some-is e)) ∙ both-parts (f p) (all f rs) q .0
-all-at f (suc k) (p ∷ rs) r q e = all-at f k rs r (both-parts (f p) (all f rs) q .1) e
-
 module _ (quota : ℕ) (rs : List Record) (g : goodAccount quota rs ≡ true) where
   -- the slot at a place
   module _ (k : ℕ) (r : Record) (e : recordAt k rs ≡ some r) where
     abbrev room : List ℕ
     room = roomBytes quota rs
 
-    record-good : goodRecord r ≡ true
-    record-good = all-at goodRecord k rs r (account-records quota rs g) e
+    is-good : goodRecord r ≡ true
+    is-good = record-good k rs r (account-records quota rs g) e
 
     pending-there : not (eqb (getD room (k * 140 + 75) 0) 0) ≡ isPending (r .pending)
     pending-there =
         rw (slot-byte quota rs k r (account-records quota rs g) (account-fits quota rs g) e 75 (lit≤ tt))
-        (pending-byte (slotOf r) ∙ ap isPending (pending-slot r record-good))
+        (pending-byte (slotOf r) ∙ ap isPending (pending-slot r is-good))
 
     withdraws-at : withdrawsAt room (k * 140) ≡ isPending (r .pending)
     unfolding withdrawsAt
@@ -207,14 +199,14 @@ module _ (quota : ℕ) (rs : List Record) (g : goodAccount quota rs ≡ true) wh
         let q₂ = account-records quota rs g in
         let h = account-fits quota rs g in
         let b = slot-byte quota rs k r q₂ h e 10 (lit≤ tt) in
-        rw (eqb-of room (k * 140 + 75) true (pending-there ∙ q), b, live-none (slotOf r) (live-slot r record-good ∙ e₂)) (room-removed quota rs q₂ k h (record-within k rs r e))
+        rw (eqb-of room (k * 140 + 75) true (pending-there ∙ q), b, live-none (slotOf r) (live-slot r is-good ∙ e₂)) (room-removed quota rs q₂ k h (record-within k rs r e))
     left-at (some c) e₂ true q =
         let q₂ = account-records quota rs g in
         let h = account-fits quota rs g in
         let b = slot-byte quota rs k r q₂ h e 10 (lit≤ tt) in
-        rw (eqb-of room (k * 140 + 75) true (pending-there ∙ q), b, live-some (slotOf r) c (live-slot r record-good ∙ e₂))
+        rw (eqb-of room (k * 140 + 75) true (pending-there ∙ q), b, live-some (slotOf r) c (live-slot r is-good ∙ e₂))
         (paste-end room (slotOf r) (k * 140) within (slot-there quota rs k r q₂ h e)
-        ∙ rw (cleared r c record-good e₂) (room-replaced quota rs q₂ k (kept r c) (kept-good r c record-good e₂) h (record-within k rs r e)))
+        ∙ rw (cleared r c is-good e₂) (room-replaced quota rs q₂ k (kept r c) (kept-good r c is-good e₂) h (record-within k rs r e)))
 
   -- by the place that is found
   withdraw-by : (p : Found) → Within (length rs) p
