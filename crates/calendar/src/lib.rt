@@ -144,7 +144,7 @@ fn day_character(days: &[u8], k: usize) -> u8
 }
 
 // The first n days as characters, put at an offset where there is room for all of them.
-fn put_days(days: &[u8], n: usize, out: &mut [u8], at: usize)
+pub fn put_days(days: &[u8], n: usize, out: &mut [u8], at: usize)
     ensures { λ _. ⌜ now (out .exit) ≡ putAt (now (out .entry)) at (dayCharacters (now (days .entry)) 0 n) ⌝ }
 {
     if out.len() < n {

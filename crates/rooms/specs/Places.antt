@@ -46,6 +46,14 @@ record-past (suc k) [] h = refl
 record-past zero (r ∷ rs) h = absurd (omega arith)
 record-past (suc k) (r ∷ rs) h = record-past k rs (le-of-suc-le-suc h)
 
+-- it is good where all are
+pub record-good : (k : ℕ) (rs : List Record) (r : Record) → all goodRecord rs ≡ true → recordAt k rs ≡ some r → goodRecord r ≡ true
+unfolding recordAt
+record-good zero [] r q e = absurd (none≢some e)
+record-good (suc k) [] r q e = absurd (none≢some e)
+record-good zero (p ∷ rs) r q e = ap goodRecord (sym (some-is e)) ∙ both-parts (goodRecord p) (all goodRecord rs) q .0
+record-good (suc k) (p ∷ rs) r q e = record-good k rs r (both-parts (goodRecord p) (all goodRecord rs) q .1) e
+
 -- its slot
 pub slot-there : (quota : ℕ) (rs : List Record) (k : ℕ) (r : Record) → all goodRecord rs ≡ true → length rs ≤ quota → recordAt k rs ≡ some r
     → take 140 (drop (k * 140) (roomBytes quota rs)) ≡ slotOf r

@@ -1,0 +1,5 @@
+pub mod Release
+pub mod Withdraw
+pub mod Released
+pub mod Withdrawing
+pub mod Rooms
