@@ -1,1 +1,6 @@
 pub mod Stage
+pub mod Changing
+pub mod Tests
+pub mod Passes
+pub mod Together
+pub mod Passed
