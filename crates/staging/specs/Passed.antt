@@ -7,6 +7,7 @@ use mathlib.Core.List.{List, [], _∷_}
 use mathlib.Core.Option.{Option, none, some}
 use native.Mathlib.Omega.{arith}
 use lib.Dec.{leb}
+use borrow.Author.Tests.{leb-true, leb-false, le-leb, lt-leb}
 use lib.ListN.{length}
 use Rattle.laws.specs.Choice.{pick, both, choose}
 use Rattle.answers.specs.Answers.{Answer, done, refused, wrongService, numberTwice, outsideWindow, unknownService, overQuota}
@@ -130,3 +131,93 @@ module _ (law : Changing) (first : ℕ) (s rows : List ℕ) (n : ℕ) (fits : n 
         (law .order (numberIn s (service j)) removed rs w (removed-keeps (numberIn s (service j)))) (z .1)))
         (λ r. rw r (removals-swap k (j + 1) rs c u (omega arith) (omega arith) w (z .1)))))
         (λ p. rw p (removals-swap k (j + 1) rs t u (omega arith) (omega arith) w (rw p at e)))
+
+  -- all in order is all removals, then all puts
+  pub removals-first : (k i : ℕ) (rs : List Record) (t u : Totals) → i + k ≤ n → inOrder rs ≡ true → testAll first s rows (lookIn start) (rest k i) t ≡ done u
+      → entered first s rows (rest k i) rs ≡ putAll first s rows (rest k i) (removeAll s (rest k i) rs)
+  unfolding listOf entered removeAll putAll entry
+  removals-first zero i rs t u g w e = refl
+  removals-first (suc k) i rs t u g w e =
+      choose (isService rows i)
+      (λ p.
+      let z = passed-first first s rows (lookIn start) (service i) (rest k (i + 1)) t u (rw p at e) in
+      let c = counted (service i .removal) (lookIn start (numberIn s (service i))) t in
+      let put = putOver (numberIn s (service i)) (daysOf first s (periodsOf rows (service i))) in
+      let keeps = put-keeps (numberIn s (service i)) (daysOf first s (periodsOf rows (service i))) in
+      rw p
+      (choose (service i .removal)
+      (λ r.
+      rw r
+      (removals-first k (i + 1) (changed (numberIn s (service i)) removed rs) c u (omega arith)
+      (law .order (numberIn s (service i)) removed rs w (removed-keeps (numberIn s (service i)))) (z .1)))
+      (λ r.
+      rw r
+      (removals-first k (i + 1) (changed (numberIn s (service i)) put rs) c u (omega arith) (law .order (numberIn s (service i)) put rs w keeps) (z .1)
+      ∙ ap (putAll first s rows (rest k (i + 1))) (removals-swap i put p keeps k (i + 1) rs c u (omega arith) (omega arith) w (z .1))))))
+      (λ p. rw p (removals-first k (i + 1) rs t u (omega arith) w (rw p at e)))
+
+  -- the records in the end
+  entered-size : (k i : ℕ) (rs : List Record) (t u : Totals) → i + k ≤ n → inOrder rs ≡ true → Alike s rows start i rs → testAll first s rows (lookIn start) (rest k i) t ≡ done u
+      → (length (entered first s rows (rest k i) rs) + (u .dropped + t .added) ≡ length rs + (u .added + t .dropped)) × (u .services ≡ t .services + length (rest k i))
+  unfolding listOf entered testAll
+  entered-size zero i rs t u g w a e =
+      let q : t ≡ u = cc in
+      let d = ap (λ (x : Totals). x .dropped) q in
+      let f = ap (λ (x : Totals). x .added) q in
+      let m = ap (λ (x : Totals). x .services) q in
+      (omega arith, omega arith)
+  entered-size (suc k) i rs t u g w a e =
+      choose (isService rows i)
+      (λ p.
+      let v = service i in
+      let x = numberIn s (service i) in
+      let z = passed-first first s rows (lookIn start) (service i) (rest k (i + 1)) t u (rw p at e) in
+      let c = counted (service i .removal) (lookIn start (numberIn s (service i))) t in
+      let l : lookup x rs ≡ lookup x start = a (bytesOf s (service i .number)) (alone s rows n fits i (omega arith) (bytesOf s (service i .number)) (own-row law first s rows n fits start i (z .0 .once))) in
+      let b = law .sized x (entry first s rows (service i)) rs w (entry-keeps first s rows (service i)) in
+      let b₂ : length (changed x (entry first s rows (service i)) rs) + size (lookup x start) ≡ length rs + size (entry first s rows (service i) (lookup x start)) = rw l at b in
+      let d = entry-size first s rows (service i) (lookup x start) in
+      let ih = entered-size k (i + 1) (changed x (entry first s rows (service i)) rs) c u (omega arith) (after-ordered law first s rows n fits start i rs w) (after-alike law first s rows n fits start i rs p w a) (z .1) in
+      rw p (omega arith, omega arith))
+      (λ p. rw p (entered-size k (i + 1) rs t u (omega arith) w (λ x y. a x (λ j b. y j (omega arith))) (rw p at e)))
+
+-- "then 15": what staging the services comes to, by the totals of their tests
+abbrev pub closeTotals : ℕ → List ℕ → List ℕ → List Service → View → Answer Totals → Called
+closeTotals first s rows vs v (refused m at) = refusal v (refused m at)
+closeTotals first s rows vs v (done u) =
+    pick (leb (length (v .records) + u .added) (v .quota + u .dropped))
+    (record { answer = done (u .services); records = putAll first s rows vs (removeAll s vs (v .records)) })
+    (refusal v (overQuota (length s)))
+
+leb-moved : (a b c d x : ℕ) → a + d ≡ b + c → leb (b + c) (x + d) ≡ leb a x
+leb-moved a b c d x e =
+    choose (leb a x)
+    (λ p. let h = leb-true a x p in le-leb (b + c) (x + d) (omega arith) ∙ sym p)
+    (λ p. let h = leb-false a x p in lt-leb (b + c) (x + d) (omega arith) ∙ sym p)
+
+module _ (law : Changing) (s rows : List ℕ) (m : ℕ) (v : View) (w : inOrder (v .records) ≡ true) where
+  abbrev all : List Service
+  all = servicesOf s rows m
+
+  abbrev n : ℕ
+  n = rowCount rows m
+
+  abbrev tests : Answer Totals
+  tests = testAll (v .first) s rows (lookIn (v .records)) (servicesOf s rows m) noTotals
+
+  close-by : (x : Answer Totals) → tests ≡ x
+      → closeBy s (length all) v (finish x (entered (v .first) s rows all (v .records))) ≡ closeTotals (v .first) s rows all v x
+  close-by (refused k at) e = refl
+  close-by (done u) e =
+      let z = entered-size law (v .first) s rows n (omega arith) (v .records) (n - 0) 0 (v .records) noTotals u (omega arith) w (λ x y. refl) e in
+      let r = removals-first law (v .first) s rows n (omega arith) (v .records) (n - 0) 0 (v .records) noTotals u (omega arith) w e in
+      let l : leb (length (v .records) + u .added) (v .quota + u .dropped) ≡ leb (length (entered (v .first) s rows all (v .records))) (v .quota) =
+      leb-moved (length (entered (v .first) s rows all (v .records))) (length (v .records)) (u .added) (u .dropped) (v .quota) (omega arith) in
+      let k : u .services ≡ length all = omega arith in
+      rw (l, k, r)
+
+  -- stage is: all tests on the start, 15 by the totals, then removals, then puts
+  pub stage-totals : stageServices s rows (servicesOf s rows m) v ≡ closeTotals (v .first) s rows (servicesOf s rows m) v tests
+  stage-totals =
+      rw (enter-tested law (v .first) s rows n (omega arith) (v .records) (n - 0) 0 (v .records) noTotals (omega arith) w (λ x y. refl))
+      (close-by tests refl)
