@@ -4,3 +4,4 @@ pub mod Tests
 pub mod Passes
 pub mod Together
 pub mod Passed
+pub mod Permitted
