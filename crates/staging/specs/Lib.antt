@@ -5,3 +5,4 @@ pub mod Passes
 pub mod Together
 pub mod Passed
 pub mod Permitted
+pub mod Few

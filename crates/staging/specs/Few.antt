@@ -1,0 +1,118 @@
+-- A reading has few rows, since each segment takes four bytes: 45,000 numbers hold the rows of any interchange, and 17 cannot come.
+-- Assumes nothing.
+use Prim.Native.Nat.{ℕ, zero, suc, _+_, _*_, _≤_, _<_}
+use mathlib.Core.Path.{_≡_, refl, sym, ap, _∙_}
+use mathlib.Core.Bool.{true, false}
+use mathlib.Core.List.{List, [], _∷_, _++_}
+use native.Mathlib.Omega.{arith}
+use lib.Dec.{eqb, ltb}
+use borrow.Author.Tests.{ltb-true, ltb-false, le-ltb}
+use lib.ListN.{length, take, drop}
+use lib.Seq.{take-at}
+use Rattle.laws.specs.Choice.{pick, either, choose, either-parts}
+use Rattle.laws.specs.Lists.{over}
+use Rattle.syntax.specs.declared.segment.Refusal.{Refusal}
+use Rattle.syntax.specs.declared.segment.Scanned.{Scanned}
+use Rattle.syntax.specs.declared.segment.Scanned.the-variants.{End, NotPermitted, Unended, Malformed}
+use Rattle.syntax.specs.Segment.{bodyAt, segmentAt}
+use Rattle.placing.specs.Skdupd.{skdupdTable}
+use Rattle.placing.specs.Tsdupd.{tsdupdTable}
+use Rattle.steps.specs.declared.state.State.{State}
+use Rattle.steps.specs.declared.state.Row.{Row}
+use Rattle.steps.specs.declared.state.Step.{Step}
+use Rattle.steps.specs.declared.state.Step.the-variants.{Next, Refused}
+use Rattle.steps.specs.State.{openingState}
+use Rattle.steps.specs.Step.{segmentStep}
+use Rattle.interchange.specs.declared.reader.Answer.the-variants as answer
+use Rattle.interchange.specs.Reader.{Outcome, Verdict, accepted, faulty, isClosed, dialogueOf, referenceOf, turnStep, turnScan, turnAt, afterTurn, readOn, sized, readingOf, numbers, answerBy, answerOf, rowsBy, rowsAfter}
+use Rattle.interchange.specs.Offsets.{turn-on}
+use Rattle.interchange.specs.Turns.{turn-is}
+use Rattle.interchange.specs.Laws.{length-numbers}
+
+module _ (s : List ℕ) where
+  -- the rows from an offset on, at four bytes each
+  abbrev Few : ℕ → Outcome → Type 0
+  Few at o = 4 * length (o .rows) + at ≤ length s
+
+  module _ (f : ℕ) (ih : (st : State) (at : ℕ) → at ≤ length s → Few at (readOn f s st at)) (from : State) (at : ℕ) (h : at ≤ length s) where
+    abbrev step : Step
+    step = segmentStep skdupdTable tsdupdTable from at (bodyAt s at) (dialogueOf s from) (referenceOf s from)
+
+    stepped : (e : ℕ) → segmentAt s at ≡ End e → (y : Step) → step ≡ y → Few at (afterTurn (readOn f s) (turnStep (e + 1) y))
+    stepped e k (Next st r) q =
+        let w = turn-on skdupdTable tsdupdTable s from at st r (e + 1) (sym (turn-is skdupdTable tsdupdTable s from at (End e) k) ∙ ap (turnStep (e + 1)) q) in
+        let m = ih st (e + 1) (w .2) in
+        let n = w .1 in
+        omega arith
+    stepped e k (Refused x) q = omega arith
+
+    scanned : (x : Scanned) → segmentAt s at ≡ x → Few at (afterTurn (readOn f s) (turnScan skdupdTable tsdupdTable s from at x))
+    scanned (End e) k = stepped e k step refl
+    scanned (NotPermitted i) k = omega arith
+    scanned Unended k = omega arith
+    scanned Malformed k = omega arith
+
+    turned : Few at (afterTurn (readOn f s) (turnAt skdupdTable tsdupdTable s from at))
+    unfolding turnAt
+    turned = scanned (segmentAt s at) refl
+
+  few-on : (f : ℕ) (st : State) (at : ℕ) → at ≤ length s → Few at (readOn f s st at)
+  unfolding readOn
+  few-on zero st at h = omega arith
+  few-on (suc f) st at h =
+      choose (ltb at (length s))
+      (λ p.
+      choose (isClosed (st .phase)) (λ q. rw (p, q) (omega arith))
+      (λ q. rw (p, q) (turned f (few-on f) st at h)))
+      (λ p. choose (isClosed (st .phase)) (λ q. rw (p, q) (omega arith)) (λ q. rw (p, q) (omega arith)))
+
+  pub few-rows : 3 * length (readingOf s .rows) ≤ 45000
+  unfolding readingOf
+  few-rows =
+      choose (sized s) (λ p. rw p (omega arith))
+      (λ p.
+      let k = ltb-false 60000 (length s) (either-parts (eqb (length s) 0) (ltb 60000 (length s)) p .1) in
+      let w = few-on (length s + 1) openingState 0 (omega arith) in
+      rw p (omega arith))
+
+-- ---- what the reader answers where it is lent so much
+
+refused≢rows : {x : Refusal} {n : ℕ} → answer.Refused x ≡ answer.Rows n → ⊥
+refused≢rows q = let z : _≡_ {A = ℕ} 0 1 = cc in omega arith
+
+-- the number of rows of an accepted interchange, and its rows at the front of the buffer
+pub record Rows (s : List ℕ) (n : ℕ) (after : List ℕ) : Type 0 where
+  pub accepts : readingOf s .verdict ≡ accepted
+  pub count : length (readingOf s .rows) ≡ n
+  pub front : take (3 * n) after ≡ numbers (readingOf s .rows)
+
+module _ (rows : List Row) (lent : List ℕ) (enough : 3 * length rows ≤ length lent) where
+  refused-by : (x : Refusal) (v : Verdict) → answerBy rows (length lent) v ≡ answer.Refused x → v ≡ faulty x
+  refused-by x accepted q =
+      absurd (refused≢rows (sym (rw (le-ltb (length lent) (3 * length rows) enough) at q)))
+  refused-by x (faulty y) q =
+      let e : y ≡ x = cc in
+      ap faulty e
+
+  rows-by : (n : ℕ) (v : Verdict) → answerBy rows (length lent) v ≡ answer.Rows n → (v ≡ accepted) × (length rows ≡ n) × (take (3 * n) (rowsBy rows lent v) ≡ numbers rows)
+  unfolding over
+  rows-by n accepted q =
+      let e : answer.Rows (length rows) ≡ answer.Rows n = rw (le-ltb (length lent) (3 * length rows) enough) at q in
+      let c : length rows ≡ n = cc in
+      let l = length-numbers rows in
+      (refl, c, rw (le-ltb (length lent) (3 * length rows) enough) (take-at (numbers rows) (drop (length (numbers rows)) lent) (3 * n) (omega arith)))
+  rows-by n (faulty y) q = absurd (refused≢rows q)
+
+module _ (s lent : List ℕ) (room : length lent ≡ 45000) where
+  pub read-refused : (x : Refusal) → answerOf (readingOf s) (length lent) ≡ answer.Refused x → readingOf s .verdict ≡ faulty x
+  unfolding answerOf
+  read-refused x q =
+      let k = few-rows s in
+      refused-by (readingOf s .rows) lent (omega arith) x (readingOf s .verdict) q
+
+  pub read-rows : (n : ℕ) → answerOf (readingOf s) (length lent) ≡ answer.Rows n → Rows s n (rowsAfter (readingOf s) lent)
+  unfolding answerOf rowsAfter
+  read-rows n q =
+      let k = few-rows s in
+      let w = rows-by (readingOf s .rows) lent (omega arith) n (readingOf s .verdict) q in
+      record { accepts = w .0; count = w .1; front = w .2 }
