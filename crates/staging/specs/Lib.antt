@@ -6,3 +6,5 @@ pub mod Together
 pub mod Passed
 pub mod Permitted
 pub mod Few
+pub mod Room
+pub mod Ways

@@ -17,6 +17,8 @@ use Rattle.staging.specs.declared.Tested.{Tested}
 use Rattle.staging.specs.declared.Tested.the-variants.{Passed, Refused}
 use Rattle.staging.specs.declared.Known.{Known}
 use Rattle.staging.specs.declared.Known.the-variants as known
+use Rattle.staging.specs.declared.tests.Window.{Window}
+use Rattle.staging.specs.declared.tests.Window.the-variants as window
 use Rattle.staging.specs.Stage.{numberIn, firstOutside, isRemoval}
 
 -- "What each number means"
@@ -29,6 +31,11 @@ stagedAnswer (staged.Refused x) = refused (x .number) (x .position)
 abbrev pub testedAnswer : Tested → Answer Totals
 testedAnswer (Passed t) = done t
 testedAnswer (Refused x) = refused (x .number) (x .position)
+
+-- where the first period outside stands
+abbrev pub windowFound : Window → Option ℕ
+windowFound window.Inside = none
+windowFound (window.Outside at) = some at
 
 -- what the tests ask of a record
 abbrev pub isLive : Option (List ℕ) → Bool

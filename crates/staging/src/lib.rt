@@ -1,5 +1,8 @@
 //! Staging an interchange: its services enter an account's pending entries, all of them or none (document 01, "The register").
 
+mod room;
+mod tests;
+
 use syntax::segment::Refusal;
 
 /// What came of staging an interchange.
