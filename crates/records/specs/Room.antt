@@ -9,7 +9,14 @@ use lib.ListN.{length, set, take, drop, replicate, length-append, length-replica
 use lib.Seq.{paste, take-append-le, drop-append-le, set-append-left, take-append-add, take-all, length-take-le, set-split}
 use Rattle.gaps.specs.Move.{closed, inserted}
 use Rattle.laws.specs.Joined.{joined, Each, joined-append, each-append, each-drop, each-replicate, length-each, take-joined, drop-joined}
-use Rattle.records.specs.Put.{insertAt, removeAt}
+
+-- a record before the k-th
+unfoldable pub insertAt : ℕ → List ℕ → List (List ℕ) → List (List ℕ)
+insertAt k r rs = take k rs ++ (r ∷ drop k rs)
+
+-- all but the k-th
+unfoldable pub removeAt : ℕ → List (List ℕ) → List (List ℕ)
+removeAt k rs = take k rs ++ drop (suc k) rs
 
 -- ---- lists that are filled up to a length
 

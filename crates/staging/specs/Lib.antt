@@ -8,3 +8,4 @@ pub mod Permitted
 pub mod Few
 pub mod Room
 pub mod Ways
+pub mod Rooms

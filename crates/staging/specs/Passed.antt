@@ -21,7 +21,9 @@ use Rattle.contents.specs.Calls.{View, Called, refusal, lookup, changed}
 use Rattle.staging.specs.declared.Totals.{Totals}
 use Rattle.staging.specs.declared.Known.{Known}
 use Rattle.staging.specs.Stage.{numberIn, firstOutside, daysOf, removedBy, removed, putOver, entry, closeBy, stageServices}
-use Rattle.staging.specs.Changing.{Keeps, Changing, size}
+use Rattle.rooms.specs.Listed.{countOf}
+use Rattle.rooms.specs.Changed.{changed-length}
+use Rattle.staging.specs.Changing.{KeepsNumber, order, swap}
 use Rattle.staging.specs.Tests.{isLive, knownOf, unknownBy, adds, drops, counted, testKnown, testInside, testOne, thenTest, testAll, noTotals}
 use Rattle.staging.specs.Passes.{entered, removeOne, putOne, removeAll, putAll}
 use Rattle.staging.specs.Together.{removed-keeps, put-keeps, entry-keeps, finish, Unsaid, Alike, lookIn, servicesIn, alone, apart, own-row, after-ordered, after-alike, enter-tested}
@@ -80,21 +82,21 @@ module _ (first : ℕ) (s rows : List ℕ) (look : List ℕ → Known) (v : Serv
   passed-first q = then-done (testOne first s rows look v t) refl q
 
 -- a put adds a record or changes one; a removal changes one or drops it
-entry-size : (first : ℕ) (s rows : List ℕ) (v : Service) (o : Option Record) → size (entry first s rows v o) + drops (v .removal) (knownOf o) ≡ size o + adds (v .removal) (knownOf o)
+entry-size : (first : ℕ) (s rows : List ℕ) (v : Service) (o : Option Record) → countOf (entry first s rows v o) + drops (v .removal) (knownOf o) ≡ countOf o + adds (v .removal) (knownOf o)
 unfolding entry knownOf
 entry-size first s rows v o = by-kind (v .removal) o
   where
-    by-live : (r : Record) (l : Option (List ℕ)) → size (removedBy r l) + pick (isLive l) 0 1 ≡ 1 + 0
+    by-live : (r : Record) (l : Option (List ℕ)) → countOf (removedBy r l) + pick (isLive l) 0 1 ≡ 1 + 0
     by-live r none = refl
     by-live r (some c) = refl
 
-    by-kind : (b : Bool) (o : Option Record) → size (pick b removed (putOver (numberIn s v) (daysOf first s (periodsOf rows v))) o) + drops b (knownOf o) ≡ size o + adds b (knownOf o)
+    by-kind : (b : Bool) (o : Option Record) → countOf (pick b removed (putOver (numberIn s v) (daysOf first s (periodsOf rows v))) o) + drops b (knownOf o) ≡ countOf o + adds b (knownOf o)
     by-kind true none = refl
     by-kind true (some r) = by-live r (r .live)
     by-kind false none = refl
     by-kind false (some r) = refl
 
-module _ (law : Changing) (first : ℕ) (s rows : List ℕ) (n : ℕ) (fits : n ≤ length rows / 3) (start : List Record) where
+module _ (first : ℕ) (s rows : List ℕ) (n : ℕ) (fits : n ≤ length rows / 3) (start : List Record) where
   abbrev service : ℕ → Service
   service i = serviceAt s rows n i
 
@@ -105,9 +107,9 @@ module _ (law : Changing) (first : ℕ) (s rows : List ℕ) (n : ℕ) (fits : n 
   differ : (i j : ℕ) → i < j → j < n → isService rows i ≡ true → Pass first s rows (lookIn start) (service j) → sameText (numberIn s (service i)) (numberIn s (service j)) ≡ false
   differ i j h k q p =
       apart s rows n fits i q (bytesOf s (service j .number))
-      (alone s rows n fits j k (bytesOf s (service j .number)) (own-row law first s rows n fits start j (p .once)) i h)
+      (alone s rows n fits j k (bytesOf s (service j .number)) (own-row first s rows n fits start j (p .once)) i h)
 
-  module _ (i : ℕ) (f : Option Record → Option Record) (q : isService rows i ≡ true) (keeps : Keeps (numberIn s (service i)) f) where
+  module _ (i : ℕ) (f : Option Record → Option Record) (q : isService rows i ≡ true) (keeps : KeepsNumber (numberIn s (service i)) f) where
     abbrev number : List ℕ
     number = numberIn s (service i)
 
@@ -126,9 +128,9 @@ module _ (law : Changing) (first : ℕ) (s rows : List ℕ) (n : ℕ) (fits : n 
         (choose (service j .removal)
         (λ r.
         rw r
-        (ap (removeAll s (rest k (j + 1))) (sym (law .swap number f rs w keeps (numberIn s (service j)) removed (removed-keeps (numberIn s (service j))) d))
+        (ap (removeAll s (rest k (j + 1))) (sym (swap number f rs w keeps (numberIn s (service j)) removed (removed-keeps (numberIn s (service j))) d))
         ∙ removals-swap k (j + 1) (changed (numberIn s (service j)) removed rs) c u (omega arith) (omega arith)
-        (law .order (numberIn s (service j)) removed rs w (removed-keeps (numberIn s (service j)))) (z .1)))
+        (order (numberIn s (service j)) removed rs w (removed-keeps (numberIn s (service j)))) (z .1)))
         (λ r. rw r (removals-swap k (j + 1) rs c u (omega arith) (omega arith) w (z .1)))))
         (λ p. rw p (removals-swap k (j + 1) rs t u (omega arith) (omega arith) w (rw p at e)))
 
@@ -149,10 +151,10 @@ module _ (law : Changing) (first : ℕ) (s rows : List ℕ) (n : ℕ) (fits : n 
       (λ r.
       rw r
       (removals-first k (i + 1) (changed (numberIn s (service i)) removed rs) c u (omega arith)
-      (law .order (numberIn s (service i)) removed rs w (removed-keeps (numberIn s (service i)))) (z .1)))
+      (order (numberIn s (service i)) removed rs w (removed-keeps (numberIn s (service i)))) (z .1)))
       (λ r.
       rw r
-      (removals-first k (i + 1) (changed (numberIn s (service i)) put rs) c u (omega arith) (law .order (numberIn s (service i)) put rs w keeps) (z .1)
+      (removals-first k (i + 1) (changed (numberIn s (service i)) put rs) c u (omega arith) (order (numberIn s (service i)) put rs w keeps) (z .1)
       ∙ ap (putAll first s rows (rest k (i + 1))) (removals-swap i put p keeps k (i + 1) rs c u (omega arith) (omega arith) w (z .1))))))
       (λ p. rw p (removals-first k (i + 1) rs t u (omega arith) w (rw p at e)))
 
@@ -173,11 +175,11 @@ module _ (law : Changing) (first : ℕ) (s rows : List ℕ) (n : ℕ) (fits : n 
       let x = numberIn s (service i) in
       let z = passed-first first s rows (lookIn start) (service i) (rest k (i + 1)) t u (rw p at e) in
       let c = counted (service i .removal) (lookIn start (numberIn s (service i))) t in
-      let l : lookup x rs ≡ lookup x start = a (bytesOf s (service i .number)) (alone s rows n fits i (omega arith) (bytesOf s (service i .number)) (own-row law first s rows n fits start i (z .0 .once))) in
-      let b = law .sized x (entry first s rows (service i)) rs w (entry-keeps first s rows (service i)) in
-      let b₂ : length (changed x (entry first s rows (service i)) rs) + size (lookup x start) ≡ length rs + size (entry first s rows (service i) (lookup x start)) = rw l at b in
+      let l : lookup x rs ≡ lookup x start = a (bytesOf s (service i .number)) (alone s rows n fits i (omega arith) (bytesOf s (service i .number)) (own-row first s rows n fits start i (z .0 .once))) in
+      let b = changed-length x (entry first s rows (service i)) rs w in
+      let b₂ : length (changed x (entry first s rows (service i)) rs) + countOf (lookup x start) ≡ length rs + countOf (entry first s rows (service i) (lookup x start)) = rw l at b in
       let d = entry-size first s rows (service i) (lookup x start) in
-      let ih = entered-size k (i + 1) (changed x (entry first s rows (service i)) rs) c u (omega arith) (after-ordered law first s rows n fits start i rs w) (after-alike law first s rows n fits start i rs p w a) (z .1) in
+      let ih = entered-size k (i + 1) (changed x (entry first s rows (service i)) rs) c u (omega arith) (after-ordered first s rows n fits start i rs w) (after-alike first s rows n fits start i rs p w a) (z .1) in
       rw p (omega arith, omega arith))
       (λ p. rw p (entered-size k (i + 1) rs t u (omega arith) w (λ x y. a x (λ j b. y j (omega arith))) (rw p at e)))
 
@@ -195,7 +197,7 @@ leb-moved a b c d x e =
     (λ p. let h = leb-true a x p in le-leb (b + c) (x + d) (omega arith) ∙ sym p)
     (λ p. let h = leb-false a x p in lt-leb (b + c) (x + d) (omega arith) ∙ sym p)
 
-module _ (law : Changing) (s rows : List ℕ) (m : ℕ) (v : View) (w : inOrder (v .records) ≡ true) where
+module _ (s rows : List ℕ) (m : ℕ) (v : View) (w : inOrder (v .records) ≡ true) where
   abbrev all : List Service
   all = servicesOf s rows m
 
@@ -209,8 +211,8 @@ module _ (law : Changing) (s rows : List ℕ) (m : ℕ) (v : View) (w : inOrder 
       → closeBy s (length all) v (finish x (entered (v .first) s rows all (v .records))) ≡ closeTotals (v .first) s rows all v x
   close-by (refused k at) e = refl
   close-by (done u) e =
-      let z = entered-size law (v .first) s rows n (omega arith) (v .records) (n - 0) 0 (v .records) noTotals u (omega arith) w (λ x y. refl) e in
-      let r = removals-first law (v .first) s rows n (omega arith) (v .records) (n - 0) 0 (v .records) noTotals u (omega arith) w e in
+      let z = entered-size (v .first) s rows n (omega arith) (v .records) (n - 0) 0 (v .records) noTotals u (omega arith) w (λ x y. refl) e in
+      let r = removals-first (v .first) s rows n (omega arith) (v .records) (n - 0) 0 (v .records) noTotals u (omega arith) w e in
       let l : leb (length (v .records) + u .added) (v .quota + u .dropped) ≡ leb (length (entered (v .first) s rows all (v .records))) (v .quota) =
       leb-moved (length (entered (v .first) s rows all (v .records))) (length (v .records)) (u .added) (u .dropped) (v .quota) (omega arith) in
       let k : u .services ≡ length all = omega arith in
@@ -219,5 +221,5 @@ module _ (law : Changing) (s rows : List ℕ) (m : ℕ) (v : View) (w : inOrder 
   -- stage is: all tests on the start, 15 by the totals, then removals, then puts
   pub stage-totals : stageServices s rows (servicesOf s rows m) v ≡ closeTotals (v .first) s rows (servicesOf s rows m) v tests
   stage-totals =
-      rw (enter-tested law (v .first) s rows n (omega arith) (v .records) (n - 0) 0 (v .records) noTotals (omega arith) w (λ x y. refl))
+      rw (enter-tested (v .first) s rows n (omega arith) (v .records) (n - 0) 0 (v .records) noTotals (omega arith) w (λ x y. refl))
       (close-by tests refl)

@@ -21,28 +21,29 @@ use Rattle.contents.specs.Calls.{lookup, changed}
 use Rattle.staging.specs.declared.Totals.{Totals}
 use Rattle.staging.specs.declared.Known.{Known}
 use Rattle.staging.specs.Stage.{numberIn, firstOutside, isUnknown, daysOf, removedBy, removed, putOver, entry, enterKnown, enterInside, enter, andThen, enterAll}
-use Rattle.staging.specs.Changing.{Numbered, Keeps, Changing}
+use Rattle.rooms.specs.Listed.{Keeps}
+use Rattle.staging.specs.Changing.{KeepsNumber, other, order}
 use Rattle.staging.specs.Tests.{knownOf, unknownBy, counted, testKnown, testInside, testOne, thenTest, testAll}
 use Rattle.staging.specs.Passes.{entered}
 
 -- each change keeps the number
-pub removed-keeps : (x : List ℕ) → Keeps x removed
+pub removed-keeps : (x : List ℕ) → KeepsNumber x removed
 removed-keeps x none h = tt
 removed-keeps x (some r) h = by-live (r .live)
   where
-    by-live : (l : Option (List ℕ)) → Numbered x (removedBy r l)
+    by-live : (l : Option (List ℕ)) → Keeps x (removedBy r l)
     by-live none = tt
     by-live (some c) = h
 
-pub put-keeps : (x c : List ℕ) → Keeps x (putOver x c)
+pub put-keeps : (x c : List ℕ) → KeepsNumber x (putOver x c)
 put-keeps x c none h = refl
 put-keeps x c (some r) h = h
 
-pub entry-keeps : (first : ℕ) (s rows : List ℕ) (v : Service) → Keeps (numberIn s v) (entry first s rows v)
+pub entry-keeps : (first : ℕ) (s rows : List ℕ) (v : Service) → KeepsNumber (numberIn s v) (entry first s rows v)
 unfolding entry
 entry-keeps first s rows v = by-kind (v .removal)
   where
-    by-kind : (b : Bool) → Keeps (numberIn s v) (pick b removed (putOver (numberIn s v) (daysOf first s (periodsOf rows v))))
+    by-kind : (b : Bool) → KeepsNumber (numberIn s v) (pick b removed (putOver (numberIn s v) (daysOf first s (periodsOf rows v))))
     by-kind true = removed-keeps (numberIn s v)
     by-kind false = put-keeps (numberIn s v) (daysOf first s (periodsOf rows v))
 
@@ -91,7 +92,7 @@ module _ (s rows : List ℕ) (n : ℕ) (fits : n ≤ length rows / 3) where
   unfolding isSame saysNumber serviceAt
   apart i h x q = rw h at q
 
-module _ (law : Changing) (first : ℕ) (s rows : List ℕ) (n : ℕ) (fits : n ≤ length rows / 3) (start : List Record) where
+module _ (first : ℕ) (s rows : List ℕ) (n : ℕ) (fits : n ≤ length rows / 3) (start : List Record) where
   abbrev pub service : ℕ → Service
   service i = serviceAt s rows n i
 
@@ -99,11 +100,11 @@ module _ (law : Changing) (first : ℕ) (s rows : List ℕ) (n : ℕ) (fits : n 
   after i rs = changed (numberIn s (serviceAt s rows n i)) (entry first s rows (serviceAt s rows n i)) rs
 
   pub after-ordered : (i : ℕ) (rs : List Record) → inOrder rs ≡ true → inOrder (after i rs) ≡ true
-  after-ordered i rs w = law .order (numberIn s (service i)) (entry first s rows (service i)) rs w (entry-keeps first s rows (service i))
+  after-ordered i rs w = order (numberIn s (service i)) (entry first s rows (service i)) rs w (entry-keeps first s rows (service i))
 
   pub after-alike : (i : ℕ) (rs : List Record) → isService rows i ≡ true → inOrder rs ≡ true → Alike s rows start i rs → Alike s rows start (i + 1) (after i rs)
   after-alike i rs h w a x u =
-      law .other (numberIn s (service i)) (entry first s rows (service i)) rs w (entry-keeps first s rows (service i)) (plain x) (apart s rows n fits i h x (u i (omega arith)))
+      other (numberIn s (service i)) (entry first s rows (service i)) rs w (entry-keeps first s rows (service i)) (plain x) (apart s rows n fits i h x (u i (omega arith)))
       ∙ a x (λ j b. u j (omega arith))
 
   pub own-row : (i : ℕ) → isTwice s rows (bytesOf s (service i .number)) (service i .from) ≡ false → isTwice s rows (bytesOf s (service i .number)) i ≡ false
