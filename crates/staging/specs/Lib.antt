@@ -9,3 +9,4 @@ pub mod Few
 pub mod Room
 pub mod Ways
 pub mod Rooms
+pub mod Staged

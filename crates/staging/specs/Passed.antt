@@ -218,6 +218,13 @@ module _ (s rows : List ℕ) (m : ℕ) (v : View) (w : inOrder (v .records) ≡ 
       let k : u .services ≡ length all = omega arith in
       rw (l, k, r)
 
+  -- how many records removals and puts leave
+  pub passed-size : (u : Totals) → tests ≡ done u → length (putAll (v .first) s rows all (removeAll s all (v .records))) + u .dropped ≡ length (v .records) + u .added
+  passed-size u e =
+      let z = entered-size (v .first) s rows n (omega arith) (v .records) (n - 0) 0 (v .records) noTotals u (omega arith) w (λ x y. refl) e in
+      let r = ap length (removals-first (v .first) s rows n (omega arith) (v .records) (n - 0) 0 (v .records) noTotals u (omega arith) w e) in
+      omega arith
+
   -- stage is: all tests on the start, 15 by the totals, then removals, then puts
   pub stage-totals : stageServices s rows (servicesOf s rows m) v ≡ closeTotals (v .first) s rows (servicesOf s rows m) v tests
   stage-totals =

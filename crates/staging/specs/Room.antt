@@ -1,22 +1,27 @@
 -- What the code finds in a room and makes of it, on any bytes. docs/REGISTER.md has the offsets in a slot.
 -- Assumes nothing.
-use Prim.Native.Nat.{ℕ, _+_, _*_}
+use Prim.Native.Nat.{ℕ, _+_, _*_, _/_}
 use mathlib.Core.Bool.{Bool, not}
 use mathlib.Core.List.{List, [], _∷_}
-use lib.Dec.{eqb, ltb}
+use lib.Dec.{eqb, leb, ltb}
 use lib.ListN.{length, getD, replicate}
 use Rattle.laws.specs.Choice.{pick}
 use Rattle.laws.specs.Lists.{over}
+use Rattle.answers.specs.Answers.{Answer, done, refused, overQuota}
 use Rattle.dates.specs.Text.{putAt}
 use Rattle.slots.specs.declared.Found.{Found}
 use Rattle.slots.specs.declared.Found.the-variants.{At, Gap}
+use Rattle.slots.specs.Slots.{slotsOf}
+use Rattle.slots.specs.Rising.{leading}
 use Rattle.slots.specs.Find.{findOf}
 use Rattle.gaps.specs.Move.{closedIn, insertedIn}
 use Rattle.services.specs.declared.Service.{Service}
-use Rattle.services.specs.Services.{periodsOf}
+use Rattle.services.specs.Services.{periodsOf, servicesOf}
+use Rattle.staging.specs.declared.Totals.{Totals}
 use Rattle.staging.specs.declared.Known.{Known}
 use Rattle.staging.specs.declared.Known.the-variants as known
 use Rattle.staging.specs.Stage.{numberIn, daysOf}
+use Rattle.staging.specs.Tests.{testAll, noTotals}
 
 -- a number as it stands in a slot: ten bytes; one that is longer has none there
 unfoldable pub numberBytes : List ℕ → List ℕ
@@ -78,3 +83,20 @@ removesIn s (v ∷ vs) room = removesIn s vs (removeBytes s v room)
 unfoldable pub putsIn : ℕ → List ℕ → List ℕ → List Service → List ℕ → List ℕ
 putsIn first s rows [] room = room
 putsIn first s rows (v ∷ vs) room = putsIn first s rows vs (putBytes first s rows v room)
+
+-- ---- staging on a room: the tests, 15, then all removals and all puts
+
+abbrev pub roomTests : List ℕ → ℕ → List ℕ → List ℕ → ℕ → Answer Totals
+roomTests room first s rows n = testAll first s rows (lookAt room) (servicesOf s rows n) noTotals
+
+-- 15: the used slots and what is added, against all slots and what is dropped
+abbrev pub roomFits : List ℕ → Totals → Bool
+roomFits room u = leb (leading (slotsOf room) + u .added) (length room / 140 + u .dropped)
+
+abbrev pub roomAnswer : List ℕ → List ℕ → Answer Totals → Answer ℕ
+roomAnswer room s (refused m at) = refused m at
+roomAnswer room s (done u) = pick (roomFits room u) (done (u .services)) (overQuota (length s))
+
+abbrev pub roomAfter : List ℕ → ℕ → List ℕ → List ℕ → ℕ → Answer Totals → List ℕ
+roomAfter room first s rows n (refused m at) = room
+roomAfter room first s rows n (done u) = pick (roomFits room u) (putsIn first s rows (servicesOf s rows n) (removesIn s (servicesOf s rows n) room)) room

@@ -191,7 +191,7 @@ removed-count (some r) = go (r .live)
     go none = omega arith
     go (some c) = omega arith
 
-put-count : (x c : List ℕ) (o : Option Record) → countOf o ≤ countOf (putOver x c o)
+pub put-count : (x c : List ℕ) (o : Option Record) → countOf o ≤ countOf (putOver x c o)
 put-count x c none = omega arith
 put-count x c (some r) = omega arith
 
@@ -309,12 +309,6 @@ module _ (quota : ℕ) (rs : List Record) (g : goodAccount quota rs ≡ true) wh
         changed-account x removed quota rs g (keeps-found x removed rs (account-order quota rs g) (removed-keeps x)) (removed-good (lookup x rs) (found-good x rs records)) (omega arith)
 
     module _ (c : List ℕ) (h : isCalendar c ≡ true) where
-      pub put-length : length rs ≤ length (changed x (putOver x c) rs)
-      put-length =
-          let l = changed-length x (putOver x c) rs (account-order quota rs g) in
-          let m = put-count x c (lookup x rs) in
-          omega arith
-
       module _ (l : length (changed x (putOver x c) rs) ≤ quota) where
         pub put-room-of : putIn room (numberBytes x) (putEntry c) ≡ roomBytes quota (changed x (putOver x c) rs)
         unfolding putIn
