@@ -10,3 +10,4 @@ pub mod Room
 pub mod Ways
 pub mod Rooms
 pub mod Staged
+pub mod Closing

@@ -3,7 +3,24 @@
 mod room;
 mod tests;
 
+use crate::room::put_all;
+use crate::room::remove_all;
+use crate::tests::test_all;
+use rooms::first_day;
+use rooms::room_end;
+use rooms::room_start;
 use syntax::segment::Refusal;
+ghost use mathlib.Core.Path.{_≡_};
+ghost use mathlib.Core.Bool.{true};
+ghost use lib.ListN.{length};
+ghost use Rattle.interchange.specs.Reader.{accepted, readingOf, numbers};
+ghost use Rattle.contents.specs.Written.{isRegister};
+ghost use Rattle.contents.specs.Calls.{isAccount, answerOn, bytesAfter};
+ghost use Rattle.staging.specs.Stage.{stageOf};
+ghost use Rattle.staging.specs.Tests.{stagedAnswer};
+ghost use Rattle.staging.specs.Room.{roomTests, roomFits, roomAnswer, roomAfter};
+
+const SLOT: usize = 140;
 
 /// What came of staging an interchange.
 pub enum Staged {
@@ -39,4 +56,51 @@ pub enum Known {
     Nothing,
     /// A record: whether it has a live calendar, and whether its removal is pending.
     Record(bool, bool),
+}
+
+// 15: whether a room holds the records that the services leave in the end.
+fn fits(room: &[u8], totals: Totals) -> bool
+    ensures { λ r. ⌜ r ≡ roomFits (now (room .entry)) totals ⌝ }
+{
+    let added = totals.added;
+    let dropped = totals.dropped;
+    if added <= dropped {
+        return true;
+    }
+    let free = room.len() / SLOT - slots::used(room);
+    added - dropped <= free
+}
+
+// Stages the services of n rows in an account's room: all tests first, then all removals, then all puts, so that the room never holds
+// more than it does in the end.
+fn stage_room(room: &mut [u8], first: usize, s: &[u8], rows: &[u32], n: usize) -> Staged
+    ensures told { λ r. ⌜ stagedAnswer r ≡ roomAnswer (now (room .entry)) (now (s .entry)) (roomTests (now (room .entry)) first (now (s .entry)) (now (rows .entry)) n) ⌝ }
+    ensures left { λ _. ⌜ now (room .exit) ≡ roomAfter (now (room .entry)) first (now (s .entry)) (now (rows .entry)) n (roomTests (now (room .entry)) first (now (s .entry)) (now (rows .entry)) n) ⌝ }
+{
+    match test_all(room, first, s, rows, n) {
+        Tested::Refused(refusal) => Staged::Refused(refusal),
+        Tested::Passed(totals) => {
+            if !fits(room, totals) {
+                return Staged::Refused(Refusal {
+                    number: 15,
+                    position: s.len(),
+                });
+            }
+            remove_all(room, s, rows, n);
+            put_all(room, first, s, rows, n);
+            Staged::Done(totals.services)
+        }
+    }
+}
+
+// The same in a register, where the interchange is accepted and these are its rows.
+fn stage_rows(b: &mut [u8], account: usize, s: &[u8], rows: &[u32], n: usize) -> Staged
+    requires { ⌜ (isRegister (now b) ≡ true) × (isAccount account ≡ true) × (readingOf (now s) .verdict ≡ accepted) × (now rows ≡ numbers (readingOf (now s) .rows)) × (n ≡ length (readingOf (now s) .rows)) ⌝ }
+    ensures told { λ r. ⌜ stagedAnswer r ≡ answerOn (now (b .entry)) account (λ v. stageOf (now (s .entry)) v .answer) ⌝ }
+    ensures left { λ _. ⌜ now (b .exit) ≡ bytesAfter (now (b .entry)) account (λ v. stageOf (now (s .entry)) v .records) ⌝ }
+{
+    let first = first_day(b);
+    let from = room_start(b, account);
+    let to = room_end(b, account);
+    stage_room(&mut b[from..to], first, s, rows, n)
 }
