@@ -1,22 +1,29 @@
-# The gate.
+# `make` alone lists the targets. A make that is called from here does not name its folder.
+MAKEFLAGS += --no-print-directory
+.PHONY: help
+help:
+	@echo 'make read FILE=samples/skdupd.edi   prints the reading of an interchange; builds the printing program if need be'
+	@echo 'make test                           the gate: proves every crate from nothing, tries each must-fail edit, runs each program'
+	@echo 'make test_read                      tries make read on good files and on files that cannot be read'
+	@echo 'make bench                          holds the reader against a plain one in C: times, costs and answers (bench/README.md)'
+
 .PHONY: test
 test:
 	@.ci/run
 
-# Prints the reading of an interchange: make read FILE=samples/skdupd.edi
-# Programs are for x86-64; on Arm the kit has an emulator beside its compiler.
-KIT = $(patsubst %/docs/,%,$(dir $(shell rt doc)))
-TOOLS = $(KIT)/on/$(shell uname -m)/toolchain
-EMULATOR = $(wildcard $(TOOLS)/bin/qemu-x86_64)
+# The name is taken as it was given, with any space, quote or dollar in it. A file that cannot be read stops make with one line.
+override FILE := $(value FILE)
+quoted = '$(subst ','\'',$(FILE))'
 .PHONY: read
-read: target/bin/print
-	@$(EMULATOR) $(TOOLS)/lib/ld-linux-x86-64.so.2 --library-path $(TOOLS)/lib target/bin/print < $(FILE)
+read:
+	$(if $(problem),$(error $(problem)))
+	@tools/read $(quoted)
+problem = $(shell tools/read -n $(quoted))
 
-target/bin/print: $(wildcard crates/*/src/*.rt)
-	@rt check print
-	@touch $@
+.PHONY: test_read
+test_read:
+	@tools/test_read
 
-# The reader against a reader in C: times, costs and answers (bench/README.md).
 .PHONY: bench
 bench:
-	@$(MAKE) --no-print-directory -C bench bench
+	@$(MAKE) -C bench bench

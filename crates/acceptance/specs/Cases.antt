@@ -1,4 +1,4 @@
--- Worked cases, computed: what document 01 prints whole is an interchange, and its neighbours are none.
+-- "Printed whole", computed: the 63 bytes are an interchange with the rows that document 01 prints, and its two refusals.
 -- Assumes nothing.
 use mathlib.Core.Path.{_≡_, refl}
 use mathlib.Core.Bool.{true, false}
@@ -10,19 +10,15 @@ use Rattle.syntax.specs.Pieces.{first, later, partOf}
 use Rattle.syntax.specs.Segment.{tagged, componentFits, occurrenceFits, elementFits, withinLimits, wellFormed, permittedRun, scanOf}
 use Rattle.parts.specs.Places.{spanOf, countedAt, elementAt}
 use Rattle.values.specs.Values.{sameText}
-use Rattle.dates.specs.Days.{leapYear, monthLength, isDate, monthDays, yearDays, dayNumber}
-use Rattle.dates.specs.Dates.{madeOf}
-use Rattle.dates.specs.Text.{twoDigits, digitsAt, dateAt}
-use Rattle.calendar.specs.Written.{goodPeriod}
-use Rattle.period.specs.Period.{spanBetween, spanIn, dayString, rising, formedOf, restGood, periodOf}
 use Rattle.placing.specs.Table.{entryOf, afterOf, endOf, placesOn}
 use Rattle.placing.specs.Rule.{reachable, firstFit, inGroup, again, laterOnes, choicesFrom, firstOf, stepOf}
 use Rattle.placing.specs.Skdupd.{skdupdTable}
 use Rattle.placing.specs.Tsdupd.{tsdupdTable}
 use Rattle.envelope.specs.Decimal.{decimalOn}
 use Rattle.envelope.specs.Envelope.{uibOf, uihOf, trailerOf}
+use Rattle.answers.specs.Answers.{refused}
 use Rattle.steps.specs.Step.{opening, between, closing, trailing, placed, inside, stepBy}
-use Rattle.interchange.specs.Reader.{faulty, turnAt, readOn, readingOf, numbers}
+use Rattle.interchange.specs.Reader.{turnAt, readOn, readingOf, numbers}
 use Rattle.acceptance.specs.Interchange.{written, unbroken, isSegment, Interchange, segmentsOf, placesFrom, isMessage, holds, rowsFrom, rowsOf}
 
 -- `UIB+UNOB:4+7`
@@ -73,57 +69,11 @@ unfolding holds isMessage isSegment unbroken placesFrom permittedOf plainOn firs
 printed-four = refl
 
 -- "With `UIT+1+4'` it is 7 at 47."
-pub refused-four : readingOf (written (segmentsOf (one uit-four))) .verdict ≡ faulty (record { number = 7; position = 47 })
+pub refused-four : readingOf (written (segmentsOf (one uit-four))) .verdict ≡ refused 7 47
 unfolding written permittedOf plainOn first later partOf tagged componentFits occurrenceFits elementFits withinLimits wellFormed scanOf permittedRun spanOf countedAt elementAt sameText entryOf afterOf endOf placesOn reachable firstFit inGroup again laterOnes choicesFrom firstOf stepOf skdupdTable tsdupdTable decimalOn uibOf uihOf trailerOf opening between closing trailing placed inside stepBy turnAt readOn readingOf
 refused-four = refl
 
 -- "A newline added at the end is 7 at 63."
-pub refused-newline : readingOf (written (segmentsOf (one uit)) ++ (10 ∷ [])) .verdict ≡ faulty (record { number = 7; position = 63 })
+pub refused-newline : readingOf (written (segmentsOf (one uit)) ++ (10 ∷ [])) .verdict ≡ refused 7 63
 unfolding written permittedOf plainOn first later partOf tagged componentFits occurrenceFits elementFits withinLimits wellFormed scanOf permittedRun spanOf countedAt elementAt sameText entryOf afterOf endOf placesOn reachable firstFit inGroup again laterOnes choicesFrom firstOf stepOf skdupdTable tsdupdTable decimalOn uibOf uihOf trailerOf opening between closing trailing placed inside stepBy turnAt readOn readingOf
 refused-newline = refl
-
--- `UIH+SKDUPD:D:04A::UN+1`
-abbrev skdupd : List ℕ
-skdupd = 85 ∷ 73 ∷ 72 ∷ 43 ∷ 83 ∷ 75 ∷ 68 ∷ 85 ∷ 80 ∷ 68 ∷ 58 ∷ 68 ∷ 58 ∷ 48 ∷ 52 ∷ 65 ∷ 58 ∷ 58 ∷ 85 ∷ 78 ∷ 43 ∷ 49 ∷ []
-
--- `ORG`
-abbrev org : List ℕ
-org = 79 ∷ 82 ∷ 71 ∷ []
-
--- `HDR`
-abbrev hdr : List ℕ
-hdr = 72 ∷ 68 ∷ 82 ∷ []
-
--- `PRD+18`
-abbrev prd : List ℕ
-prd = 80 ∷ 82 ∷ 68 ∷ 43 ∷ 49 ∷ 56 ∷ []
-
--- `POP+273:2000-08-01/2000-08-13+67`
-abbrev pop : List ℕ
-pop = 80 ∷ 79 ∷ 80 ∷ 43 ∷ 50 ∷ 55 ∷ 51 ∷ 58 ∷ 50 ∷ 48 ∷ 48 ∷ 48 ∷ 45 ∷ 48 ∷ 56 ∷ 45 ∷ 48 ∷ 49 ∷ 47 ∷ 50 ∷ 48 ∷ 48 ∷ 48 ∷ 45 ∷ 48 ∷ 56 ∷ 45 ∷ 49 ∷ 51 ∷ 43 ∷ 54 ∷ 55 ∷ []
-
--- `POP+273:2000-08-01/2000-08-13+76`
-abbrev pop-76 : List ℕ
-pop-76 = 80 ∷ 79 ∷ 80 ∷ 43 ∷ 50 ∷ 55 ∷ 51 ∷ 58 ∷ 50 ∷ 48 ∷ 48 ∷ 48 ∷ 45 ∷ 48 ∷ 56 ∷ 45 ∷ 48 ∷ 49 ∷ 47 ∷ 50 ∷ 48 ∷ 48 ∷ 48 ∷ 45 ∷ 48 ∷ 56 ∷ 45 ∷ 49 ∷ 51 ∷ 43 ∷ 55 ∷ 54 ∷ []
-
--- `UIT+1+7`
-abbrev uit-seven : List ℕ
-uit-seven = 85 ∷ 73 ∷ 84 ∷ 43 ∷ 49 ∷ 43 ∷ 55 ∷ []
-
--- one message of the type SKDUPD with a service and a POP
-abbrev service : List ℕ → Interchange
-service period =
-    record {
-      opening = uib;
-      messages = record { heading = skdupd; within = msd ∷ org ∷ hdr ∷ prd ∷ period ∷ []; trailer = uit-seven } ∷ [];
-      closing = uiz;
-    }
-
-pub good-period : holds (service pop) ≡ true
-unfolding holds isMessage isSegment unbroken placesFrom permittedOf plainOn first later partOf tagged componentFits occurrenceFits elementFits withinLimits wellFormed spanOf countedAt elementAt sameText entryOf afterOf endOf placesOn reachable firstFit inGroup again laterOnes choicesFrom firstOf stepOf skdupdTable tsdupdTable decimalOn uibOf uihOf trailerOf leapYear monthLength isDate monthDays yearDays dayNumber madeOf twoDigits digitsAt dateAt goodPeriod spanBetween spanIn dayString rising formedOf restGood periodOf
-good-period = refl
-
--- "weekdays 76 .. : 10"
-pub bad-period : holds (service pop-76) ≡ false
-unfolding holds isMessage isSegment unbroken placesFrom permittedOf plainOn first later partOf tagged componentFits occurrenceFits elementFits withinLimits wellFormed spanOf countedAt elementAt sameText entryOf afterOf endOf placesOn reachable firstFit inGroup again laterOnes choicesFrom firstOf stepOf skdupdTable tsdupdTable decimalOn uibOf uihOf trailerOf leapYear monthLength isDate monthDays yearDays dayNumber madeOf twoDigits digitsAt dateAt goodPeriod spanBetween spanIn dayString rising formedOf restGood periodOf
-bad-period = refl

@@ -11,10 +11,11 @@ use lib.ListN.{length, drop}
 use borrow.Author.Tests.{lt-ltb, ltb-true, ltb-false, eqb-false}
 use Rattle.laws.specs.Choice.{all, choose, either-parts}
 use Rattle.laws.specs.Lists.{drop-past}
-use Rattle.syntax.specs.declared.segment.Refusal.{Refusal}
+use Rattle.answers.specs.Answers.{Answer, done, refused}
+use Rattle.answers.specs.Laws.{refused≢done}
 use Rattle.syntax.specs.declared.segment.Scanned.{Scanned}
 use Rattle.syntax.specs.declared.segment.Scanned.the-variants.{End, NotPermitted, Unended, Malformed}
-use Rattle.syntax.specs.Segment.{tagNumber, bodyAt, segmentAt, refusalOf}
+use Rattle.syntax.specs.Segment.{tagNumber, bodyAt, segmentAt}
 use Rattle.placing.specs.declared.Place.{Place}
 use Rattle.placing.specs.Skdupd.{skdupdTable}
 use Rattle.placing.specs.Tsdupd.{tsdupdTable}
@@ -29,19 +30,15 @@ use Rattle.steps.specs.declared.state.Phase.{Phase}
 use Rattle.steps.specs.declared.state.Phase.the-variants.{Opening, Between, Inside, Closed}
 use Rattle.steps.specs.declared.state.State.{State}
 use Rattle.steps.specs.declared.state.Row.{Row}
-use Rattle.steps.specs.declared.state.Step.{Step}
-use Rattle.steps.specs.declared.state.Step.the-variants.{Next, Refused}
+use Rattle.steps.specs.Step.{Taken, taken}
 use Rattle.steps.specs.State.{openingState, openedState, headedState, onwardState, endedState, closedState}
-use Rattle.interchange.specs.Reader.{accepted, faulty, isClosed, dialogueOf, referenceOf, turnStep, turnScan, turnAt, afterTurn, readOn, sized, readingOf}
+use Rattle.interchange.specs.Reader.{accepted, isClosed, dialogueOf, referenceOf, turnStep, turnScan, turnAt, afterTurn, readOn, sized, readingOf}
 use Rattle.acceptance.specs.Interchange.{written, Message, segmentsIn, Interchange, eachOf, names, known, kindIn, tableFor, referenceIn, goodContents, isTrailer, isMessage, goodClosing, IsInterchange}
 use Rattle.acceptance.specs.Segments.{Cut, cut-at}
 use Rattle.acceptance.specs.Onward.{stepAt}
 use Rattle.acceptance.specs.Steps.{Opens, opens, Follows, heads, closes, follows, Moves, onward, ends, moves}
 use Rattle.acceptance.specs.Within.{Within, from-last, from-front, from-parts}
 use Rattle.acceptance.specs.When.{one-more, reference-is, dialogue-is, regroup, from-rules}
-
-faulty≢accepted : (x : Refusal) → faulty x ≡ accepted → ⊥
-faulty≢accepted x q = let z : _≡_ {A = ℕ} 0 1 = cc in omega arith
 
 -- the reading accepts from a state and an offset on
 abbrev Accepts : ℕ → List ℕ → State → ℕ → Type 0
@@ -54,32 +51,32 @@ module _ (f : ℕ) (s : List ℕ) (st : State) (at : ℕ) where
     pub next : State
     pub row : Row
     pub cut : Cut s at body
-    pub step : stepAt s st at body ≡ Next next row
+    pub step : stepAt s st at body ≡ done (taken next row)
     pub rest : Accepts f s next (at + length body + 1)
 
-  by-step : (y : Step) → stepAt s st at (bodyAt s at) ≡ y → (e : ℕ) → e ≡ at + length (bodyAt s at) → Cut s at (bodyAt s at)
+  by-step : (y : Answer Taken) → stepAt s st at (bodyAt s at) ≡ y → (e : ℕ) → e ≡ at + length (bodyAt s at) → Cut s at (bodyAt s at)
       → afterTurn (readOn f s) (turnStep (e + 1) y) .verdict ≡ accepted → Further
-  by-step (Next next r) h e n c q =
+  by-step (done (taken next r)) h e n c q =
       record { body = bodyAt s at; next = next; row = r; cut = c; step = h; rest = ap (λ (x : ℕ). readOn f s next (x + 1) .verdict) (sym n) ∙ q }
-  by-step (Refused x) h e n c q = absurd (faulty≢accepted x q)
+  by-step (refused number position) h e n c q = absurd (refused≢done q)
 
   by-scan : (x : Scanned) → segmentAt s at ≡ x → afterTurn (readOn f s) (turnScan skdupdTable tsdupdTable s st at x) .verdict ≡ accepted → Further
   by-scan (End e) h q = let c = cut-at s at e h in by-step (stepAt s st at (bodyAt s at)) refl e (c .0) (c .1) q
-  by-scan (NotPermitted i) h q = absurd (faulty≢accepted (refusalOf at (NotPermitted i)) q)
-  by-scan Unended h q = absurd (faulty≢accepted (refusalOf at Unended) q)
-  by-scan Malformed h q = absurd (faulty≢accepted (refusalOf at Malformed) q)
+  by-scan (NotPermitted i) h q = absurd (refused≢done q)
+  by-scan Unended h q = absurd (refused≢done q)
+  by-scan Malformed h q = absurd (refused≢done q)
 
   pub further : isClosed (st .phase) ≡ false → Accepts (suc f) s st at → Further
   unfolding readOn turnAt
   further c q =
       choose (ltb at (length s)) (λ l. by-scan (segmentAt s at) refl (rw (l, c) at q))
-      (λ l. absurd (faulty≢accepted (record { number = 7; position = length s }) (rw (l, c) at q)))
+      (λ l. absurd (refused≢done (rw (l, c) at q)))
 
   -- after the UIZ nothing stands
   pub nothing : isClosed (st .phase) ≡ true → Accepts (suc f) s st at → length s ≤ at
   unfolding readOn
   nothing c q =
-      choose (ltb at (length s)) (λ l. absurd (faulty≢accepted (record { number = 7; position = at }) (rw (l, c) at q)))
+      choose (ltb at (length s)) (λ l. absurd (refused≢done (rw (l, c) at q)))
       (λ l. ltb-false at (length s) l)
 
 -- what stands from an offset on: between messages, n having come, in a dialogue d
@@ -230,7 +227,7 @@ module _ (s : List ℕ) (small : length s ≤ 60000) where
 
   find : (f : ℕ) → Found f
   unfolding readOn
-  find zero st at a b q = absurd (faulty≢accepted (record { number = 7; position = at }) q)
+  find zero st at a b q = absurd (refused≢done q)
   find (suc f) st at a b q = found-by f (find f) st at a b (st .phase) refl q
 
   -- from the first byte on
@@ -269,7 +266,7 @@ module _ (s : List ℕ) (small : length s ≤ 60000) where
 pub accepted-is : (s : List ℕ) → readingOf s .verdict ≡ accepted → IsInterchange s
 unfolding readingOf
 accepted-is s q =
-    choose (sized s) (λ z. absurd (faulty≢accepted (record { number = 3; position = 0 }) (rw z at q)))
+    choose (sized s) (λ z. absurd (refused≢done (rw z at q)))
     (λ z.
     let u = either-parts (eqb (length s) 0) (ltb 60000 (length s)) z in
     let a = eqb-false (length s) 0 (u .0) in

@@ -6,7 +6,8 @@ use mathlib.Core.List.{List, [], _∷_, _++_, append-assoc}
 use Prim.Native.Nat.{ℕ, suc, _+_, _-_, _<_}
 use native.Mathlib.Omega.{arith}
 use lib.ListN.{length, drop}
-use Rattle.syntax.specs.declared.segment.Refusal.{Refusal}
+use Rattle.answers.specs.Answers.{Answer, done}
+use Rattle.answers.specs.Laws.{refused≢done}
 use Rattle.syntax.specs.declared.segment.Scanned.the-variants.{End}
 use Rattle.placing.specs.Skdupd.{skdupdTable}
 use Rattle.placing.specs.Tsdupd.{tsdupdTable}
@@ -14,9 +15,7 @@ use Rattle.steps.specs.declared.state.Phase.{Phase}
 use Rattle.steps.specs.declared.state.Phase.the-variants.{Opening, Between, Inside, Closed}
 use Rattle.steps.specs.declared.state.State.{State}
 use Rattle.steps.specs.declared.state.Row.{Row}
-use Rattle.steps.specs.declared.state.Step.{Step}
-use Rattle.steps.specs.declared.state.Step.the-variants.{Next, Refused}
-use Rattle.steps.specs.Step.{stepBy, segmentStep}
+use Rattle.steps.specs.Step.{Taken, taken, stepBy, segmentStep}
 use Rattle.interchange.specs.Reader.{Outcome, before, isClosed, dialogueOf, referenceOf, turnStep, turnAt, afterTurn, readOn}
 use Rattle.interchange.specs.Laws.{read-on}
 use Rattle.interchange.specs.Turns.{turn-is}
@@ -24,27 +23,24 @@ use Rattle.acceptance.specs.Interchange.{written, isSegment}
 use Rattle.acceptance.specs.Segments.{segment-fits, after-segment, body-is, segment-is}
 
 -- the step of a segment g at an offset of the text s
-abbrev pub stepAt : List ℕ → State → ℕ → List ℕ → Step
+abbrev pub stepAt : List ℕ → State → ℕ → List ℕ → Answer Taken
 stepAt s st at g = segmentStep skdupdTable tsdupdTable st at g (dialogueOf s st) (referenceOf s st)
 
-pub refused≢next : (x : Refusal) (st : State) (r : Row) → Refused x ≡ Next st r → ⊥
-refused≢next x st r q = let z : _≡_ {A = ℕ} 0 1 = cc in omega arith
-
 -- no segment follows the UIZ
-pub next-open : (s : List ℕ) (st : State) (at : ℕ) (g : List ℕ) (next : State) (r : Row) → stepAt s st at g ≡ Next next r → isClosed (st .phase) ≡ false
+pub next-open : (s : List ℕ) (st : State) (at : ℕ) (g : List ℕ) (next : State) (r : Row) → stepAt s st at g ≡ done (taken next r) → isClosed (st .phase) ≡ false
 unfolding stepBy
 next-open s st at g next r q = by-phase (st .phase) q
   where
-    by-phase : (f : Phase) → stepBy skdupdTable tsdupdTable f st at g (dialogueOf s st) (referenceOf s st) ≡ Next next r → isClosed f ≡ false
+    by-phase : (f : Phase) → stepBy skdupdTable tsdupdTable f st at g (dialogueOf s st) (referenceOf s st) ≡ done (taken next r) → isClosed f ≡ false
     by-phase Opening e = refl
     by-phase Between e = refl
     by-phase Inside e = refl
-    by-phase Closed e = absurd (refused≢next (record { number = 7; position = at }) next r e)
+    by-phase Closed e = absurd (refused≢done e)
 
 -- one segment
 module _ (s : List ℕ) (st : State) (at : ℕ) (g rest : List ℕ) (e : drop at s ≡ g ++ (39 ∷ rest)) (ok : isSegment g ≡ true) (next : State) (r : Row)
-    (q : stepAt s st at g ≡ Next next r) where
-  turn-one : turnAt skdupdTable tsdupdTable s st at ≡ turnStep (at + length g + 1) (Next next r)
+    (q : stepAt s st at g ≡ done (taken next r)) where
+  turn-one : turnAt skdupdTable tsdupdTable s st at ≡ turnStep (at + length g + 1) (done (taken next r))
   turn-one =
       sym (turn-is skdupdTable tsdupdTable s st at (End (at + length g)) (segment-is s at g rest e ok))
       ∙ ap (λ (x : List ℕ). turnStep (at + length g + 1) (stepAt s st at x)) (body-is s at g rest e ok)
@@ -58,7 +54,7 @@ module _ (s : List ℕ) (st : State) (at : ℕ) (g rest : List ℕ) (e : drop at
 -- some segments, each good and each stepping on, from a state and an offset to another state and offset, and their rows
 pub data Goes (s : List ℕ) : State → ℕ → List (List ℕ) → List Row → State → ℕ → Type 0 where
   none : {st : State} {at : ℕ} → Goes s st at [] [] st at
-  more : {st next last : State} {at end : ℕ} {g : List ℕ} {gs : List (List ℕ)} {r : Row} {rs : List Row} → isSegment g ≡ true → stepAt s st at g ≡ Next next r
+  more : {st next last : State} {at end : ℕ} {g : List ℕ} {gs : List (List ℕ)} {r : Row} {rs : List Row} → isSegment g ≡ true → stepAt s st at g ≡ done (taken next r)
       → Goes s next (at + length g + 1) gs rs last end → Goes s st at (g ∷ gs) (r ∷ rs) last end
 
 -- some rows before what follows

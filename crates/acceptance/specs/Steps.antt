@@ -6,6 +6,8 @@ use mathlib.Core.List.{List}
 use Prim.Native.Nat.{ℕ}
 use lib.Dec.{eqb, ltb}
 use Rattle.laws.specs.Choice.{both, choose, both-parts, false≢true}
+use Rattle.answers.specs.Answers.{Answer, done}
+use Rattle.answers.specs.Laws.{refused≢done}
 use Rattle.syntax.specs.Segment.{tagNumber}
 use Rattle.parts.specs.declared.Part.{Part}
 use Rattle.placing.specs.declared.Place.{Place}
@@ -27,36 +29,34 @@ use Rattle.steps.specs.declared.state.Phase.{Phase}
 use Rattle.steps.specs.declared.state.Phase.the-variants.{Opening, Between, Inside}
 use Rattle.steps.specs.declared.state.State.{State}
 use Rattle.steps.specs.declared.state.Row.{Row}
-use Rattle.steps.specs.declared.state.Step.{Step}
-use Rattle.steps.specs.declared.state.Step.the-variants.{Next}
 use Rattle.steps.specs.State.{oneMore, openedState, headedState, onwardState, endedState, closedState}
-use Rattle.steps.specs.Step.{rowOf, opened, opening, headed, closing, between, trailing, judged, placed, settled, inside, stepBy}
+use Rattle.steps.specs.Step.{Taken, taken, rowOf, opened, opening, headed, closing, between, trailing, judged, placed, settled, inside, stepBy}
 use Rattle.interchange.specs.Reader.{dialogueOf, referenceOf}
 use Rattle.acceptance.specs.Interchange.{tableFor, isPop, isGood, goodContents, isTrailer}
-use Rattle.acceptance.specs.Onward.{stepAt, refused≢next}
+use Rattle.acceptance.specs.Onward.{stepAt}
 
-next-is : (a b : State) (r q : Row) → Next a r ≡ Next b q → b ≡ a
+next-is : (a b : State) (r q : Row) → done (taken a r) ≡ done (taken b q) → b ≡ a
 next-is a b r q e = cc
 
 module _ (s : List ℕ) (st : State) (at : ℕ) (g : List ℕ) where
-  abbrev by : Phase → Step
+  abbrev by : Phase → Answer Taken
   by f = stepBy skdupdTable tsdupdTable f st at g (dialogueOf s st) (referenceOf s st)
 
   -- the UIB
   pub opening-goes : st .phase ≡ Opening → eqb (tagNumber g) UIB ≡ true → (p : Part) → uibOf g ≡ Dialogue p
-      → stepAt s st at g ≡ Next (openedState st at p) (rowOf at g 0)
+      → stepAt s st at g ≡ done (taken (openedState st at p) (rowOf at g 0))
   unfolding stepBy opening
   opening-goes f t p e = ap by f ∙ rw (t, e)
 
   -- a UIH
   pub heading-goes : st .phase ≡ Between → eqb (tagNumber g) UIH ≡ true → (k : ℕ) (p : Part) → uihOf g ≡ Message k p
-      → stepAt s st at g ≡ Next (headedState st at k p) (rowOf at g 0)
+      → stepAt s st at g ≡ done (taken (headedState st at k p) (rowOf at g 0))
   unfolding stepBy between
   heading-goes f t k p e = ap by f ∙ rw (t, e)
 
   -- the UIZ
   pub closing-goes : st .phase ≡ Between → eqb (tagNumber g) UIH ≡ false → eqb (tagNumber g) UIZ ≡ true → ltb 0 (st .messages) ≡ true
-      → uizOf g (dialogueOf s st) (st .messages) ≡ true → stepAt s st at g ≡ Next (closedState st) (rowOf at g 0)
+      → uizOf g (dialogueOf s st) (st .messages) ≡ true → stepAt s st at g ≡ done (taken (closedState st) (rowOf at g 0))
   unfolding stepBy between closing
   closing-goes f n t m e = ap by f ∙ rw (n, t, m, e)
 
@@ -64,12 +64,12 @@ module _ (s : List ℕ) (st : State) (at : ℕ) (g : List ℕ) where
   abbrev fits : Place → Type 0
   fits q = stepOf (tableFor (st .kind)) (st .place) (tagNumber g) ≡ Placed q
 
-  judged-good : (q : Place) (group : ℕ) (x : Period) → isGood x ≡ true → judged st at g q group x ≡ Next (onwardState st q) (rowOf at g group)
+  judged-good : (q : Place) (group : ℕ) (x : Period) → isGood x ≡ true → judged st at g q group x ≡ done (taken (onwardState st q) (rowOf at g group))
   judged-good q group (period.Good a n form) e = refl
   judged-good q group (period.Wrong x) e = absurd (false≢true e)
 
   pub within-goes : st .phase ≡ Inside → (q : Place) → fits q → isTrailer g ≡ false → goodContents (st .kind) (g, Placed q) ≡ true
-      → stepAt s st at g ≡ Next (onwardState st q) (rowOf at g (groupOf (tableFor (st .kind)) q))
+      → stepAt s st at g ≡ done (taken (onwardState st q) (rowOf at g (groupOf (tableFor (st .kind)) q)))
   unfolding stepBy inside placed
   within-goes f q e t c =
       ap by f
@@ -79,7 +79,7 @@ module _ (s : List ℕ) (st : State) (at : ℕ) (g : List ℕ) where
       (λ p. rw (t, p))
 
   pub trailer-goes : st .phase ≡ Inside → (q : Place) → fits q → isTrailer g ≡ true → uitOf g (referenceOf s st) (oneMore (st .segments)) ≡ true
-      → stepAt s st at g ≡ Next (endedState st q) (rowOf at g (groupOf (tableFor (st .kind)) q))
+      → stepAt s st at g ≡ done (taken (endedState st q) (rowOf at g (groupOf (tableFor (st .kind)) q)))
   unfolding stepBy inside placed trailing
   trailer-goes f q e t c = ap by f ∙ ap (settled (tableFor (st .kind)) st at g (referenceOf s st)) e ∙ rw (t, c)
 
@@ -91,67 +91,67 @@ module _ (s : List ℕ) (st : State) (at : ℕ) (g : List ℕ) where
       pub named : uibOf g ≡ Dialogue dialogue
       pub state : next ≡ openedState st at dialogue
 
-    opens-by : (x : Opened) → uibOf g ≡ x → eqb (tagNumber g) UIB ≡ true → opened st at g x ≡ Next next r → Opens
+    opens-by : (x : Opened) → uibOf g ≡ x → eqb (tagNumber g) UIB ≡ true → opened st at g x ≡ done (taken next r) → Opens
     opens-by (Dialogue p) e t q = record { tag = t; dialogue = p; named = e; state = next-is (openedState st at p) next (rowOf at g 0) r q }
-    opens-by Wrong e t q = absurd (refused≢next (record { number = 7; position = at }) next r q)
+    opens-by Wrong e t q = absurd (refused≢done q)
 
-    pub opens : st .phase ≡ Opening → stepAt s st at g ≡ Next next r → Opens
+    pub opens : st .phase ≡ Opening → stepAt s st at g ≡ done (taken next r) → Opens
     unfolding stepBy opening
     opens f q =
-        let w : opening st at g ≡ Next next r = sym (ap by f) ∙ q in
+        let w : opening st at g ≡ done (taken next r) = sym (ap by f) ∙ q in
         choose (eqb (tagNumber g) UIB) (λ t. opens-by (uibOf g) refl t (rw t at w))
-        (λ t. absurd (refused≢next (record { number = 7; position = at }) next r (rw t at w)))
+        (λ t. absurd (refused≢done (rw t at w)))
 
     pub data Follows : Type 0 where
       heads : (k : ℕ) (p : Part) → eqb (tagNumber g) UIH ≡ true → uihOf g ≡ Message k p → next ≡ headedState st at k p → Follows
       closes : eqb (tagNumber g) UIZ ≡ true → ltb 0 (st .messages) ≡ true → uizOf g (dialogueOf s st) (st .messages) ≡ true → next ≡ closedState st → Follows
 
-    heads-by : (x : Headed) → uihOf g ≡ x → eqb (tagNumber g) UIH ≡ true → headed st at g x ≡ Next next r → Follows
+    heads-by : (x : Headed) → uihOf g ≡ x → eqb (tagNumber g) UIH ≡ true → headed st at g x ≡ done (taken next r) → Follows
     heads-by (Message k p) e t q = heads k p t e (next-is (headedState st at k p) next (rowOf at g 0) r q)
-    heads-by Missing e t q = absurd (refused≢next (record { number = 7; position = at }) next r q)
-    heads-by Unknown e t q = absurd (refused≢next (record { number = 8; position = at }) next r q)
+    heads-by Missing e t q = absurd (refused≢done q)
+    heads-by Unknown e t q = absurd (refused≢done q)
 
-    closes-by : eqb (tagNumber g) UIZ ≡ true → closing st at g (dialogueOf s st) ≡ Next next r → Follows
+    closes-by : eqb (tagNumber g) UIZ ≡ true → closing st at g (dialogueOf s st) ≡ done (taken next r) → Follows
     unfolding closing
     closes-by t q =
         choose (both (ltb 0 (st .messages)) (uizOf g (dialogueOf s st) (st .messages)))
         (λ b.
         let u = both-parts (ltb 0 (st .messages)) (uizOf g (dialogueOf s st) (st .messages)) b in
         closes t (u .0) (u .1) (next-is (closedState st) next (rowOf at g 0) r (rw b at q)))
-        (λ b. absurd (refused≢next (record { number = 7; position = at }) next r (rw b at q)))
+        (λ b. absurd (refused≢done (rw b at q)))
 
-    pub follows : st .phase ≡ Between → stepAt s st at g ≡ Next next r → Follows
+    pub follows : st .phase ≡ Between → stepAt s st at g ≡ done (taken next r) → Follows
     unfolding stepBy between
     follows f q =
-        let w : between st at g (dialogueOf s st) ≡ Next next r = sym (ap by f) ∙ q in
+        let w : between st at g (dialogueOf s st) ≡ done (taken next r) = sym (ap by f) ∙ q in
         choose (eqb (tagNumber g) UIH) (λ t. heads-by (uihOf g) refl t (rw t at w))
         (λ n.
         choose (eqb (tagNumber g) UIZ) (λ t. closes-by t (rw (n, t) at w))
-        (λ t. absurd (refused≢next (record { number = 7; position = at }) next r (rw (n, t) at w))))
+        (λ t. absurd (refused≢done (rw (n, t) at w))))
 
     pub data Moves : Type 0 where
       onward : (q : Place) → fits q → isTrailer g ≡ false → goodContents (st .kind) (g, Placed q) ≡ true → next ≡ onwardState st q → Moves
       ends : (q : Place) → fits q → isTrailer g ≡ true → uitOf g (referenceOf s st) (oneMore (st .segments)) ≡ true → next ≡ endedState st q → Moves
 
-    judged-is : (q : Place) (group : ℕ) (x : Period) → judged st at g q group x ≡ Next next r → (isGood x ≡ true) × (next ≡ onwardState st q)
+    judged-is : (q : Place) (group : ℕ) (x : Period) → judged st at g q group x ≡ done (taken next r) → (isGood x ≡ true) × (next ≡ onwardState st q)
     judged-is q group (period.Good a n form) e = (refl, next-is (onwardState st q) next (rowOf at g group) r e)
-    judged-is q group (period.Wrong x) e = absurd (refused≢next (record { number = 10; position = at }) next r e)
+    judged-is q group (period.Wrong x) e = absurd (refused≢done e)
 
     moves-by : (x : Stepped) → stepOf (tableFor (st .kind)) (st .place) (tagNumber g) ≡ x
-        → settled (tableFor (st .kind)) st at g (referenceOf s st) x ≡ Next next r → Moves
+        → settled (tableFor (st .kind)) st at g (referenceOf s st) x ≡ done (taken next r) → Moves
     unfolding placed trailing
-    moves-by OutOfPlace e q = absurd (refused≢next (record { number = 9; position = at }) next r q)
+    moves-by OutOfPlace e q = absurd (refused≢done q)
     moves-by (Placed p) e q =
         choose (isTrailer g)
         (λ t.
         choose (uitOf g (referenceOf s st) (oneMore (st .segments)))
         (λ u. ends p e t u (next-is (endedState st p) next (rowOf at g (groupOf (tableFor (st .kind)) p)) r (rw (t, u) at q)))
-        (λ u. absurd (refused≢next (record { number = 7; position = at }) next r (rw (t, u) at q))))
+        (λ u. absurd (refused≢done (rw (t, u) at q))))
         (λ t.
         choose (isPop (st .kind) g (groupOf (tableFor (st .kind)) p))
         (λ c. let j = judged-is p (groupOf (tableFor (st .kind)) p) (periodOf g) (rw (t, c) at q) in onward p e t (rw c (j .0)) (j .1))
         (λ c. onward p e t (rw c) (next-is (onwardState st p) next (rowOf at g (groupOf (tableFor (st .kind)) p)) r (rw (t, c) at q))))
 
-    pub moves : st .phase ≡ Inside → stepAt s st at g ≡ Next next r → Moves
+    pub moves : st .phase ≡ Inside → stepAt s st at g ≡ done (taken next r) → Moves
     unfolding stepBy inside
     moves f q = moves-by (stepOf (tableFor (st .kind)) (st .place) (tagNumber g)) refl (sym (ap by f) ∙ q)

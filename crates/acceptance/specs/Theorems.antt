@@ -9,11 +9,11 @@ use native.Mathlib.Omega.{arith}
 use lib.ListN.{length, drop}
 use borrow.Author.Tests.{le-ltb}
 use Rattle.laws.specs.Lists.{over}
-use Rattle.syntax.specs.declared.segment.Refusal.{Refusal}
+use Rattle.answers.specs.Answers.{done, refused}
+use Rattle.answers.specs.Laws.{refused≢done}
 use Rattle.steps.specs.declared.state.State.{State}
 use Rattle.steps.specs.declared.state.Row.{Row}
-use Rattle.interchange.specs.declared.reader.Answer.the-variants.{Rows, Refused}
-use Rattle.interchange.specs.Reader.{Outcome, Verdict, accepted, faulty, readOn, readingOf, numbers, answerBy, answerOf, rowsAfter}
+use Rattle.interchange.specs.Reader.{Outcome, Verdict, accepted, readOn, readingOf, numbers, answerBy, answerOf, rowsAfter}
 use Rattle.acceptance.specs.Interchange.{written, Interchange, segmentsOf, holds, IsInterchange, rowsOf}
 use Rattle.acceptance.specs.Onward.{Goes, precede, reading-goes-on}
 use Rattle.acceptance.specs.When.{reads-all}
@@ -42,19 +42,16 @@ pub one-way : (x y : Interchange) → holds x ≡ true → holds y ≡ true → 
 one-way x y h k e = same-parts x y h k e
 
 -- so `read`, which answers by `readingOf`, tells of rows for an interchange alone, and writes them, where the lent buffer has room for them
-refused≢rows : (x : Refusal) (n : ℕ) → Refused x ≡ Rows n → ⊥
-refused≢rows x n q = let z : _≡_ {A = ℕ} 0 1 = cc in omega arith
+answer-accepted : (rows : List Row) (room n : ℕ) (v : Verdict) → answerBy rows room v ≡ done n → v ≡ accepted
+answer-accepted rows room n (done _) q = refl
+answer-accepted rows room n (refused number position) q = absurd (refused≢done q)
 
-answer-accepted : (rows : List Row) (room n : ℕ) (v : Verdict) → answerBy rows room v ≡ Rows n → v ≡ accepted
-answer-accepted rows room n accepted q = refl
-answer-accepted rows room n (faulty x) q = absurd (refused≢rows x n q)
-
-pub answered-only : (s : List ℕ) (room n : ℕ) → answerOf (readingOf s) room ≡ Rows n → IsInterchange s
+pub answered-only : (s : List ℕ) (room n : ℕ) → answerOf (readingOf s) room ≡ done n → IsInterchange s
 unfolding answerOf
 answered-only s room n q = only-when s (answer-accepted (readingOf s .rows) room n (readingOf s .verdict) q)
 
 module _ (s : List ℕ) (i : IsInterchange s) where
-  pub answered-when : (room : ℕ) → 3 * length (rowsOf (i .parts)) ≤ room → answerOf (readingOf s) room ≡ Rows (length (rowsOf (i .parts)))
+  pub answered-when : (room : ℕ) → 3 * length (rowsOf (i .parts)) ≤ room → answerOf (readingOf s) room ≡ done (length (rowsOf (i .parts)))
   unfolding answerOf
   answered-when room h = ap (λ (o : Outcome). answerOf o room) (rows-when s i) ∙ rw (le-ltb room (3 * length (rowsOf (i .parts))) h)
 

@@ -23,9 +23,9 @@ use Rattle.envelope.specs.declared.Headed.the-variants as headed
 use Rattle.envelope.specs.Envelope.{uibOf, uihOf, uitOf, uizOf}
 use Rattle.steps.specs.declared.state.Phase.the-variants.{Between, Inside}
 use Rattle.steps.specs.declared.state.State.{State}
-use Rattle.steps.specs.declared.state.Step.the-variants.{Next}
+use Rattle.answers.specs.Answers.{done}
 use Rattle.steps.specs.State.{oneMore, openingState, openedState, headedState, onwardState, endedState, closedState}
-use Rattle.steps.specs.Step.{rowOf}
+use Rattle.steps.specs.Step.{taken, rowOf}
 use Rattle.interchange.specs.Reader.{Outcome, accepted, before, dialogueOf, referenceOf, readOn, readingOf}
 use Rattle.interchange.specs.Laws.{read-accepted}
 use Rattle.interchange.specs.Answers.{sized-read}
@@ -44,7 +44,7 @@ abbrev pub Reads : List ℕ → State → ℕ → List (List ℕ × ℕ) → Typ
 Reads s st at l = (f : ℕ) → length s < at + f → readOn f s st at ≡ told at l
 
 reads-one : (s : List ℕ) (st : State) (at : ℕ) (g rest : List ℕ) → drop at s ≡ g ++ (39 ∷ rest) → isSegment g ≡ true → (next : State) (group : ℕ)
-    → stepAt s st at g ≡ Next next (rowOf at g group) → (l : List (List ℕ × ℕ)) → Reads s next (at + length g + 1) l → Reads s st at ((g, group) ∷ l)
+    → stepAt s st at g ≡ done (taken next (rowOf at g group)) → (l : List (List ℕ × ℕ)) → Reads s next (at + length g + 1) l → Reads s st at ((g, group) ∷ l)
 unfolding rowsFrom
 reads-one s st at g rest e ok next group q l reads f h =
     let n = segment-fits s at g rest e in

@@ -11,4 +11,3 @@ pub mod Same
 pub mod Good
 pub mod Empty
 pub mod Parts
-pub mod Cases

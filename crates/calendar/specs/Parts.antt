@@ -7,6 +7,7 @@ use Prim.Native.Nat.{ℕ, _+_, _<_, _≤_}
 use native.Mathlib.Omega.{arith}
 use lib.ListN.{length, length-append}
 use borrow.Author.Tests.{le-leb, lt-leb}
+use Rattle.answers.specs.Answers.{Answer, done, outputTooShort, badCalendar, noWeekdayForm}
 use Rattle.dates.specs.Laws.{number-below}
 use Rattle.dates.specs.Text.{dateText, putAt}
 use Rattle.dates.specs.Put.{put-put, put-no-room}
@@ -20,8 +21,6 @@ use Rattle.calendar.specs.Check.{checked-good, checked-bad}
 use Rattle.calendar.specs.Good.{good-facts}
 use Rattle.calendar.specs.Empty.{week-none, week-some}
 use Rattle.calendar.specs.Steps.{length-characters}
-use Rattle.calendar.specs.declared.Written.{Written}
-use Rattle.calendar.specs.declared.Written.the-variants.{Bytes, BadCalendar, NoWeekdayForm, NoRoom}
 use Rattle.calendar.specs.declared.Span.the-variants.{Days, Bad}
 
 -- a part put behind what stands at the front
@@ -47,11 +46,11 @@ start-put first last o h e₁ f e₂ e₃ t e₄ =
     behind o ((80 ∷ 79 ∷ 80 ∷ 43 ∷ 50 ∷ 55 ∷ 51 ∷ 58 ∷ []) ++ dateText first ++ (47 ∷ [])) (dateText last) 19 b e₄ t (simp (length-append, length-text)) (simp (length-append, length-text) (omega arith))
 
 -- a text that fits, and one that does not
-pub text-fits : (text o : List ℕ) (m : ℕ) → length text ≡ m → m ≤ length o → Bytes m ≡ textAnswer text o
+pub text-fits : (text o : List ℕ) (m : ℕ) → length text ≡ m → m ≤ length o → done m ≡ textAnswer text o
 unfolding textAnswer
 text-fits text o m e h = rw (e, le-leb m (length o) h)
 
-pub text-refused : (text o : List ℕ) → length o < length text → (NoRoom ≡ textAnswer text o) × (o ≡ putAt o 0 text)
+pub text-refused : (text o : List ℕ) → length o < length text → (outputTooShort ≡ textAnswer text o) × (o ≡ putAt o 0 text)
 unfolding textAnswer
 text-refused text o h = (rw (lt-leb (length text) (length o) h), sym (put-no-room o 0 text (omega arith)))
 
@@ -60,12 +59,12 @@ module _ (c : List ℕ) (first last : Date) (n : ℕ) (o : List ℕ) where
   unfolding dayStringText
   length-day-string = simp (length-append, length-start, length-characters) (omega arith)
 
-  pub characters-refused : length o < 32 + n → (NoRoom ≡ textAnswer (dayStringText c first last n) o) × (o ≡ putAt o 0 (dayStringText c first last n))
+  pub characters-refused : length o < 32 + n → (outputTooShort ≡ textAnswer (dayStringText c first last n) o) × (o ≡ putAt o 0 (dayStringText c first last n))
   characters-refused h = text-refused (dayStringText c first last n) o (rw length-day-string h)
 
   pub characters-put : {p q r s : List ℕ} → 32 + n ≤ length o → p ≡ putAt o 0 (start first last) → q ≡ putAt p 29 (58 ∷ 58 ∷ [])
       → r ≡ putAt q 31 (dayCharacters c 0 n) → s ≡ putAt r (31 + n) (39 ∷ [])
-      → (Bytes (32 + n) ≡ textAnswer (dayStringText c first last n) o) × (s ≡ putAt o 0 (dayStringText c first last n))
+      → (done (32 + n) ≡ textAnswer (dayStringText c first last n) o) × (s ≡ putAt o 0 (dayStringText c first last n))
   unfolding dayStringText
   characters-put h e₁ e₂ e₃ e₄ =
       let a = behind o (start first last) (58 ∷ 58 ∷ []) 29 e₁ e₂ refl (simp length-start) (simp length-start (omega arith)) in
@@ -75,11 +74,11 @@ module _ (c : List ℕ) (first last : Date) (n : ℕ) (o : List ℕ) where
       )
 
 module _ (c : List ℕ) (first last : Date) (o : List ℕ) where
-  pub day-string-bad : checkedOf c first last ≡ Bad → (BadCalendar ≡ dayStringAnswer c first last o) × (o ≡ dayStringBytes c first last o)
+  pub day-string-bad : checkedOf c first last ≡ Bad → (badCalendar ≡ dayStringAnswer c first last o) × (o ≡ dayStringBytes c first last o)
   unfolding dayStringAnswer dayStringBytes
   day-string-bad e = let g = checked-bad c first last e in (rw g, rw g)
 
-  pub day-string-good : {f n : ℕ} {r : Written} {p : List ℕ} → checkedOf c first last ≡ Days f n
+  pub day-string-good : {f n : ℕ} {r : Answer ℕ} {p : List ℕ} → checkedOf c first last ≡ Days f n
       → (r ≡ textAnswer (dayStringText c first last n) o) × (p ≡ putAt o 0 (dayStringText c first last n))
       → (r ≡ dayStringAnswer c first last o) × (p ≡ dayStringBytes c first last o)
   unfolding dayStringAnswer dayStringBytes
@@ -93,12 +92,12 @@ module _ (first last : Date) (w o : List ℕ) where
   unfolding namedText
   length-named = simp (length-append, length-start) (omega arith)
 
-  pub named-refused : length o < 31 + length w → (NoRoom ≡ textAnswer (namedText first last w) o) × (o ≡ putAt o 0 (namedText first last w))
+  pub named-refused : length o < 31 + length w → (outputTooShort ≡ textAnswer (namedText first last w) o) × (o ≡ putAt o 0 (namedText first last w))
   named-refused h = text-refused (namedText first last w) o (rw length-named h)
 
   pub named-put : {p q r s : List ℕ} → 31 + length w ≤ length o → p ≡ putAt o 0 (start first last) → q ≡ putAt p 29 (43 ∷ [])
       → r ≡ putAt q 30 w → s ≡ putAt r (30 + length w) (39 ∷ [])
-      → (Bytes (31 + length w) ≡ textAnswer (namedText first last w) o) × (s ≡ putAt o 0 (namedText first last w))
+      → (done (31 + length w) ≡ textAnswer (namedText first last w) o) × (s ≡ putAt o 0 (namedText first last w))
   unfolding namedText
   named-put h e₁ e₂ e₃ e₄ =
       let a = behind o (start first last) (43 ∷ []) 29 e₁ e₂ refl (simp length-start) (simp length-start (omega arith)) in
@@ -117,7 +116,7 @@ module _ (c : List ℕ) (first last : Date) {f n : ℕ} (e : checkedOf c first l
 
   module _ (o : List ℕ) where
     module _ {x : ℕ} (k : x ≡ weekOf c f n) where
-      pub no-day : x ≡ 0 → (NoWeekdayForm ≡ weekdayAnswer c first last o) × (o ≡ weekdayBytes c first last o)
+      pub no-day : x ≡ 0 → (noWeekdayForm ≡ weekdayAnswer c first last o) × (o ≡ weekdayBytes c first last o)
       unfolding weekdayAnswer weekdayBytes weekdayForm
       no-day h =
           let g = checked-good c first last e in
@@ -131,14 +130,14 @@ module _ (c : List ℕ) (first last : Date) {f n : ℕ} (e : checkedOf c first l
         selected : anyDay c 0 n ≡ true
         selected = week-some c f n (λ q. h (k ∙ q))
 
-        pub not-whole : allOn (hasBit x) c f 0 n ≡ false → (NoWeekdayForm ≡ weekdayAnswer c first last o) × (o ≡ weekdayBytes c first last o)
+        pub not-whole : allOn (hasBit x) c f 0 n ≡ false → (noWeekdayForm ≡ weekdayAnswer c first last o) × (o ≡ weekdayBytes c first last o)
         unfolding weekdayAnswer weekdayBytes weekdayForm
         not-whole m =
             let g = checked-good c first last e in
             let b : allOn (named c f n) c f 0 n ≡ false = sym all-same ∙ m in
             (rw (g .0, g .2, g .1, selected, b), rw (g .0, g .2, g .1, selected, b))
 
-        pub weekdays-good : {r : Written} {p w : List ℕ} → allOn (hasBit x) c f 0 n ≡ true → w ≡ digitsFrom (hasBit x) 1 7
+        pub weekdays-good : {r : Answer ℕ} {p w : List ℕ} → allOn (hasBit x) c f 0 n ≡ true → w ≡ digitsFrom (hasBit x) 1 7
             → (r ≡ textAnswer (namedText first last w) o) × (p ≡ putAt o 0 (namedText first last w))
             → (r ≡ weekdayAnswer c first last o) × (p ≡ weekdayBytes c first last o)
         unfolding weekdayAnswer weekdayBytes weekdayForm
@@ -149,6 +148,6 @@ module _ (c : List ℕ) (first last : Date) {f n : ℕ} (e : checkedOf c first l
             (rw (g .0, g .2, g .1, selected, b) (rw q at (z .0)), rw (g .0, g .2, g .1, selected, b) (rw q at (z .1)))
 
 pub weekdays-bad : (c : List ℕ) (first last : Date) (o : List ℕ) → checkedOf c first last ≡ Bad
-    → (BadCalendar ≡ weekdayAnswer c first last o) × (o ≡ weekdayBytes c first last o)
+    → (badCalendar ≡ weekdayAnswer c first last o) × (o ≡ weekdayBytes c first last o)
 unfolding weekdayAnswer weekdayBytes
 weekdays-bad c first last o e = let g = checked-bad c first last e in (rw g, rw g)

@@ -6,6 +6,7 @@ use mathlib.Core.List.{List, [], _∷_, _++_}
 use lib.Dec.{eqb, leb}
 use lib.ListN.{length}
 use Rattle.laws.specs.Choice.{pick, both, either}
+use Rattle.answers.specs.Answers.{Answer, done, outputTooShort, badCalendar, noWeekdayForm}
 use Rattle.dates.specs.Days.{weekdayOf}
 use Rattle.dates.specs.Dates.{valid, number}
 use Rattle.dates.specs.Text.{dateText, putAt}
@@ -16,12 +17,12 @@ use Rattle.calendar.specs.declared.Written.the-variants.{Bytes, BadCalen
 use Rattle.calendar.specs.declared.Span.{Span}
 use Rattle.calendar.specs.declared.Span.the-variants.{Days, Bad}
 
--- "What each number means": the number of each answer
-unfoldable pub paperNumber : Written → ℕ
-paperNumber (Bytes n) = 0
-paperNumber BadCalendar = 19
-paperNumber NoWeekdayForm = 20
-paperNumber NoRoom = 17
+-- what each case answers: "the writer returns the bytes written", or number and position
+abbrev pub writtenAnswer : Written → Answer ℕ
+writtenAnswer (Bytes n) = done n
+writtenAnswer BadCalendar = badCalendar
+writtenAnswer NoWeekdayForm = noWeekdayForm
+writtenAnswer NoRoom = outputTooShort
 
 -- whether one of the n days from day k on is selected
 unfoldable pub anyDay : List ℕ → ℕ → ℕ → Bool
@@ -70,13 +71,13 @@ unfoldable pub dayStringText : List ℕ → Date → Date → ℕ → List ℕ
 dayStringText c first last n = start first last ++ (58 ∷ 58 ∷ []) ++ dayCharacters c 0 n ++ (39 ∷ [])
 
 -- 17, "lent output too short", else the bytes written
-unfoldable pub textAnswer : List ℕ → List ℕ → Written
-textAnswer text out = pick (leb (length text) (length out)) (Bytes (length text)) NoRoom
+unfoldable pub textAnswer : List ℕ → List ℕ → Answer ℕ
+textAnswer text out = pick (leb (length text) (length out)) (done (length text)) outputTooShort
 
 -- "the day string always exists": 19, then 17, then the bytes
-unfoldable pub dayStringAnswer : List ℕ → Date → Date → List ℕ → Written
+unfoldable pub dayStringAnswer : List ℕ → Date → Date → List ℕ → Answer ℕ
 dayStringAnswer c first last out =
-    pick (goodCalendar c first last) (textAnswer (dayStringText c first last (dayCount first last)) out) BadCalendar
+    pick (goodCalendar c first last) (textAnswer (dayStringText c first last (dayCount first last)) out) badCalendar
 
 -- on a refusal the lent bytes stay, and so do those past the text
 unfoldable pub dayStringBytes : List ℕ → Date → Date → List ℕ → List ℕ
@@ -112,11 +113,11 @@ abbrev pub weekdayText : List ℕ → Date → Date → List ℕ
 weekdayText c first last = namedText first last (digitsFrom (named c (number first) (dayCount first last)) 1 7)
 
 -- 19, then 20, then 17, then the bytes
-unfoldable pub weekdayAnswer : List ℕ → Date → Date → List ℕ → Written
+unfoldable pub weekdayAnswer : List ℕ → Date → Date → List ℕ → Answer ℕ
 weekdayAnswer c first last out =
     pick (goodCalendar c first last)
-    (pick (weekdayForm c (number first) (dayCount first last)) (textAnswer (weekdayText c first last) out) NoWeekdayForm)
-    BadCalendar
+    (pick (weekdayForm c (number first) (dayCount first last)) (textAnswer (weekdayText c first last) out) noWeekdayForm)
+    badCalendar
 
 unfoldable pub weekdayBytes : List ℕ → Date → Date → List ℕ → List ℕ
 weekdayBytes c first last out =

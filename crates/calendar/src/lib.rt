@@ -8,14 +8,18 @@ ghost use lib.ListN.{take, length};
 ghost use Rattle.laws.specs.Choice.{pick, either};
 ghost use Rattle.dates.specs.Text.{putAt};
 ghost use Rattle.calendar.specs.Days.{hasBit, withBit, day, withDay, join};
-ghost use Rattle.calendar.specs.Written.{anyDay, spanOf, checkedOf, start, dayCharacter, dayCharacters, dayStringText, textAnswer, dayStringAnswer, dayStringBytes, allOn, digitsFrom, namedText, weekdayAnswer, weekdayBytes};
+ghost use Rattle.calendar.specs.Written.{writtenAnswer, anyDay, spanOf, checkedOf, start, dayCharacter, dayCharacters, dayStringText, textAnswer, dayStringAnswer, dayStringBytes, allOn, digitsFrom, namedText, weekdayAnswer, weekdayBytes};
 ghost use Rattle.calendar.specs.Week.{mark, weekOf};
 
-// What came of writing a calendar.
+/// What came of writing a calendar.
 pub enum Written {
+    /// How many bytes the segment has.
     Bytes(usize),
+    /// 19
     BadCalendar,
+    /// 20
     NoWeekdayForm,
+    /// 17
     NoRoom,
 }
 
@@ -173,7 +177,7 @@ fn put_start(first: Date, last: Date, out: &mut [u8])
 
 // The segment with the first n characters of the day string.
 fn write_characters(days: &[u8], first: Date, last: Date, n: usize, out: &mut [u8]) -> Written
-    ensures { λ r. ⌜ (r ≡ textAnswer (dayStringText (now (days .entry)) first last n) (now (out .entry))) × (now (out .exit) ≡ putAt (now (out .entry)) 0 (dayStringText (now (days .entry)) first last n)) ⌝ }
+    ensures { λ r. ⌜ (writtenAnswer r ≡ textAnswer (dayStringText (now (days .entry)) first last n) (now (out .entry))) × (now (out .exit) ≡ putAt (now (out .entry)) 0 (dayStringText (now (days .entry)) first last n)) ⌝ }
 {
     if out.len() < 32 {
         return Written::NoRoom;
@@ -190,7 +194,7 @@ fn write_characters(days: &[u8], first: Date, last: Date, n: usize, out: &mut [u
 
 // The calendar as a POP with a day string, one character for each day.
 pub fn write_day_string(days: &[u8], first: Date, last: Date, out: &mut [u8]) -> Written
-    ensures { λ r. ⌜ (r ≡ dayStringAnswer (now (days .entry)) first last (now (out .entry))) × (now (out .exit) ≡ dayStringBytes (now (days .entry)) first last (now (out .entry))) ⌝ }
+    ensures { λ r. ⌜ (writtenAnswer r ≡ dayStringAnswer (now (days .entry)) first last (now (out .entry))) × (now (out .exit) ≡ dayStringBytes (now (days .entry)) first last (now (out .entry))) ⌝ }
 {
     let Span::Days(_, n) = check(days, first, last) else {
         return Written::BadCalendar;
@@ -272,7 +276,7 @@ fn weekday_digits(week: u8) -> Digits
 
 // The segment with these weekdays.
 fn write_named(first: Date, last: Date, weekdays: &[u8], out: &mut [u8]) -> Written
-    ensures { λ r. ⌜ (r ≡ textAnswer (namedText first last (now (weekdays .entry))) (now (out .entry))) × (now (out .exit) ≡ putAt (now (out .entry)) 0 (namedText first last (now (weekdays .entry)))) ⌝ }
+    ensures { λ r. ⌜ (writtenAnswer r ≡ textAnswer (namedText first last (now (weekdays .entry))) (now (out .entry))) × (now (out .exit) ≡ putAt (now (out .entry)) 0 (namedText first last (now (weekdays .entry)))) ⌝ }
 {
     let n = weekdays.len();
     if out.len() < 31 {
@@ -290,7 +294,7 @@ fn write_named(first: Date, last: Date, weekdays: &[u8], out: &mut [u8]) -> Writ
 
 // The calendar as a POP with weekdays, where it has that form.
 pub fn write_weekdays(days: &[u8], first: Date, last: Date, out: &mut [u8]) -> Written
-    ensures { λ r. ⌜ (r ≡ weekdayAnswer (now (days .entry)) first last (now (out .entry))) × (now (out .exit) ≡ weekdayBytes (now (days .entry)) first last (now (out .entry))) ⌝ }
+    ensures { λ r. ⌜ (writtenAnswer r ≡ weekdayAnswer (now (days .entry)) first last (now (out .entry))) × (now (out .exit) ≡ weekdayBytes (now (days .entry)) first last (now (out .entry))) ⌝ }
 {
     let Span::Days(from, n) = check(days, first, last) else {
         return Written::BadCalendar;

@@ -1,25 +1,72 @@
--- The cases P1 to P8 of document 01 as one table, under one theorem. P9 and P10 are of the register.
+-- The cases P1 to P10 of document 01 as one table, under one theorem.
 -- Assumes nothing.
 use mathlib.Core.List.{List, [], _∷_}
+use mathlib.Core.Option.{Option, none, some}
 use Prim.Native.Nat.{ℕ}
+use Prim.Native.String.{String}
 use lib.Dec.{T}
+use lib.ListN.{replicate}
 use Rattle.laws.specs.Choice.{all}
-use Rattle.dates.specs.Dates.{date}
+use Rattle.laws.specs.Joined as lists
+use Rattle.answers.specs.Answers.{done, refused as refusedWith}
+use Rattle.dates.specs.Dates.{date, number}
 use Rattle.dates.specs.declared.Date.{Date}
-use Rattle.cases.specs.Text.{bytes}
-use Rattle.cases.specs.Table.{Case, pop, refused, period, every, only, holds, comesOf, expected}
+use Rattle.contents.specs.Contents.{Pending, nothing, put, removal, Contents}
+use Rattle.shuffle.specs.Register.{stage, withdraw}
+use Rattle.laws.specs.Text.{bytes}
+use Rattle.cases.specs.Table.{Case, pop, call, refused, period, every, only, holds, comesOf, expected, sameAnswer, keeps, callHolds}
 use Rattle.syntax.specs.Bytes.{permittedOf, plainOn}
 use Rattle.syntax.specs.Pieces.{first, later, partOf}
 use Rattle.syntax.specs.Segment.{tagged, componentFits, occurrenceFits, elementFits, withinLimits, wellFormed, scanOf}
+use Rattle.parts.specs.Places.{spanOf, countedAt, elementAt}
 use Rattle.values.specs.Values.{sameText}
 use Rattle.dates.specs.Days.{leapYear, monthLength, isDate, monthDays, yearDays, dayNumber, weekdayOf}
 use Rattle.dates.specs.Dates.{madeOf}
 use Rattle.dates.specs.Text.{twoDigits, digitsAt, dateAt}
+use Rattle.calendar.specs.Days.{withBit, withDay}
 use Rattle.calendar.specs.Written.{goodPeriod}
 use Rattle.period.specs.Period.{spanBetween, spanIn, dayString, rising, formedOf, restGood, periodOf, runsBy, runsIn}
+use Rattle.placing.specs.Table.{entryOf, afterOf, endOf, placesOn}
+use Rattle.placing.specs.Rule.{reachable, firstFit, inGroup, again, laterOnes, choicesFrom, firstOf, stepOf}
+use Rattle.placing.specs.Skdupd.{skdupdTable}
+use Rattle.placing.specs.Tsdupd.{tsdupdTable}
+use Rattle.envelope.specs.Decimal.{decimalOn}
+use Rattle.envelope.specs.Envelope.{uibOf, uihOf, trailerOf}
+use Rattle.steps.specs.Step.{opening, between, closing, trailing, placed, inside, stepBy}
+use Rattle.interchange.specs.Reader.{turnAt, readOn, readingOf, numbers}
+use Rattle.joining.specs.Joined.{marked, windowDays, joined, joinAll}
+use Rattle.services.specs.Rows as rows
+use Rattle.services.specs.Services.{numberOf, saysRemoval, removes, serviceAt, hasPeriod, isWrong, saysNumber, isSame, isTwice}
+use Rattle.contents.specs.Contents as contents
+use Rattle.contents.specs.Written as written
+use Rattle.contents.specs.Calls.{lookup, changed, withdrawOf, viewOf, withRecords}
+use Rattle.staging.specs.Stage.{firstOutside, daysOf, entry, enterKnown, enter, enterAll, stageOf}
+use Rattle.shuffle.specs.InContents.{inContents}
 
 abbrev august : ℕ → Date
 august d = date 2000 8 d
+
+-- registers of a window from 2000-01-01 on and a quota of 1 for accounts 1 and 2: account 1 has the number 17, pending or live
+abbrev oneRecord : Option (List ℕ) → Pending → Contents
+oneRecord live pending =
+    record {
+      first = number (date 2000 1 1);
+      quotas = 1 ∷ 1 ∷ 0 ∷ 0 ∷ 0 ∷ 0 ∷ 0 ∷ 0 ∷ [];
+      accounts = (record { number = bytes "17"; live = live; pending = pending } ∷ []) ∷ replicate 7 [];
+    }
+
+abbrev pendingInFirst : Contents
+pendingInFirst = oneRecord none (put (replicate 64 1))
+
+abbrev liveInFirst : Contents
+liveInFirst = oneRecord (some (replicate 64 1)) nothing
+
+-- interchanges of one service, a put
+abbrev putOf18 : String
+putOf18 = "UIB+UNOB:4+7'UIH+SKDUPD:D:04A::UN+1'MSD+AAR:61'ORG'HDR'PRD+18'POP+273:2000-08-01/2000-08-13'UIT+1+7'UIZ+7+1'"
+
+abbrev putOf17 : String
+putOf17 = "UIB+UNOB:4+7'UIH+SKDUPD:D:04A::UN+1'MSD+AAR:61'ORG'HDR'PRD+17'POP+273:2000-08-01/2000-08-13'UIT+1+7'UIZ+7+1'"
 
 unfoldable pub table : List Case
 table =
@@ -46,8 +93,13 @@ table =
     ∷ pop "POP+273:2000-08-13/2000-08-01'" (refused 10)
     -- P8 12 characters for 13 days: 10
     ∷ pop "POP+273:2000-08-01/2000-08-13::100111100000'" (refused 10)
+    -- P9 account 2 withdraws a number only account 1 has pending: 16, register bytes equal
+    ∷ call pendingInFirst (2, withdraw (bytes "17")) (refusedWith 16 0)
+    -- P10 quota 1, one live: a put of another number is 15, of the same number 0
+    ∷ call liveInFirst (1, stage (bytes putOf18)) (refusedWith 15 108)
+    ∷ call liveInFirst (1, stage (bytes putOf17)) (done 1)
     ∷ []
 
 pub cases : T (all holds table)
-unfolding bytes table holds comesOf expected permittedOf plainOn first later partOf tagged componentFits occurrenceFits elementFits withinLimits wellFormed scanOf sameText leapYear monthLength isDate monthDays yearDays dayNumber weekdayOf madeOf twoDigits digitsAt dateAt goodPeriod spanBetween spanIn dayString rising formedOf restGood periodOf runsBy runsIn
+unfolding bytes table holds comesOf expected permittedOf plainOn first later partOf tagged componentFits occurrenceFits elementFits withinLimits wellFormed scanOf sameText leapYear monthLength isDate monthDays yearDays dayNumber weekdayOf madeOf twoDigits digitsAt dateAt goodPeriod spanBetween spanIn dayString rising formedOf restGood periodOf runsBy runsIn sameAnswer keeps callHolds lists.joined lists.total spanOf countedAt elementAt withBit withDay entryOf afterOf endOf placesOn reachable firstFit inGroup again laterOnes choicesFrom firstOf stepOf skdupdTable tsdupdTable decimalOn uibOf uihOf trailerOf opening between closing trailing placed inside stepBy turnAt readOn readingOf numbers marked windowDays joined joinAll rows.offsetAt rows.isRow rows.firstOf rows.listOf numberOf saysRemoval removes serviceAt hasPeriod isWrong saysNumber isSame isTwice contents.goodNumber contents.isCalendar contents.goodEntries contents.goodRecord contents.comesBefore contents.inOrder contents.goodAccount contents.goodAccounts contents.goodQuotas contents.good written.filledUp written.liveBytes written.pendingBytes written.slotOf written.roomBytes written.roomsBytes lookup changed withdrawOf viewOf withRecords firstOutside daysOf entry enterKnown enter enterAll stageOf inContents
 cases = tt

@@ -6,7 +6,7 @@ use mathlib.Core.Bool.{Bool, true, false}
 use mathlib.Core.List.{List, [], _∷_}
 use lib.Dec.{eqb}
 use lib.ListN.{length}
-use Rattle.cases.specs.Text.{bytes}
+use Rattle.laws.specs.Text.{bytes}
 use Rattle.laws.specs.Choice.{both, among}
 use Rattle.laws.specs.Sweep.{same, below}
 use Rattle.syntax.specs.Segment.{bodyAt, segmentAt}
@@ -14,9 +14,17 @@ use Rattle.syntax.specs.declared.segment.Scanned.{Scanned}
 use Rattle.syntax.specs.declared.segment.Scanned.the-variants.{End, NotPermitted, Unended, Malformed}
 use Rattle.dates.specs.Dates.{number}
 use Rattle.dates.specs.declared.Date.{Date}
-use Rattle.period.specs.Period.{periodOf, paperNumber, runsIn}
+use Rattle.answers.specs.Answers as answers
+use Rattle.period.specs.Period.{periodOf, periodAnswer, runsIn}
 use Rattle.period.specs.declared.Period.{Period}
 use Rattle.period.specs.declared.Period.the-variants.{Good, Wrong}
+use Rattle.values.specs.Values.{sameText}
+use Rattle.answers.specs.Answers as answer
+use Rattle.answers.specs.Answers.{Answer}
+use Rattle.contents.specs.Contents.{Contents, good}
+use Rattle.contents.specs.Written.{roomsBytes}
+use Rattle.shuffle.specs.Register.{Ask, Reply}
+use Rattle.shuffle.specs.InContents.{inContents}
 
 -- which days of a period run
 pub data Days : Type 0 where
@@ -28,9 +36,10 @@ pub data Outcome : Type 0 where
   refused : ℕ → Outcome
   period : Date → Date → ℕ → Days → Outcome
 
--- a POP as it is written, with its terminator, and what is to come of it. The cases of the register will be rows of other kinds.
+-- a POP as it is written, with its terminator, and what is to come of it; or a register's contents, a call of an account, and its answer
 pub data Case : Type 0 where
   pop : String → Outcome → Case
+  call : Contents → ℕ × Ask → Answer ℕ → Case
 
 abbrev numbers : List Date → List ℕ
 numbers [] = []
@@ -49,14 +58,30 @@ whole n Unended = false
 whole n Malformed = false
 
 unfoldable pub comesOf : List ℕ → Period → Outcome → Bool
-comesOf g p (refused x) = eqb (paperNumber p) x
+comesOf g p (refused x) = eqb (answers.number (periodAnswer 0 p)) x
 comesOf g (Wrong x) (period first last n days) = false
 comesOf g (Good f m form) (period first last n days) =
     both (eqb f (number first))
     (both (eqb (f + m) (suc (number last)))
     (both (eqb m n) (below (λ k. same (runsIn g (Good f m form) k) (expected days (f + k))) m)))
 
+-- the same number, position and value
+unfoldable pub sameAnswer : Answer ℕ → Answer ℕ → Bool
+sameAnswer (answer.done x) (answer.done y) = eqb x y
+sameAnswer (answer.done x) (answer.refused m j) = false
+sameAnswer (answer.refused n i) (answer.done y) = false
+sameAnswer (answer.refused n i) (answer.refused m j) = both (eqb n m) (eqb i j)
+
+-- a call that is refused leaves the bytes of all rooms as they were
+unfoldable pub keeps : Contents → Contents → Answer ℕ → Bool
+keeps c d (answer.done x) = true
+keeps c d (answer.refused n i) = sameText (roomsBytes (c .quotas) (c .accounts)) (roomsBytes (d .quotas) (d .accounts))
+
+unfoldable pub callHolds : Contents → Contents × Reply → Answer ℕ → Bool
+callHolds c w a = both (good c) (both (sameAnswer (w .1 .answer) a) (keeps c (w .0) a))
+
 unfoldable pub holds : Case → Bool
+holds (call c d a) = callHolds c (inContents c d) a
 holds (pop text outcome) =
     both (whole (length (bytes text)) (segmentAt (bytes text) 0))
     (comesOf (bodyAt (bytes text) 0) (periodOf (bodyAt (bytes text) 0)) outcome)

@@ -8,4 +8,3 @@ pub mod Put
 pub mod Again
 pub mod Read
 pub mod Starts
-pub mod Cases

@@ -1,10 +1,10 @@
 //! What C calls: numbers and slices only. A slice is a pointer and, after it, a length.
 
-use interchange::reader::Answer;
+use interchange::reader::Reading;
 use interchange::reader::read;
 ghost use mathlib.Core.Path.{_≡_};
 ghost use lib.ListN.{length};
-ghost use Rattle.interchange.specs.Reader.{readingOf, answerOf, rowsAfter};
+ghost use Rattle.interchange.specs.Reader.{readingOf, readAnswer, answerOf, rowsAfter};
 ghost use Rattle.desk.specs.Desk.{replyOf};
 
 /// What reading an interchange comes to. Number 0 is accepted, with how many rows were written; any other number is a
@@ -16,16 +16,16 @@ pub struct Reply {
     pub rows: usize,
 }
 
-fn told(answer: Answer) -> Reply
-    ensures { λ r. ⌜ r ≡ replyOf answer ⌝ }
+fn told(reading: Reading) -> Reply
+    ensures { λ r. ⌜ r ≡ replyOf (readAnswer reading) ⌝ }
 {
-    match answer {
-        Answer::Rows(n) => Reply {
+    match reading {
+        Reading::Rows(n) => Reply {
             number: 0,
             position: 0,
             rows: n,
         },
-        Answer::Refused(refusal) => Reply {
+        Reading::Refused(refusal) => Reply {
             number: refusal.number,
             position: refusal.position,
             rows: 0,

@@ -6,6 +6,7 @@ use mathlib.Core.Bool.{Bool, true, false, not}
 use mathlib.Core.List.{List, [], _∷_}
 use lib.ListN.{length}
 use Rattle.laws.specs.Choice.{pick, both, all}
+use Rattle.answers.specs.Answers.{Answer, done, wrongEnvelope, unknownType}
 use Rattle.syntax.specs.Bytes.{plain}
 use Rattle.syntax.specs.Pieces.{partOf}
 use Rattle.parts.specs.declared.Part.{Part}
@@ -58,11 +59,11 @@ abbrev pub agencyUN : List ℕ
 agencyUN = 85 ∷ 78 ∷ []
 
 -- "UIB begins `UNOB:4`", and "the dialogue reference of UIB" is the first component of its second element: 7 where one of the three is absent or, of the first two, another
+abbrev pub opens : List ℕ → Bool
+opens g = both (says (valueOf g 1 1) UNOB) (both (says (valueOf g 1 2) version4) (present (valueOf g 2 1)))
+
 unfoldable pub uibOf : List ℕ → Opened
-uibOf g =
-    pick (both (says (valueOf g 1 1) UNOB) (both (says (valueOf g 1 2) version4) (present (valueOf g 2 1))))
-    (Dialogue (placeOf g 2 1))
-    Wrong
+uibOf g = pick (opens g) (Dialogue (placeOf g 2 1)) Wrong
 
 -- "UIH names in S306, as ISO 9735-3 orders it, the type, `D`, `04A`, an empty 0113 and `UN`; then the reference 0340."
 -- Document 000, UIH: 0065, 0052, 0054, 0113 and 0051 of S306, then 0340.
@@ -118,16 +119,41 @@ uitOf g reference segments = trailerOf g reference segments
 abbrev pub uizOf : List ℕ → List ℕ → ℕ → Bool
 uizOf g dialogue messages = trailerOf g dialogue messages
 
--- "What each number means": 7 envelope contents, 8 type or directory not known; 0 where the segment is good
-abbrev pub openedNumber : Opened → ℕ
-openedNumber (Dialogue p) = 0
-openedNumber Wrong = 7
+-- what each case answers, of a segment at an offset: the dialogue reference's place; the type and the place of 0340; nothing
+abbrev pub openedAnswer : ℕ → Opened → Answer Part
+openedAnswer at (Dialogue p) = done p
+openedAnswer at Wrong = wrongEnvelope at
 
-abbrev pub headedNumber : Headed → ℕ
-headedNumber (Message t p) = 0
-headedNumber Missing = 7
-headedNumber Unknown = 8
+pub record Head : Type 0 where
+  pub kind : ℕ
+  pub reference : Part
 
-abbrev pub trailerNumber : Bool → ℕ
-trailerNumber true = 0
-trailerNumber false = 7
+abbrev pub headedAnswer : ℕ → Headed → Answer Head
+headedAnswer at (Message t p) = done (record { kind = t; reference = p })
+headedAnswer at Missing = wrongEnvelope at
+headedAnswer at Unknown = unknownType at
+
+abbrev pub trailerAnswer : ℕ → Bool → Answer (Unit {0})
+trailerAnswer at true = done tt
+trailerAnswer at false = wrongEnvelope at
+
+-- "7, 8": envelope contents, then type or directory not known, at the segment
+unfoldable pub uibAnswer : ℕ → List ℕ → Answer Part
+uibAnswer at g = pick (opens g) (done (placeOf g 2 1)) (wrongEnvelope at)
+
+abbrev pub typeAnswer : ℕ → List ℕ → Part → Answer Head
+typeAnswer at type reference =
+    pick (says type SKDUPD) (done (record { kind = 0; reference = reference }))
+    (pick (says type TSDUPD) (done (record { kind = 1; reference = reference })) (unknownType at))
+
+unfoldable pub uihAnswer : ℕ → List ℕ → Answer Head
+uihAnswer at g =
+    pick (complete (typeOf g) (versionOf g) (releaseOf g) (agencyOf g) (referenceOf g))
+    (pick (directory (versionOf g) (releaseOf g) (subFunctionOf g) (agencyOf g)) (typeAnswer at (typeOf g) (placeOf g 2 1)) (unknownType at))
+    (wrongEnvelope at)
+
+abbrev pub uitAnswer : ℕ → List ℕ → List ℕ → ℕ → Answer (Unit {0})
+uitAnswer at g reference segments = pick (uitOf g reference segments) (done tt) (wrongEnvelope at)
+
+abbrev pub uizAnswer : ℕ → List ℕ → List ℕ → ℕ → Answer (Unit {0})
+uizAnswer at g dialogue messages = pick (uizOf g dialogue messages) (done tt) (wrongEnvelope at)

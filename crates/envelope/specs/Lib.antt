@@ -1,6 +1,6 @@
 pub mod Decimal
 pub mod Envelope
+pub mod Said
 pub mod Laws
 pub mod Ways
 pub mod Written
-pub mod Cases

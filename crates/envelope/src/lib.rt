@@ -3,14 +3,14 @@
 
 use parts::Part;
 ghost use mathlib.Core.Path.{_≡_};
-ghost use Prim.Native.Nat.{_%_, _≤_};
+ghost use Prim.Native.Nat.{ℕ, _%_, _≤_};
 ghost use lib.ListN.{length, drop};
 ghost use mathlib.Core.List.{[], _∷_};
 ghost use Rattle.laws.specs.Choice.{all};
 ghost use Rattle.syntax.specs.Bytes.{plain};
 ghost use Rattle.values.specs.Values.{sameText};
 ghost use Rattle.envelope.specs.Decimal.{decimalOf, digitOf};
-ghost use Rattle.envelope.specs.Envelope.{present, valueOf, placeOf, directory, typed, uibOf, uihOf, trailerOf, uitOf, uizOf};
+ghost use Rattle.envelope.specs.Envelope.{present, valueOf, placeOf, directory, typed, uibOf, uihOf, trailerOf, uitOf, uizOf, openedAnswer, headedAnswer, trailerAnswer, uibAnswer, uihAnswer, uitAnswer, uizAnswer};
 ghost use Rattle.envelope.specs.Written.{beginsWith, writtenOf};
 
 /// What a UIB says.
@@ -84,7 +84,8 @@ fn value(segment: &[u8], e: usize, c: usize) -> &[u8]
 
 /// Whether a UIB begins `UNOB:4` and where its dialogue reference stands.
 pub fn read_uib(segment: &[u8]) -> Opened
-    ensures { λ r. ⌜ r ≡ uibOf (now (segment .entry)) ⌝ }
+    ensures uib { λ r. ⌜ r ≡ uibOf (now (segment .entry)) ⌝ }
+    ensures said { λ r. ⌜ ((at : ℕ) → openedAnswer at r ≡ uibAnswer at (now (segment .entry))) ⌝ }
 {
     if !values::equals(value(segment, 1, 1), b"UNOB") {
         return Opened::Wrong;
@@ -206,7 +207,8 @@ fn read_any(segment: &[u8]) -> Headed
 
 /// The type and the reference of a message, or what is wrong with its UIH.
 pub fn read_uih(segment: &[u8]) -> Headed
-    ensures { λ r. ⌜ r ≡ uihOf (now (segment .entry)) ⌝ }
+    ensures uih { λ r. ⌜ r ≡ uihOf (now (segment .entry)) ⌝ }
+    ensures said { λ r. ⌜ ((at : ℕ) → headedAnswer at r ≡ uihAnswer at (now (segment .entry))) ⌝ }
 {
     if begins(segment, b"UIH+SKDUPD:D:04A::UN+") {
         return read_written(segment, 0);
@@ -237,14 +239,16 @@ fn check_trailer(segment: &[u8], reference: &[u8], count: usize) -> bool
 
 /// Whether a UIT repeats the 0340 of its UIH and gives the number of the message's segments.
 pub fn check_uit(segment: &[u8], reference: &[u8], segments: usize) -> bool
-    ensures { λ r. ⌜ r ≡ uitOf (now (segment .entry)) (now (reference .entry)) segments ⌝ }
+    ensures uit { λ r. ⌜ r ≡ uitOf (now (segment .entry)) (now (reference .entry)) segments ⌝ }
+    ensures said { λ r. ⌜ ((at : ℕ) → trailerAnswer at r ≡ uitAnswer at (now (segment .entry)) (now (reference .entry)) segments) ⌝ }
 {
     check_trailer(segment, reference, segments)
 }
 
 /// Whether a UIZ gives the dialogue reference of the UIB and the number of messages.
 pub fn check_uiz(segment: &[u8], dialogue: &[u8], messages: usize) -> bool
-    ensures { λ r. ⌜ r ≡ uizOf (now (segment .entry)) (now (dialogue .entry)) messages ⌝ }
+    ensures uiz { λ r. ⌜ r ≡ uizOf (now (segment .entry)) (now (dialogue .entry)) messages ⌝ }
+    ensures said { λ r. ⌜ ((at : ℕ) → trailerAnswer at r ≡ uizAnswer at (now (segment .entry)) (now (dialogue .entry)) messages) ⌝ }
 {
     check_trailer(segment, dialogue, messages)
 }

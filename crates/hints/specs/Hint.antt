@@ -14,6 +14,8 @@ use Rattle.placing.specs.declared.Stepped.the-variants.{Placed}
 use Rattle.placing.specs.Table.{Table, tagAt, most}
 use Rattle.placing.specs.Place.{countAt, reachedOf}
 use Rattle.placing.specs.Rule.{stepOf}
+use Rattle.placing.specs.Answer.{placeAnswer}
+use Rattle.answers.specs.Answers.{Answer, done}
 
 -- no hint; "a later place of the same group", a segment or a group; "the same place again"; "the group once more";
 -- and the group once more after its own head, whose number does not allow it again
@@ -98,3 +100,10 @@ quickBy t p tag e n = pick (eqb n 0) (stepOf t p tag) (Placed (reachedOf p (leve
 -- where the next segment goes, by its tag: the hint's place, or by the placing rule where the hint does not tell
 unfoldable pub quickOf : Table → List ℕ → Place → ℕ → Stepped
 quickOf t hints p tag = quickBy t p tag (hintAt hints (p .row) tag) (timesOf t p tag (hintAt hints (p .row) tag))
+
+-- and what is answered then, of a segment at an offset: the hint's place, or what the placing rule answers
+abbrev pub answerBy : ℕ → Table → Place → ℕ → ℕ → ℕ → Answer Place
+answerBy at t p tag e n = pick (eqb n 0) (placeAnswer at t p tag) (done (reachedOf p (levelIn e) n (rowIn e) (lastIn e)))
+
+unfoldable pub quickAnswer : ℕ → Table → List ℕ → Place → ℕ → Answer Place
+quickAnswer at t hints p tag = answerBy at t p tag (hintAt hints (p .row) tag) (timesOf t p tag (hintAt hints (p .row) tag))

@@ -11,8 +11,12 @@ use Rattle.placing.specs.declared.Stepped.the-variants.{Placed}
 use Rattle.placing.specs.Table.{Table, tagAt, most}
 use Rattle.placing.specs.Place.{countAt, reachedOf}
 use Rattle.placing.specs.Rule.{stepOf}
+use Rattle.placing.specs.Answer.{steppedAnswer}
+use Rattle.placing.specs.Said.{place-said}
+use Rattle.laws.specs.Choice.{choose}
+use lib.Dec.{eqb}
 use Rattle.hints.specs.declared.Pair.{Pair}
-use Rattle.hints.specs.Hint.{rowIn, levelIn, lastIn, hintAt, countsOf, placeIn, allowedOf, moreOf, repeatedOf, timesOf, quickOf}
+use Rattle.hints.specs.Hint.{rowIn, levelIn, lastIn, hintAt, countsOf, placeIn, allowedOf, moreOf, repeatedOf, timesOf, quickBy, quickOf, answerBy, quickAnswer}
 
 -- the counts
 
@@ -104,3 +108,12 @@ module _ (t : Table) (hints : List ℕ) (p : Place) (tag e n : ℕ) (ee : e ≡ 
   pub quick-told : (n ≡ 0 → ⊥) → (q : Place) → q ≡ reachedOf p (levelIn e) n (rowIn e) (lastIn e) → Placed q ≡ quickOf t hints p tag
   unfolding quickOf
   quick-told z q eq = let b = ne-eqb n 0 z in rw (sym ee, sym en, b) (ap Placed eq)
+
+-- what the step by hints comes to is what the table of numbers answers
+by-said : (at : ℕ) (t : Table) (p : Place) (tag e n : ℕ) → steppedAnswer at (quickBy t p tag e n) ≡ answerBy at t p tag e n
+by-said at t p tag e n = choose (eqb n 0) (λ q. rw q (place-said at t p tag)) (λ q. rw q)
+
+pub quick-said : (t : Table) (hints : List ℕ) (p : Place) (tag : ℕ) {x : Stepped} → x ≡ quickOf t hints p tag
+    → (x ≡ quickOf t hints p tag) × ((at : ℕ) → steppedAnswer at x ≡ quickAnswer at t hints p tag)
+unfolding quickOf quickAnswer
+quick-said t hints p tag e = (e, λ at. ap (steppedAnswer at) e ∙ by-said at t p tag (hintAt hints (p .row) tag) (timesOf t p tag (hintAt hints (p .row) tag)))

@@ -2,7 +2,9 @@
 pub mod tables;
 
 ghost use mathlib.Core.Path.{_≡_};
-ghost use Rattle.hints.specs.Hint.{hintAt, placeIn, countsOf, allowedOf, repeatedOf, timesOf, quickOf};
+ghost use Prim.Native.Nat.{ℕ};
+ghost use Rattle.hints.specs.Hint.{hintAt, placeIn, countsOf, allowedOf, repeatedOf, timesOf, quickOf, quickAnswer};
+ghost use Rattle.placing.specs.Answer.{steppedAnswer};
 use placing::Place;
 use placing::Stepped;
 use placing::entry;
@@ -114,7 +116,8 @@ fn times(place: Place, table: &[[u32; 8]], tag: u32, e: usize) -> u32
 
 // The place of the next segment, by its tag: that of the hint, or by the placing rule where the hint does not tell.
 pub fn quick_step(place: Place, table: &[[u32; 8]], hints: &[u64], tag: u32) -> Stepped
-    ensures { λ r. ⌜ r ≡ quickOf (now (table .entry)) (now (hints .entry)) place tag ⌝ }
+    ensures step { λ r. ⌜ r ≡ quickOf (now (table .entry)) (now (hints .entry)) place tag ⌝ }
+    ensures said { λ r. ⌜ ((at : ℕ) → steppedAnswer at r ≡ quickAnswer at (now (table .entry)) (now (hints .entry)) place tag) ⌝ }
 {
     let row = place.row;
     let e = hint(hints, row, tag);

@@ -14,26 +14,23 @@ use Rattle.laws.specs.Lists.{over, onto, onto-start}
 use Rattle.syntax.specs.declared.segment.Refusal.{Refusal}
 use Rattle.steps.specs.declared.state.State.{State}
 use Rattle.steps.specs.declared.state.Row.{Row}
-use Rattle.interchange.specs.declared.reader.Answer.{Answer}
-use Rattle.interchange.specs.declared.reader.Answer.the-variants.{Rows, Refused}
+use Rattle.answers.specs.Answers.{Answer, done, refused, badSize, outputTooShort}
+use Rattle.answers.specs.Laws.{done≢refused}
 use Rattle.steps.specs.State.{openingState}
 use Rattle.interchange.specs.Reader.{Verdict, accepted, faulty, Outcome, readOn, readingOf, numbers, answerOf, rowsAfter}
 use Rattle.interchange.specs.Laws.{length-numbers}
 use Rattle.interchange.specs.Chunks.{wholeFrom, Filled}
 
-abbrev pub refused : ℕ → ℕ → Answer
-refused number position = Refused (record { number = number; position = position })
-
 -- an answer and what the buffer holds, as they are to be for an outcome
-abbrev pub Right : Outcome → List ℕ → Answer → List ℕ → Type 0
+abbrev pub Right : Outcome → List ℕ → Answer ℕ → List ℕ → Type 0
 Right o lent r after = (r ≡ answerOf o (length lent)) × (after ≡ rowsAfter o lent)
 
 -- 3
-pub none-read : (s lent : List ℕ) → length s ≡ 0 → Right (readingOf s) lent (refused 3 0) lent
+pub none-read : (s lent : List ℕ) → length s ≡ 0 → Right (readingOf s) lent badSize lent
 unfolding readingOf answerOf rowsAfter
 none-read s lent h = let e = eq-eqb (length s) 0 h in (rw e, rw e)
 
-pub long-read : (s lent : List ℕ) → 60000 < length s → Right (readingOf s) lent (refused 3 0) lent
+pub long-read : (s lent : List ℕ) → 60000 < length s → Right (readingOf s) lent badSize lent
 unfolding readingOf answerOf rowsAfter
 long-read s lent h =
     let e : either (eqb (length s) 0) (ltb 60000 (length s)) ≡ true = rw (lt-ltb 60000 (length s) h) (either-true (eqb (length s) 0)) in
@@ -43,38 +40,38 @@ pub sized-read : (s : List ℕ) → (length s ≡ 0 → ⊥) → length s ≤ 60
 unfolding readingOf
 sized-read s h g = rw (ne-eqb (length s) 0 h, le-ltb 60000 (length s) g)
 
-pub right-same : (o p : Outcome) (lent : List ℕ) (r : Answer) (after : List ℕ) → o ≡ p → Right o lent r after → Right p lent r after
+pub right-same : (o p : Outcome) (lent : List ℕ) (r : Answer ℕ) (after : List ℕ) → o ≡ p → Right o lent r after → Right p lent r after
 right-same o p lent r after e x = (x .0 ∙ ap (λ (y : Outcome). answerOf y (length lent)) e, x .1 ∙ ap (λ (y : Outcome). rowsAfter y lent) e)
 
 -- the answer for a reading before which n numbers are gathered already, and what the buffer holds then
-abbrev pub answerBehind : ℕ → List Row → ℕ → Verdict → Answer
-answerBehind n rows room accepted = pick (ltb room (n + 3 * length rows)) (refused 17 0) (Rows ((n + 3 * length rows) / 3))
-answerBehind n rows room (faulty x) = Refused x
+abbrev pub answerBehind : ℕ → List Row → ℕ → Verdict → Answer ℕ
+answerBehind n rows room (done _) = pick (ltb room (n + 3 * length rows)) outputTooShort (done ((n + 3 * length rows) / 3))
+answerBehind n rows room (refused number position) = refused number position
 
 abbrev pub rowsBehind : ℕ → List Row → List ℕ → Verdict → List ℕ
-rowsBehind n rows lent accepted = pick (ltb (length lent) (n + 3 * length rows)) lent (onto lent n (numbers rows))
-rowsBehind n rows lent (faulty x) = lent
+rowsBehind n rows lent (done _) = pick (ltb (length lent) (n + 3 * length rows)) lent (onto lent n (numbers rows))
+rowsBehind n rows lent (refused number position) = lent
 
-abbrev pub Behind : ℕ → Outcome → List ℕ → Answer → List ℕ → Type 0
+abbrev pub Behind : ℕ → Outcome → List ℕ → Answer ℕ → List ℕ → Type 0
 Behind n o lent r after = (r ≡ answerBehind n (o .rows) (length lent) (o .verdict)) × (after ≡ rowsBehind n (o .rows) lent (o .verdict))
 
 -- with none before it is the answer itself
 module _ (rows : List Row) (lent : List ℕ) where
   same-answer : (v : Verdict) → answerBehind 0 rows (length lent) v ≡ answerOf (record { rows = rows; verdict = v }) (length lent)
   unfolding answerOf
-  same-answer accepted =
+  same-answer (done _) =
       let z : 0 + 3 * length rows ≡ 3 * length rows = omega arith in
-      choose (ltb (length lent) (3 * length rows)) (λ q. rw (z, q)) (λ q. rw (z, q) (ap Rows (omega arith)))
-  same-answer (faulty x) = refl
+      choose (ltb (length lent) (3 * length rows)) (λ q. rw (z, q)) (λ q. rw (z, q) (ap done (omega arith)))
+  same-answer (refused number position) = refl
 
   same-rows : (v : Verdict) → rowsBehind 0 rows lent v ≡ rowsAfter (record { rows = rows; verdict = v }) lent
   unfolding rowsAfter
-  same-rows accepted =
+  same-rows (done _) =
       let z : 0 + 3 * length rows ≡ 3 * length rows = omega arith in
       choose (ltb (length lent) (3 * length rows)) (λ q. rw (z, q)) (λ q. rw (z, q) (onto-start lent (numbers rows)))
-  same-rows (faulty x) = refl
+  same-rows (refused number position) = refl
 
-pub right-behind : (o : Outcome) (lent : List ℕ) (r : Answer) (after : List ℕ) → Behind 0 o lent r after → Right o lent r after
+pub right-behind : (o : Outcome) (lent : List ℕ) (r : Answer ℕ) (after : List ℕ) → Behind 0 o lent r after → Right o lent r after
 right-behind o lent r after b = (b .0 ∙ same-answer (o .rows) lent (o .verdict), b .1 ∙ same-rows (o .rows) lent (o .verdict))
 
 -- a text put before one that was put behind it
@@ -104,22 +101,19 @@ length-onto l a n h =
     let w = length-take-le n l (omega arith) in
     omega arith
 
-rows≢refused : (m : ℕ) (x : Refusal) → Rows m ≡ Refused x → ⊥
-rows≢refused m x q = let z : _≡_ {A = ℕ} 0 1 = cc in omega arith
-
 -- rows that are told of fit, and the buffer is as long as it was
-fits-by : (n m : ℕ) (rows : List Row) (lent : List ℕ) (v : Verdict) → Rows m ≡ answerBehind n rows (length lent) v
+fits-by : (n m : ℕ) (rows : List Row) (lent : List ℕ) (v : Verdict) → done m ≡ answerBehind n rows (length lent) v
     → (n ≤ length lent) × (length (rowsBehind n rows lent v) ≡ length lent)
-fits-by n m rows lent accepted q =
+fits-by n m rows lent (done _) q =
     choose (ltb (length lent) (n + 3 * length rows))
-    (λ l. absurd (rows≢refused m (record { number = 17; position = 0 }) (rw l at q)))
+    (λ l. absurd (done≢refused (rw l at q)))
     (λ l.
     let g = ltb-false (length lent) (n + 3 * length rows) l in
     let c = length-numbers rows in
     (omega arith, rw l (length-onto lent (numbers rows) n (omega arith))))
-fits-by n m rows lent (faulty x) q = absurd (rows≢refused m x q)
+fits-by n m rows lent (refused number position) q = absurd (done≢refused q)
 
-pub behind-fits : (n m : ℕ) (o : Outcome) (lent after : List ℕ) → Behind n o lent (Rows m) after → n ≤ length after
+pub behind-fits : (n m : ℕ) (o : Outcome) (lent after : List ℕ) → Behind n o lent (done m) after → n ≤ length after
 behind-fits n m o lent after b =
     let f = fits-by n m (o .rows) lent (o .verdict) (b .0) in
     let e = ap length (b .1) ∙ f .1 in
@@ -128,7 +122,7 @@ behind-fits n m o lent after b =
 
 module _ (n : ℕ) (w : Outcome) (lent : List ℕ) where
   -- a fault
-  pub behind-fault : (x : Refusal) → w .verdict ≡ faulty x → Behind n w lent (Refused x) lent
+  pub behind-fault : (x : Refusal) → w .verdict ≡ faulty x → Behind n w lent (faulty x) lent
   behind-fault x e = (rw e, rw e)
 
   -- all rows are gathered, k numbers
@@ -140,14 +134,14 @@ module _ (n : ℕ) (w : Outcome) (lent : List ℕ) where
     unfolding numbers
     rows-are = sym (f .rows) ∙ append-nil (take k room)
 
-    pub behind-short : length lent < n + k → Behind n w lent (refused 17 0) lent
+    pub behind-short : length lent < n + k → Behind n w lent outputTooShort lent
     behind-short h =
         let e = sym (f .verdict) in
         let c = count-is in
         let l = lt-ltb (length lent) (n + k) h in
         (rw (e, c, l), rw (e, c, l))
 
-    pub behind-rows : n + k ≤ length lent → Behind n w lent (Rows ((n + k) / 3)) (onto lent n (take k room))
+    pub behind-rows : n + k ≤ length lent → Behind n w lent (done ((n + k) / 3)) (onto lent n (take k room))
     behind-rows h =
         let e = sym (f .verdict) in
         let c = count-is in
@@ -157,48 +151,48 @@ module _ (n : ℕ) (w : Outcome) (lent : List ℕ) where
   -- the room was full, and the rest was read
   module _ (k : ℕ) (room : List ℕ) (rest : Outcome) (f : Filled w rest k room) where
     behind-is : (v : Verdict) → answerBehind (n + k) (rest .rows) (length lent) v ≡ answerBehind n (w .rows) (length lent) v
-    behind-is accepted =
+    behind-is (done _) =
         let c = f .count in
         let e : n + k + 3 * length (rest .rows) ≡ n + 3 * length (w .rows) = omega arith in
         rw e
-    behind-is (faulty x) = refl
+    behind-is (refused number position) = refl
 
     count-same : n + k + 3 * length (rest .rows) ≡ n + 3 * length (w .rows)
     count-same = let c = f .count in omega arith
 
     -- a refusal leaves the buffer
-    still : (x : Refusal) (v : Verdict) → Refused x ≡ answerBehind (n + k) (rest .rows) (length lent) v
+    still : (x : Refusal) (v : Verdict) → faulty x ≡ answerBehind (n + k) (rest .rows) (length lent) v
         → (rowsBehind (n + k) (rest .rows) lent v ≡ lent) × (rowsBehind n (w .rows) lent v ≡ lent)
-    still x accepted q =
+    still x (done _) q =
         let c = count-same in
         choose (ltb (length lent) (n + 3 * length (w .rows)))
         (λ l. (rw (c, l), rw l))
-        (λ l. absurd (rows≢refused ((n + 3 * length (w .rows)) / 3) x (sym (rw (c, l) at q))))
-    still x (faulty y) q = (refl, refl)
+        (λ l. absurd (done≢refused (sym (rw (c, l) at q))))
+    still x (refused number position) q = (refl, refl)
 
-    pub behind-refused : (x : Refusal) (after : List ℕ) → Behind (n + k) rest lent (Refused x) after → Behind n w lent (Refused x) after
+    pub behind-refused : (x : Refusal) (after : List ℕ) → Behind (n + k) rest lent (faulty x) after → Behind n w lent (faulty x) after
     behind-refused x after b =
         let q = still x (rest .verdict) (b .0) in (
           b .0 ∙ behind-is (rest .verdict) ∙ ap (answerBehind n (w .rows) (length lent)) (f .verdict),
           b .1 ∙ q .0 ∙ sym (q .1) ∙ ap (rowsBehind n (w .rows) lent) (f .verdict),
         )
 
-    put-before : (m : ℕ) (v : Verdict) → Rows m ≡ answerBehind (n + k) (rest .rows) (length lent) v → k ≤ length room
+    put-before : (m : ℕ) (v : Verdict) → done m ≡ answerBehind (n + k) (rest .rows) (length lent) v → k ≤ length room
         → onto (rowsBehind (n + k) (rest .rows) lent v) n (take k room) ≡ rowsBehind n (w .rows) lent v
-    put-before m accepted q h =
+    put-before m (done _) q h =
         let c = count-same in
         choose (ltb (length lent) (n + 3 * length (w .rows)))
-        (λ l. absurd (rows≢refused m (record { number = 17; position = 0 }) (rw (c, l) at q)))
+        (λ l. absurd (done≢refused (rw (c, l) at q)))
         (λ l.
         let z = length-take-le k room h in
         let g = ltb-false (length lent) (n + 3 * length (w .rows)) l in
         rw (c, l)
         (ap (λ (x : ℕ). onto (onto lent (n + x) (numbers (rest .rows))) n (take k room)) (sym z)
         ∙ onto-before lent (take k room) (numbers (rest .rows)) n (omega arith) ∙ ap (onto lent n) (f .rows)))
-    put-before m (faulty x) q h = absurd (rows≢refused m x q)
+    put-before m (refused number position) q h = absurd (done≢refused q)
 
-    pub behind-full : (m : ℕ) (after : List ℕ) → Behind (n + k) rest lent (Rows m) after → k ≤ length room
-        → Behind n w lent (Rows m) (onto after n (take k room))
+    pub behind-full : (m : ℕ) (after : List ℕ) → Behind (n + k) rest lent (done m) after → k ≤ length room
+        → Behind n w lent (done m) (onto after n (take k room))
     behind-full m after b h = (
       b .0 ∙ behind-is (rest .verdict) ∙ ap (answerBehind n (w .rows) (length lent)) (f .verdict),
       ap (λ (x : List ℕ). onto x n (take k room)) (b .1) ∙ put-before m (rest .verdict) (b .0) h ∙ ap (rowsBehind n (w .rows) lent) (f .verdict),

@@ -7,6 +7,7 @@ use Prim.Native.Nat.{ℕ, _+_, _-_, _*_, _≤_, _<_}
 use native.Mathlib.Omega.{arith}
 use lib.ListN.{length, take}
 use Rattle.laws.specs.Choice.{pick}
+use Rattle.answers.specs.Answers.{wrongEnvelope}
 use Rattle.syntax.specs.declared.segment.Refusal.{Refusal}
 use Rattle.placing.specs.Skdupd.{skdupdTable}
 use Rattle.placing.specs.Tsdupd.{tsdupdTable}
@@ -66,16 +67,16 @@ module _ (s : List ℕ) (st₀ : State) (at₀ : ℕ) (room₀ : List ℕ) (st :
 
   module _ (h : at < length s) where
     pub chunk-past : isClosed (st .phase) ≡ true → Chunk s st₀ at₀ (Faulty (record { number = 7; position = at })) room
-    chunk-past c = sym (filled (fault 7 at) (read-past enough s st at h (left .enough) c) .verdict)
+    chunk-past c = sym (filled (fault (wrongEnvelope at)) (read-past enough s st at h (left .enough) c) .verdict)
 
     pub chunk-stop : isClosed (st .phase) ≡ false → (x : Refusal) → turnAt skdupdTable tsdupdTable s st at ≡ Stop x → Chunk s st₀ at₀ (Faulty x) room
     chunk-stop c x e =
-        sym (filled (record { rows = []; verdict = faulty x }) (read-on enough s st at h (left .enough) c ∙ ap (afterTurn (readOn (enough - 1) s)) e) .verdict)
+        sym (filled (fault (faulty x)) (read-on enough s st at h (left .enough) c ∙ ap (afterTurn (readOn (enough - 1) s)) e) .verdict)
 
   module _ (h : length s ≤ at) (g : at ≤ length s) (k : n ≤ 192) where
     pub chunk-ended : (b : Bool) → isClosed (st .phase) ≡ b → Chunk s st₀ at₀ (endedAt b n (length s)) room
     chunk-ended true c = (filled (record { rows = []; verdict = accepted }) (read-accepted enough s st at h g (left .enough) c), k)
-    chunk-ended false c = sym (filled (fault 7 (length s)) (read-stops enough s st at h g (left .enough) c) .verdict)
+    chunk-ended false c = sym (filled (fault (wrongEnvelope (length s))) (read-stops enough s st at h g (left .enough) c) .verdict)
 
   pub chunk-full : at ≤ length s → n ≤ 192 → 190 ≤ n → Chunk s st₀ at₀ (Full st at n) room
   chunk-full g k f =

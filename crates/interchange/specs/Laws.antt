@@ -13,6 +13,7 @@ use native.Mathlib.Numerals.{add-one}
 use native.Mathlib.Nat.{sub-zero, add-zero}
 use Rattle.laws.specs.Choice.{pick}
 use Rattle.laws.specs.Lists.{onto, onto-step, onto-done, drop-here}
+use Rattle.answers.specs.Answers.{wrongEnvelope}
 use Rattle.syntax.specs.declared.segment.Refusal.{Refusal}
 use Rattle.syntax.specs.declared.segment.Scanned.{Scanned}
 use Rattle.placing.specs.Skdupd.{skdupdTable}
@@ -27,7 +28,7 @@ module _ (f : ℕ) (s : List ℕ) (st : State) (at : ℕ) where
   one-more : length s < at + f → at ≤ length s → f ≡ suc (f - 1)
   one-more g h = omega arith
 
-  pub read-past : at < length s → length s < at + f → isClosed (st .phase) ≡ true → readOn f s st at ≡ fault 7 at
+  pub read-past : at < length s → length s < at + f → isClosed (st .phase) ≡ true → readOn f s st at ≡ fault (wrongEnvelope at)
   unfolding readOn
   read-past h g c = ap (λ (x : ℕ). readOn x s st at) (one-more g (omega arith)) ∙ rw (lt-ltb at (length s) h, c)
 
@@ -40,7 +41,7 @@ module _ (f : ℕ) (s : List ℕ) (st : State) (at : ℕ) where
   unfolding readOn
   read-accepted h k g c = ap (λ (x : ℕ). readOn x s st at) (one-more g k) ∙ rw (le-ltb at (length s) h, c)
 
-  pub read-stops : length s ≤ at → at ≤ length s → length s < at + f → isClosed (st .phase) ≡ false → readOn f s st at ≡ fault 7 (length s)
+  pub read-stops : length s ≤ at → at ≤ length s → length s < at + f → isClosed (st .phase) ≡ false → readOn f s st at ≡ fault (wrongEnvelope (length s))
   unfolding readOn
   read-stops h k g c = ap (λ (x : ℕ). readOn x s st at) (one-more g k) ∙ rw (le-ltb at (length s) h, c)
 

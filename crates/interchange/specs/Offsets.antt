@@ -31,18 +31,17 @@ use Rattle.steps.specs.declared.state.Phase.{Phase}
 use Rattle.steps.specs.declared.state.Phase.the-variants.{Opening, Between, Inside, Closed}
 use Rattle.steps.specs.declared.state.State.{State}
 use Rattle.steps.specs.declared.state.Row.{Row}
-use Rattle.steps.specs.declared.state.Step.{Step}
-use Rattle.steps.specs.declared.state.Step.the-variants.{Next, Refused}
+use Rattle.answers.specs.Answers.{Answer, done, refused}
 use Rattle.interchange.specs.declared.reader.Turn.{Turn}
 use Rattle.interchange.specs.declared.reader.Turn.the-variants.{On, Stop}
 use Rattle.steps.specs.State.{oneMore}
-use Rattle.steps.specs.Step.{refuse, rowOf, opened, opening, headed, closing, between, trailing, isPeriod, judged, placed, settled, inside, tableOf, stepBy, segmentStep}
+use Rattle.steps.specs.Step.{Taken, taken, rowOf, opened, opening, headed, closing, between, trailing, isPeriod, judged, placed, settled, inside, tableOf, stepBy, segmentStep}
 use Rattle.interchange.specs.Reader.{dialogueOf, referenceOf, turnStep, turnScan, turnAt}
 
 -- a step's row, if it has one, bears the offset
-abbrev RowAt : ℕ → Step → Type 0
-RowAt at (Next st r) = r .offset ≡ at
-RowAt at (Refused x) = Unit {0}
+abbrev RowAt : ℕ → Answer Taken → Type 0
+RowAt at (done (taken st r)) = r .offset ≡ at
+RowAt at (refused number position) = Unit {0}
 
 module _ (st : State) (at : ℕ) (g : List ℕ) where
   opened-row : (o : Opened) → RowAt at (opened st at g o)
@@ -97,11 +96,11 @@ stop≢on : (x : Refusal) (st : State) (r : Row) (n : ℕ) → Stop x ≡ On st 
 stop≢on x st r n q = let z : _≡_ {A = ℕ} 0 1 = cc in omega arith
 
 module _ (st : State) (r : Row) (n : ℕ) where
-  on-is : (y : Step) (at m : ℕ) → RowAt at y → turnStep m y ≡ On st r n → (r .offset ≡ at) × (n ≡ m)
-  on-is (Next s q) at m o e =
+  on-is : (y : Answer Taken) (at m : ℕ) → RowAt at y → turnStep m y ≡ On st r n → (r .offset ≡ at) × (n ≡ m)
+  on-is (done (taken s q)) at m o e =
       let same : q ≡ r = cc in
       (ap (λ (x : Row). x .offset) (sym same) ∙ o, cc)
-  on-is (Refused x) at m o e = absurd (stop≢on x st r n e)
+  on-is (refused number position) at m o e = absurd (stop≢on (record { number = number; position = position }) st r n e)
 
   on-from : (t u : Table) (s : List ℕ) (from : State) (at : ℕ) (x : Scanned) → segmentAt s at ≡ x → turnScan t u s from at x ≡ On st r n
       → (r .offset ≡ at) × (at + 4 ≤ n) × (n ≤ length s)

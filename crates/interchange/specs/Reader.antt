@@ -7,6 +7,7 @@ use lib.Dec.{eqb, ltb}
 use lib.ListN.{length, drop}
 use Rattle.laws.specs.Choice.{pick, either}
 use Rattle.laws.specs.Lists.{over}
+use Rattle.answers.specs.Answers.{Answer, done, refused, badSize, wrongEnvelope, outputTooShort}
 use Rattle.syntax.specs.declared.segment.Refusal.{Refusal}
 use Rattle.syntax.specs.declared.segment.Scanned.{Scanned}
 use Rattle.syntax.specs.declared.segment.Scanned.the-variants.{End, NotPermitted, Unended, Malformed}
@@ -18,28 +19,32 @@ use Rattle.steps.specs.declared.state.Phase.{Phase}
 use Rattle.steps.specs.declared.state.Phase.the-variants.{Opening, Between, Inside, Closed}
 use Rattle.steps.specs.declared.state.State.{State}
 use Rattle.steps.specs.declared.state.Row.{Row}
-use Rattle.steps.specs.declared.state.Step.{Step}
-use Rattle.steps.specs.declared.state.Step.the-variants.{Next, Refused}
 use Rattle.steps.specs.State.{openingState}
 use Rattle.placing.specs.Table.{Table}
 use Rattle.interchange.specs.declared.reader.Turn.{Turn}
 use Rattle.interchange.specs.declared.reader.Turn.the-variants.{On, Stop}
-use Rattle.interchange.specs.declared.reader.Answer.{Answer}
-use Rattle.interchange.specs.declared.reader.Answer.the-variants as answer
-use Rattle.steps.specs.Step.{segmentStep}
+use Rattle.interchange.specs.declared.reader.Reading.{Reading}
+use Rattle.interchange.specs.declared.reader.Reading.the-variants.{Rows, Refused}
+use Rattle.steps.specs.Step.{Taken, taken, segmentStep}
 
 -- what a reading ends with: the interchange is accepted, or its first fault is named with its place
-pub data Verdict : Type 0 where
-  accepted : Verdict
-  faulty : Refusal → Verdict
+abbrev pub Verdict : Type 0
+Verdict = Answer (Unit {0})
+
+abbrev pub accepted : Verdict
+accepted = done tt
+
+-- a refusal by value, as an answer
+abbrev pub faulty : {A : Type 0} → Refusal → Answer A
+faulty x = refused (x .number) (x .position)
 
 -- what a reading comes to: the rows of the segments before its end, and how it ends
 pub record Outcome : Type 0 where
   pub rows : List Row
   pub verdict : Verdict
 
-abbrev pub fault : ℕ → ℕ → Outcome
-fault number position = record { rows = []; verdict = faulty (record { number = number; position = position }) }
+abbrev pub fault : Verdict → Outcome
+fault v = record { rows = []; verdict = v }
 
 -- one row more before what follows
 abbrev pub before : Row → Outcome → Outcome
@@ -59,9 +64,9 @@ abbrev pub referenceOf : List ℕ → State → List ℕ
 referenceOf s st = bytesOf (drop (st .«headed_at») s) (st .reference)
 
 -- "the first faulty segment from the left, in it 4, 5, 6", then its step: the state and the offset after it, and its row
-abbrev pub turnStep : ℕ → Step → Turn
-turnStep next (Next st r) = On st r next
-turnStep next (Refused x) = Stop x
+abbrev pub turnStep : ℕ → Answer Taken → Turn
+turnStep next (done (taken st r)) = On st r next
+turnStep next (refused number position) = Stop (record { number = number; position = position })
 
 abbrev pub turnScan : Table → Table → List ℕ → State → ℕ → Scanned → Turn
 turnScan t u s st at (End e) = turnStep (e + 1) (segmentStep t u st at (bodyAt s at) (dialogueOf s st) (referenceOf s st))
@@ -75,24 +80,24 @@ turnAt t u s st at = turnScan t u s st at (segmentAt s at)
 -- `more` reads on from a state and an offset
 abbrev pub afterTurn : (State → ℕ → Outcome) → Turn → Outcome
 afterTurn more (On st r next) = before r (more st next)
-afterTurn more (Stop x) = record { rows = []; verdict = faulty x }
+afterTurn more (Stop x) = fault (faulty x)
 
 -- "Bytes after a good UIZ are 7 at the first of them and not tested further."
 -- "Input that stops between segments before UIZ is 7 at its length."
 -- The reading from a state and an offset on, of at most f segments: each takes a byte at least, so there are no more than bytes.
 unfoldable pub readOn : ℕ → List ℕ → State → ℕ → Outcome
-readOn zero s st at = fault 7 at
+readOn zero s st at = fault (wrongEnvelope at)
 readOn (suc f) s st at =
     pick (ltb at (length s))
-    (pick (isClosed (st .phase)) (fault 7 at) (afterTurn (readOn f s) (turnAt skdupdTable tsdupdTable s st at)))
-    (pick (isClosed (st .phase)) (record { rows = []; verdict = accepted }) (fault 7 (length s)))
+    (pick (isClosed (st .phase)) (fault (wrongEnvelope at)) (afterTurn (readOn f s) (turnAt skdupdTable tsdupdTable s st at)))
+    (pick (isClosed (st .phase)) (record { rows = []; verdict = accepted }) (fault (wrongEnvelope (length s))))
 
 -- "An interchange has 1 to 60,000 bytes": else 3
 abbrev pub sized : List ℕ → Bool
 sized s = either (eqb (length s) 0) (ltb 60000 (length s))
 
 unfoldable pub readingOf : List ℕ → Outcome
-readingOf s = pick (sized s) (fault 3 0) (readOn (length s + 1) s openingState 0)
+readingOf s = pick (sized s) (fault badSize) (readOn (length s + 1) s openingState 0)
 
 -- the rows as they are written into a lent buffer: three numbers each, offset, group and tag
 abbrev pub rowNumbers : Row → List ℕ
@@ -102,17 +107,22 @@ unfoldable pub numbers : List Row → List ℕ
 numbers [] = []
 numbers (r ∷ l) = rowNumbers r ++ numbers l
 
--- "17 last": the answer for a buffer of that room, and what the buffer holds then
-abbrev pub answerBy : List Row → ℕ → Verdict → Answer
-answerBy rows room accepted = pick (ltb room (3 * length rows)) (answer.Refused (record { number = 17; position = 0 })) (answer.Rows (length rows))
-answerBy rows room (faulty x) = answer.Refused x
+-- what each case answers: how many rows were written, or number and position
+abbrev pub readAnswer : Reading → Answer ℕ
+readAnswer (Rows n) = done n
+readAnswer (Refused x) = faulty x
 
-unfoldable pub answerOf : Outcome → ℕ → Answer
+-- "17 last": the answer for a buffer of that room, and what the buffer holds then
+abbrev pub answerBy : List Row → ℕ → Verdict → Answer ℕ
+answerBy rows room (done _) = pick (ltb room (3 * length rows)) outputTooShort (done (length rows))
+answerBy rows room (refused number position) = refused number position
+
+unfoldable pub answerOf : Outcome → ℕ → Answer ℕ
 answerOf o room = answerBy (o .rows) room (o .verdict)
 
 abbrev pub rowsBy : List Row → List ℕ → Verdict → List ℕ
-rowsBy rows lent accepted = pick (ltb (length lent) (3 * length rows)) lent (over (numbers rows) lent)
-rowsBy rows lent (faulty x) = lent
+rowsBy rows lent (done _) = pick (ltb (length lent) (3 * length rows)) lent (over (numbers rows) lent)
+rowsBy rows lent (refused number position) = lent
 
 unfoldable pub rowsAfter : Outcome → List ℕ → List ℕ
 rowsAfter o lent = rowsBy (o .rows) lent (o .verdict)

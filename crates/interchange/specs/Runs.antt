@@ -31,11 +31,10 @@ use Rattle.steps.specs.declared.state.Phase.{Phase}
 use Rattle.steps.specs.declared.state.Phase.the-variants.{Opening, Between, Inside, Closed}
 use Rattle.steps.specs.declared.state.State.{State}
 use Rattle.steps.specs.declared.state.Row.{Row}
-use Rattle.steps.specs.declared.state.Step.{Step}
-use Rattle.steps.specs.declared.state.Step.the-variants.{Next}
+use Rattle.answers.specs.Answers.{done}
 use Rattle.interchange.specs.declared.reader.Turn.the-variants.{On}
 use Rattle.steps.specs.State.{oneMore, onwardState, movedState}
-use Rattle.steps.specs.Step.{rowOf, isPeriod, judged, placed, inside, tableOf, stepBy, segmentStep}
+use Rattle.steps.specs.Step.{taken, rowOf, isPeriod, judged, placed, inside, tableOf, stepBy, segmentStep}
 use Rattle.interchange.specs.Reader.{isClosed, dialogueOf, referenceOf, turnStep, turnAt}
 use Rattle.interchange.specs.Laws.{putRow}
 use Rattle.steps.specs.Ways.{inside-placed}
@@ -74,11 +73,11 @@ pub part-is : (s : List ℕ) (at e : ℕ) → segmentAt s at ≡ End e → bytes
 part-is s at e h = body-slice s at e h
 
 module _ (st : State) (at : ℕ) (g reference : List ℕ) (p : Place) (group : ℕ) where
-  judged-good : (x : Period) → isGood x ≡ true → judged st at g p group x ≡ Next (onwardState st p) (rowOf at g group)
+  judged-good : (x : Period) → isGood x ≡ true → judged st at g p group x ≡ done (taken (onwardState st p) (rowOf at g group))
   judged-good (period.Good first days form) q = refl
   judged-good (period.Wrong x) q = absurd (false≢true q)
 
-  placed-good : (tagNumber g ≡ UIT → ⊥) → goodPart (st .kind) (tagNumber g) group g ≡ true → placed st at g reference group p ≡ Next (onwardState st p) (rowOf at g group)
+  placed-good : (tagNumber g ≡ UIT → ⊥) → goodPart (st .kind) (tagNumber g) group g ≡ true → placed st at g reference group p ≡ done (taken (onwardState st p) (rowOf at g group))
   unfolding placed
   placed-good h q =
       rw (ne-eqb (tagNumber g) UIT h)
@@ -93,7 +92,7 @@ module _ (s : List ℕ) (st : State) (at e : ℕ) (h : segmentAt s at ≡ End e)
 
   step-inside : (dialogue reference : List ℕ) → stepOf table (st .place) (tagNumber body) ≡ Placed p → (tagNumber body ≡ UIT → ⊥)
       → goodPart (st .kind) (tagNumber body) (groupOf table p) body ≡ true
-      → segmentStep skdupdTable tsdupdTable st at body dialogue reference ≡ Next (onwardState st p) (rowOf at body (groupOf table p))
+      → segmentStep skdupdTable tsdupdTable st at body dialogue reference ≡ done (taken (onwardState st p) (rowOf at body (groupOf table p)))
   unfolding stepBy
   step-inside dialogue reference x u q =
       ap (λ (f : Phase). stepBy skdupdTable tsdupdTable f st at body dialogue reference) i

@@ -22,7 +22,7 @@ ghost use mathlib.Core.Path.{_≡_};
 ghost use Prim.Native.Nat.{_+_, _*_, _≤_, _<_};
 ghost use lib.ListN.{length, drop};
 ghost use Rattle.parts.specs.Places.{bytesOf};
-ghost use Rattle.interchange.specs.Reader.{isClosed, dialogueOf, referenceOf, turnStep, turnAt, readingOf, answerOf, rowsAfter};
+ghost use Rattle.interchange.specs.Reader.{isClosed, dialogueOf, referenceOf, turnStep, turnAt, readingOf, readAnswer, answerOf, rowsAfter};
 ghost use Rattle.steps.specs.State.{openingState, movedState};
 ghost use Rattle.interchange.specs.Moves.{Moved};
 ghost use Rattle.interchange.specs.Chunks.{wholeFrom, endedAt, Chunk};
@@ -36,9 +36,10 @@ ghost use Rattle.hints.specs.SkdupdHints.{skdupdHints};
 ghost use Rattle.hints.specs.TsdupdHints.{tsdupdHints};
 
 /// What reading an interchange comes to.
-pub enum Answer {
+pub enum Reading {
     /// Accepted; how many rows were written.
     Rows(usize),
+    /// 3 to 10, or 17.
     Refused(Refusal),
 }
 
@@ -225,18 +226,18 @@ fn gather(
 
 /// Reads an interchange and writes its rows, three numbers each, to the front of a lent buffer. A refusal leaves the
 /// buffer as it was, and what stands past the rows stays too.
-pub fn read(interchange: &[u8], rows: &mut [u32]) -> Answer
-    ensures told { λ r. ⌜ r ≡ answerOf (readingOf (now (interchange .entry))) (length (now (rows .entry))) ⌝ }
+pub fn read(interchange: &[u8], rows: &mut [u32]) -> Reading
+    ensures told { λ r. ⌜ readAnswer r ≡ answerOf (readingOf (now (interchange .entry))) (length (now (rows .entry))) ⌝ }
     ensures left { λ _. ⌜ now (rows .exit) ≡ rowsAfter (readingOf (now (interchange .entry))) (now (rows .entry)) ⌝ }
 {
     if interchange.len() == 0 {
-        return Answer::Refused(Refusal {
+        return Reading::Refused(Refusal {
             number: 3,
             position: 0,
         });
     }
     if 60000 < interchange.len() {
-        return Answer::Refused(Refusal {
+        return Reading::Refused(Refusal {
             number: 3,
             position: 0,
         });
@@ -257,9 +258,9 @@ fn read_on(
     rows: &mut [u32],
     behind: usize,
     calls: usize,
-) -> Answer
+) -> Reading
     requires { ⌜ (now skdupd ≡ skdupdTable) × (now tsdupd ≡ tsdupdTable) × (now «skdupd_hints» ≡ skdupdHints) × (now «tsdupd_hints» ≡ tsdupdHints) × (length (now s) ≤ 60000) × (at ≤ length (now s)) × (4 * behind ≤ 3 * at) × (length (now s) < at + 250 * calls) ⌝ }
-    ensures { λ r. ⌜ Behind behind (wholeFrom (now (s .entry)) st at) (now (rows .entry)) r (now (rows .exit)) ⌝ }
+    ensures { λ r. ⌜ Behind behind (wholeFrom (now (s .entry)) st at) (now (rows .entry)) (readAnswer r) (now (rows .exit)) ⌝ }
 {
     let mut room = [0u32; 192];
     match gather(
@@ -274,13 +275,13 @@ fn read_on(
     ) {
         Gathered::Numbers(n) => {
             if rows.len() < behind + n {
-                return Answer::Refused(Refusal {
+                return Reading::Refused(Refusal {
                     number: 17,
                     position: 0,
                 });
             }
             copy_rows(&room, n, rows, behind);
-            Answer::Rows((behind + n) / 3)
+            Reading::Rows((behind + n) / 3)
         }
         Gathered::Full(next, then, n) => match read_on(
             s,
@@ -294,20 +295,20 @@ fn read_on(
             behind + n,
             calls - 1,
         ) {
-            Answer::Rows(m) => {
+            Reading::Rows(m) => {
                 copy_rows(&room, n, rows, behind);
-                Answer::Rows(m)
+                Reading::Rows(m)
             }
-            Answer::Refused(refusal) => Answer::Refused(refusal),
+            Reading::Refused(refusal) => Reading::Refused(refusal),
         },
-        Gathered::Faulty(refusal) => Answer::Refused(refusal),
+        Gathered::Faulty(refusal) => Reading::Refused(refusal),
     }
 }
 
 // The same for an interchange of 1 to 60,000 bytes.
-fn read_sized(s: &[u8], rows: &mut [u32]) -> Answer
+fn read_sized(s: &[u8], rows: &mut [u32]) -> Reading
     requires { ⌜ length (now s) ≤ 60000 ⌝ }
-    ensures told { λ r. ⌜ r ≡ answerOf (wholeFrom (now (s .entry)) openingState 0) (length (now (rows .entry))) ⌝ }
+    ensures told { λ r. ⌜ readAnswer r ≡ answerOf (wholeFrom (now (s .entry)) openingState 0) (length (now (rows .entry))) ⌝ }
     ensures left { λ _. ⌜ now (rows .exit) ≡ rowsAfter (wholeFrom (now (s .entry)) openingState 0) (now (rows .entry)) ⌝ }
 {
     let skd = skdupd();

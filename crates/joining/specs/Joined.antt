@@ -7,8 +7,9 @@ use mathlib.Core.List.{List, [], _∷_}
 use lib.Dec.{leb}
 use lib.ListN.{length}
 use Rattle.laws.specs.Choice.{pick, both, either}
+use Rattle.answers.specs.Answers.{Answer, done, refused, wrongPeriod, outsideWindow}
 use Rattle.calendar.specs.Days.{withBit, withDay}
-use Rattle.period.specs.Period.{periodOf, runsBy, runsIn}
+use Rattle.period.specs.Period.{Given, periodOf, popAnswer, runsBy, runsIn}
 use Rattle.period.specs.declared.Form.{Form}
 use Rattle.period.specs.declared.Period.{Period}
 use Rattle.period.specs.declared.Period.the-variants.{Good, Wrong}
@@ -51,11 +52,19 @@ unfoldable pub joinAll : List ℕ → ℕ → List (List ℕ) → List ℕ
 joinAll c o [] = c
 joinAll c o (g ∷ gs) = joinAll (joined c o g) o gs
 
--- "What each number means"
-unfoldable pub paperNumber : Joined → ℕ
-paperNumber Done = 0
-paperNumber (WrongPeriod x) = 10
-paperNumber Outside = 13
+-- what each case answers, of a POP at an offset
+abbrev pub joinedAnswer : ℕ → Joined → Answer (Unit {0})
+joinedAnswer at Done = done tt
+joinedAnswer at (WrongPeriod x) = wrongPeriod at
+joinedAnswer at Outside = outsideWindow at
+
+-- the POP's own answer first, then 13, at the POP
+abbrev pub windowed : ℕ → ℕ → ℕ → Answer Given → Answer (Unit {0})
+windowed at bytes o (done p) = pick (inWindow (8 * bytes) o (p .first) (p .count)) (done tt) (outsideWindow at)
+windowed at bytes o (refused number position) = refused number position
+
+abbrev pub joinAnswer : ℕ → ℕ → ℕ → List ℕ → Answer (Unit {0})
+joinAnswer at bytes o g = windowed at bytes o (popAnswer at g)
 
 -- whether a POP selects the day with a number
 abbrev pub selectsBy : List ℕ → Period → ℕ → Bool

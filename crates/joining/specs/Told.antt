@@ -1,17 +1,20 @@
 -- The answers of joining, in the order of the code.
 -- Assumes nothing.
-use mathlib.Core.Path.{_≡_}
+use mathlib.Core.Path.{_≡_, refl, ap, _∙_}
 use mathlib.Core.List.{List}
 use Prim.Native.Nat.{ℕ, _+_, _-_, _*_, _≤_, _<_}
 use borrow.Author.Tests.{le-leb, lt-leb}
 use lib.ListN.{length}
-use Rattle.period.specs.Period.{periodOf, runsBy}
+use Rattle.laws.specs.Choice.{choose}
+use Rattle.period.specs.Period.{periodOf, periodAnswer, runsBy}
+use Rattle.period.specs.Said.{pop-said}
+use Rattle.period.specs.declared.Period.{Period}
 use Rattle.period.specs.declared.Fault.{Fault}
 use Rattle.period.specs.declared.Form.{Form}
 use Rattle.period.specs.declared.Period.the-variants.{Good, Wrong}
 use Rattle.joining.specs.declared.Joined.{Joined}
 use Rattle.joining.specs.declared.Joined.the-variants.{Done, WrongPeriod, Outside}
-use Rattle.joining.specs.Joined.{marked, windowAnswer, windowDays, answered, joined}
+use Rattle.joining.specs.Joined.{marked, inWindow, windowAnswer, windowDays, answerBy, answered, joined, joinedAnswer, windowed, joinAnswer}
 
 module _ (c : List ℕ) (o : ℕ) (g : List ℕ) (f n : ℕ) (form : Form) where
   pub before-window : f < o → (Outside ≡ windowAnswer (length c) o f n) × (c ≡ windowDays c o g f n form)
@@ -37,3 +40,13 @@ module _ (c : List ℕ) (o : ℕ) (g : List ℕ) where
       → (r ≡ windowAnswer (length c) o f n) × (last ≡ windowDays c o g f n form) → (r ≡ answered (length c) o g) × (last ≡ joined c o g)
   unfolding answered joined
   good-told e w = (rw e (w .0), rw e (w .1))
+
+-- what joining comes to is what the table answers
+by-said : (at bytes o : ℕ) (p : Period) → joinedAnswer at (answerBy bytes o p) ≡ windowed at bytes o (periodAnswer at p)
+unfolding windowAnswer
+by-said at bytes o (Wrong x) = refl
+by-said at bytes o (Good f n form) = choose (inWindow (8 * bytes) o f n) (λ q. rw q) (λ q. rw q)
+
+pub join-said : (at bytes o : ℕ) (g : List ℕ) {r : Joined} → r ≡ answered bytes o g → joinedAnswer at r ≡ joinAnswer at bytes o g
+unfolding answered
+join-said at bytes o g e = ap (joinedAnswer at) e ∙ by-said at bytes o (periodOf g) ∙ ap (windowed at bytes o) (pop-said at g)

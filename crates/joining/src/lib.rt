@@ -22,13 +22,14 @@ ghost use Rattle.parts.specs.Places.{bytesOf};
 ghost use Rattle.dates.specs.Days.{weekdayOf};
 ghost use Rattle.calendar.specs.Days.{hasBit, withDay};
 ghost use Rattle.period.specs.Period.{weekText, rising, runsBy, periodOf};
-ghost use Rattle.joining.specs.Joined.{marked, weekBits, inWindow, windowAnswer, windowDays, answered, joined};
+ghost use Rattle.joining.specs.Joined.{marked, weekBits, inWindow, windowAnswer, windowDays, answered, joined, joinedAnswer, joinAnswer};
 
 /// What came of joining a period.
 pub enum Joined {
     Done,
+    /// 10: which part is wrong.
     WrongPeriod(Fault),
-    /// The period is not wholly in the window.
+    /// 13: the period is not wholly in the window.
     Outside,
 }
 
@@ -149,7 +150,8 @@ fn join_form(
 /// Selects the days of a POP's period in a calendar of 8 days for each byte, whose first day has the number `origin`.
 /// On a refusal the calendar stays as it was.
 pub fn join_period(days: &mut [u8], origin: usize, s: &[u8], segment: Part) -> Joined
-    ensures { λ r. ⌜ (r ≡ answered (length (now (days .entry))) origin (bytesOf (now (s .entry)) segment)) × (now (days .exit) ≡ joined (now (days .entry)) origin (bytesOf (now (s .entry)) segment)) ⌝ }
+    ensures told { λ r. ⌜ (r ≡ answered (length (now (days .entry))) origin (bytesOf (now (s .entry)) segment)) × (now (days .exit) ≡ joined (now (days .entry)) origin (bytesOf (now (s .entry)) segment)) ⌝ }
+    ensures said { λ r. ⌜ joinedAnswer (segment .from) r ≡ joinAnswer (segment .from) (length (now (days .entry))) origin (bytesOf (now (s .entry)) segment) ⌝ }
 {
     match read_period(s, segment) {
         Period::Wrong(fault) => Joined::WrongPeriod(fault),

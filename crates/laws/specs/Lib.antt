@@ -3,3 +3,4 @@ pub mod Sweep
 pub mod Negs
 pub mod Lists
 pub mod Joined
+pub mod Text

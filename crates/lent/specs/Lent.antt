@@ -1,5 +1,5 @@
 -- What a reader over the lent interchange finds where it has come to. Assumes nothing.
-use Prim.Native.Nat.{ℕ, _+_}
+use Prim.Native.Nat.{ℕ, zero, suc, _+_}
 use mathlib.Core.List.{List}
 use lib.Dec.{leb}
 use lib.ListN.{length, drop}
@@ -17,6 +17,21 @@ toldOf s at (NotPermitted i) = Refused (refusalOf at (NotPermitted i))
 toldOf s at Unended = Refused (refusalOf at Unended)
 toldOf s at Malformed = Refused (refusalOf at Malformed)
 
--- "The reader walks forward only": what stands at an offset, nothing where the interchange is over
+-- what stands at an offset, nothing where the interchange is over
 unfoldable pub foundAt : List ℕ → ℕ → Found
 foundAt s at = pick (leb (length s) at) Over (toldOf s at (segmentAt s at))
+
+-- past the segment that is found, and no further where none is
+abbrev pub afterFound : ℕ → Found → ℕ
+afterFound at (Segment tag after) = after
+afterFound at Over = at
+afterFound at (Refused refusal) = at
+
+-- "The reader walks forward only": where it stands once it has passed what stands at an offset
+unfoldable pub offsetAfter : List ℕ → ℕ → ℕ
+offsetAfter s at = afterFound at (foundAt s at)
+
+-- where it stands once it has passed n segments, from the first byte
+unfoldable pub offsetPast : List ℕ → ℕ → ℕ
+offsetPast s zero = 0
+offsetPast s (suc n) = offsetAfter s (offsetPast s n)

@@ -1,12 +1,12 @@
 //! The reader over the lent interchange: the slice, and how far it has come ("The reader walks forward only").
-//! Its functions are thin: each takes the struct apart and calls `segment_at`, which takes a plain slice.
+//! Its functions are thin: each takes the struct apart and calls a function that takes a plain slice.
 
 use syntax::segment::Refusal;
 use syntax::segment::Scanned;
 use syntax::segment::read_segment;
 use syntax::segment::tag_at;
 ghost use mathlib.Core.Path.{_≡_};
-ghost use Rattle.lent.specs.Lent.{foundAt};
+ghost use Rattle.lent.specs.Lent.{foundAt, offsetAfter, offsetPast};
 
 /// What stands where the reader has come to.
 pub enum Found {
@@ -20,8 +20,8 @@ pub enum Found {
 
 /// A reader over the lent interchange, remembering how far it has come.
 pub struct Reader<'a> {
-    pub src: &'a [u8],
-    pub at: usize,
+    src: &'a [u8],
+    at: usize,
 }
 
 /// What stands at an offset of an interchange.
@@ -40,6 +40,17 @@ pub fn segment_at(s: &[u8], at: usize) -> Found
     }
 }
 
+/// Where the reader stands once it has passed what stands at an offset.
+pub fn offset_after(s: &[u8], at: usize) -> usize
+    ensures { λ r. ⌜ r ≡ offsetAfter (now (s .entry)) at ⌝ }
+{
+    match segment_at(s, at) {
+        Found::Segment(_, after) => after,
+        Found::Over => at,
+        Found::Refused(_) => at,
+    }
+}
+
 /// Before the first byte.
 pub fn new<'a>(src: &'a [u8]) -> Reader<'a>
     ensures { λ r. ⌜ (r .src ≡ src .entry) × (r .at ≡ 0) ⌝ }
@@ -54,16 +65,25 @@ pub fn next<'a>(r: Reader<'a>) -> Found
     segment_at(r.src, r.at)
 }
 
-/// The same reader, come as far as an offset.
-pub fn moved<'a>(r: Reader<'a>, at: usize) -> Reader<'a>
-    ensures { λ q. ⌜ (q .src ≡ r .entry .src) × (q .at ≡ at) ⌝ }
+/// The reader past the segment that `next` finds, or where it is if `next` finds none.
+pub fn passed<'a>(r: Reader<'a>) -> Reader<'a>
+    ensures { λ q. ⌜ (q .src ≡ r .entry .src) × (q .at ≡ offsetAfter (now (r .entry .src)) (r .entry .at)) ⌝ }
 {
-    Reader { src: r.src, at }
+    Reader {
+        src: r.src,
+        at: offset_after(r.src, r.at),
+    }
 }
 
-/// What stands at the interchange's first byte.
-pub fn first(s: &[u8]) -> Found
-    ensures { λ r. ⌜ r ≡ foundAt (now (s .entry)) 0 ⌝ }
+/// What a reader finds once it has passed n segments of an interchange.
+pub fn found_past(s: &[u8], n: usize) -> Found
+    ensures { λ r. ⌜ r ≡ foundAt (now (s .entry)) (offsetPast (now (s .entry)) n) ⌝ }
 {
-    next(new(s))
+    let mut r = new(s);
+    let mut i = 0;
+    while i < n {
+        r = passed(r);
+        i += 1;
+    }
+    next(r)
 }

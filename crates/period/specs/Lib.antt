@@ -1,4 +1,5 @@
 pub mod Period
+pub mod Said
 pub mod Tests
 pub mod Steps
 pub mod Facts

@@ -7,6 +7,7 @@ use mathlib.Core.List.{List, [], _∷_}
 use lib.Dec.{eqb, leb, ltb}
 use lib.ListN.{length, getD}
 use Rattle.laws.specs.Choice.{pick, both, either, all, among}
+use Rattle.answers.specs.Answers.{Answer, done, wrongPeriod}
 use Rattle.syntax.specs.Bytes.{plain}
 use Rattle.syntax.specs.Pieces.{partOf}
 use Rattle.parts.specs.Places.{repeats}
@@ -116,10 +117,28 @@ faultNumber BothForms = 4
 faultNumber NeitherForm = 5
 faultNumber BadRest = 6
 
--- "What each number means": 10, POP contents, whichever part is wrong
-abbrev pub paperNumber : Period → ℕ
-paperNumber (Good f n form) = 0
-paperNumber (Wrong x) = 10
+-- the days that a POP gives: the number of the first, how many there are, and what tells which of them run
+pub record Given : Type 0 where
+  pub first : ℕ
+  pub count : ℕ
+  pub form : Form
+
+-- what each case answers, of a POP at an offset
+abbrev pub periodAnswer : ℕ → Period → Answer Given
+periodAnswer at (Good f n form) = done (record { first = f; count = n; form = form })
+periodAnswer at (Wrong x) = wrongPeriod at
+
+-- 10, "POP contents", at the POP, whichever part is wrong; else its days
+abbrev pub popBy : ℕ → Formed → Bool → ℕ → ℕ → Answer Given
+popBy at (Faulty x) rest f n = wrongPeriod at
+popBy at (Told form) rest f n = pick rest (done (record { first = f; count = n; form = form })) (wrongPeriod at)
+
+abbrev pub popOn : ℕ → Span → List ℕ → Answer Given
+popOn at NoSpan g = wrongPeriod at
+popOn at (Days f n) g = popBy at (formedOf n (dayText g) (weekText g)) (restGood g) f n
+
+unfoldable pub popAnswer : ℕ → List ℕ → Answer Given
+popAnswer at g = popOn at (spanIn (firstLast g)) g
 
 -- whether the day k days after the first runs, f the number of the first
 unfoldable pub runsBy : List ℕ → Form → ℕ → ℕ → Bool

@@ -14,13 +14,13 @@ use values::Next;
 use values::next_byte;
 ghost use mathlib.Core.Path.{_≡_};
 ghost use lib.Dec.{eqb};
-ghost use Prim.Native.Nat.{_≤_};
+ghost use Prim.Native.Nat.{ℕ, _≤_};
 ghost use lib.ListN.{length, getD, drop};
 ghost use Rattle.laws.specs.Choice.{both, all};
 ghost use Rattle.syntax.specs.Bytes.{plain};
 ghost use Rattle.syntax.specs.Pieces.{partOf};
 ghost use Rattle.parts.specs.Places.{bytesOf};
-ghost use Rattle.period.specs.Period.{present, spanBetween, spanIn, zeroOrOne, dayString, fitsDays, rising, formWithout, formedOf, restGood, periodOf, faultNumber, runsBy, runsIn};
+ghost use Rattle.period.specs.Period.{present, spanBetween, spanIn, zeroOrOne, dayString, fitsDays, rising, formWithout, formedOf, restGood, periodOf, periodAnswer, popAnswer, faultNumber, runsBy, runsIn};
 ghost use Rattle.period.specs.Written.{Begins, spanTold, periodTold, Word};
 
 /// What tells the days of a period.
@@ -406,7 +406,8 @@ fn read_written(g: &[u8]) -> Period
 
 /// The period that a POP gives, the segment without its terminator.
 pub fn read_period(s: &[u8], segment: Part) -> Period
-    ensures { λ r. ⌜ r ≡ periodOf (bytesOf (now (s .entry)) segment) ⌝ }
+    ensures period { λ r. ⌜ r ≡ periodOf (bytesOf (now (s .entry)) segment) ⌝ }
+    ensures said { λ r. ⌜ ((at : ℕ) → periodAnswer at r ≡ popAnswer at (bytesOf (now (s .entry)) segment)) ⌝ }
 {
     match read_written(bytes_of(s, segment)) {
         Period::Good(first, count, form) => Period::Good(first, count, form),

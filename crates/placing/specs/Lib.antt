@@ -1,11 +1,12 @@
 pub mod Table
 pub mod Place
 pub mod Rule
+pub mod Answer
+pub mod Said
 pub mod Reading
 pub mod Tags
 pub mod Skdupd
 pub mod Tsdupd
-pub mod Cases
 pub mod Walks
 pub mod Laws
 pub mod WellFormed

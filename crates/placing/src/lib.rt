@@ -2,10 +2,11 @@
 pub mod tables;
 
 ghost use mathlib.Core.Path.{_≡_};
-ghost use Prim.Native.Nat.{_-_};
+ghost use Prim.Native.Nat.{ℕ, _-_};
 ghost use Rattle.placing.specs.Table.{entryOf, afterOf, endOf, levelOf};
 ghost use Rattle.placing.specs.Place.{countAt, keptOf, reachedOf, startPlace};
 ghost use Rattle.placing.specs.Rule.{inGroup, fits, again, firstOf, stepOf, mayEnd, groupOf};
+ghost use Rattle.placing.specs.Answer.{steppedAnswer, placeAnswer};
 ghost use Rattle.placing.specs.Reading.{readGroup, turnOf};
 
 // The row reached, and how often each open level has been entered: the place itself at its own level,
@@ -278,7 +279,8 @@ impl Place {
 
     // The place of the next segment, by its tag.
     pub fn step(self, table: &[[u32; 8]], tag: u32) -> Stepped
-        ensures { λ r. ⌜ r ≡ stepOf (now (table .entry)) self tag ⌝ }
+        ensures step { λ r. ⌜ r ≡ stepOf (now (table .entry)) self tag ⌝ }
+        ensures said { λ r. ⌜ ((at : ℕ) → steppedAnswer at r ≡ placeAnswer at (now (table .entry)) self tag) ⌝ }
     {
         let mut row = self.row;
         let mut level = level_of(table, row);

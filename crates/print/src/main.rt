@@ -1,7 +1,7 @@
 //! Reads an interchange from standard input and prints its rows, or the refusal (document 01, "Printed whole").
 //! The text is gathered and written at once.
 
-use interchange::reader::Answer;
+use interchange::reader::Reading;
 use interchange::reader::read;
 use libc::STDOUT_FILENO;
 use parts::Part;
@@ -36,7 +36,7 @@ fn main() {
     let n = io::read_full(0, &mut input);
     let mut rows = [0u32; 45000];
     match read(&input[..n], &mut rows) {
-        Answer::Rows(k) => print_rows(&rows, k),
-        Answer::Refused(refusal) => print_refusal(refusal.number, refusal.position),
+        Reading::Rows(k) => print_rows(&rows, k),
+        Reading::Refused(refusal) => print_refusal(refusal.number, refusal.position),
     }
 }

@@ -2,7 +2,7 @@
 //! A service is a line: the offset of its PRD, its number as written, `put` or `del`, and the offsets of its POPs.
 //! Below its services stands the answer: `services` and how many, or `refused`, number and position.
 
-use interchange::reader::Answer;
+use interchange::reader::Reading;
 use interchange::reader::read;
 use libc::STDOUT_FILENO;
 use parts::bytes_of;
@@ -120,8 +120,8 @@ fn answer_rows(s: &[u8], rows: &[u32], n: usize) {
 fn answer_line(s: &[u8]) {
     let mut rows = [0u32; 45000];
     match read(s, &mut rows) {
-        Answer::Rows(n) => answer_rows(s, &rows, n),
-        Answer::Refused(refusal) => print_refusal(refusal),
+        Reading::Rows(n) => answer_rows(s, &rows, n),
+        Reading::Refused(refusal) => print_refusal(refusal),
     }
 }
 

@@ -9,12 +9,10 @@ use borrow.Author.Tests.{lt-ltb, ltb-true}
 use lib.Dec.{ltb}
 use lib.ListN.{length, length-append, List·getD-append}
 use Rattle.laws.specs.Choice.{choose}
+use Rattle.answers.specs.Answers.{Answer, done, refused}
 use Rattle.parts.specs.Places.{bytesOf}
 use Rattle.placing.specs.Tags.{PRD, MSD, POP, UIT}
 use Rattle.services.specs.declared.Service.{Service}
-use Rattle.services.specs.declared.Tested.{Tested}
-use Rattle.services.specs.declared.Tested.the-variants.{Good, Refused}
-use Rattle.services.specs.declared.Counted.{Counted}
 use Rattle.services.specs.Rows.{offsetAt, isRow, rowCount, firstOf, firstFrom, listOf, first-bounds}
 use Rattle.services.specs.Services.{isService, isPeriod, serviceEnd, removes, serviceAt, nextService, nextPeriod, hasPeriod, isWrong, isSame, isTwice, testedOf, afterTest, countOn, countedOf}
 use Rattle.services.specs.Laws.{service-rows}
@@ -32,9 +30,9 @@ first-same : (f g : ℕ → Bool) (i n : ℕ) → Agree f g i n → firstFrom f 
 first-same f g i n h = of-same f g (n - i) i (λ j a b. h j a (omega arith))
 
 -- a count that goes on in the same way
-after-same : (f g : ℕ → Counted) → ((c : ℕ) → f c ≡ g c) → (count : ℕ) (t : Tested) → afterTest f count t ≡ afterTest g count t
-after-same f g h count Good = h (count + 1)
-after-same f g h count (Refused x) = refl
+after-same : (f g : ℕ → Answer ℕ) → ((c : ℕ) → f c ≡ g c) → (count : ℕ) (t : Answer (Unit {0})) → afterTest f count t ≡ afterTest g count t
+after-same f g h count (done _) = h (count + 1)
+after-same f g h count (refused number position) = refl
 
 module _ (l m : List ℕ) (n : ℕ) (h : 3 * n ≤ length l) where
   -- so many rows are held, with more behind them or not

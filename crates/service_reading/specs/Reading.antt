@@ -10,10 +10,10 @@ use lib.ListN.{length, getD, drop}
 use borrow.Author.Tests.{lt-ltb}
 use Rattle.laws.specs.Choice.{both, choose}
 use Rattle.laws.specs.Lists.{over}
-use Rattle.syntax.specs.declared.segment.Refusal.{Refusal}
 use Rattle.steps.specs.declared.state.Row.{Row}
-use Rattle.interchange.specs.declared.reader.Answer.the-variants as answer
-use Rattle.interchange.specs.Reader.{Verdict, accepted, faulty, readingOf, numbers, answerBy, answerOf, rowsBy, rowsAfter}
+use Rattle.answers.specs.Answers.{done, refused}
+use Rattle.answers.specs.Laws.{refused≢done, done-is}
+use Rattle.interchange.specs.Reader.{Verdict, readingOf, numbers, answerBy, answerOf, rowsBy, rowsAfter}
 use Rattle.interchange.specs.Laws.{length-numbers}
 use Rattle.services.specs.declared.Service.{Service}
 use Rattle.services.specs.Rows.{offsetAt, isRow}
@@ -49,24 +49,18 @@ module _ (rows : List Row) (i : ℕ) (z : Row) (h : i < length rows) where
       rw (held, w .1, w .2)
 
 -- an answer of n rows: they are all there, and stand at the front of the buffer
-refused≢rows : (x : Refusal) (n : ℕ) → answer.Refused x ≡ answer.Rows n → ⊥
-refused≢rows x n q = let y : _≡_ {A = ℕ} 0 1 = cc in omega arith
-
-rows-is : (m n : ℕ) → answer.Rows m ≡ answer.Rows n → m ≡ n
-rows-is m n q = cc
-
 abbrev Stands : List Row → List ℕ → ℕ → Verdict → Type 0
 Stands rows lent n v = (length rows ≡ n) × (rowsBy rows lent v ≡ numbers rows ++ drop (length (numbers rows)) lent)
 
-stands-by : (rows : List Row) (lent : List ℕ) (n : ℕ) (v : Verdict) → answerBy rows (length lent) v ≡ answer.Rows n → Stands rows lent n v
+stands-by : (rows : List Row) (lent : List ℕ) (n : ℕ) (v : Verdict) → answerBy rows (length lent) v ≡ done n → Stands rows lent n v
 unfolding over
-stands-by rows lent n accepted q =
+stands-by rows lent n (done _) q =
     choose (ltb (length lent) (3 * length rows))
-    (λ p. absurd (refused≢rows (record { number = 17; position = 0 }) n (rw p at q)))
-    (λ p. (rows-is (length rows) n (rw p at q), rw p))
-stands-by rows lent n (faulty x) q = absurd (refused≢rows x n q)
+    (λ p. absurd (refused≢done (rw p at q)))
+    (λ p. (done-is (rw p at q), rw p))
+stands-by rows lent n (refused number position) q = absurd (refused≢done q)
 
-module _ (s lent : List ℕ) (n : ℕ) (q : answerOf (readingOf s) (length lent) ≡ answer.Rows n) where
+module _ (s lent : List ℕ) (n : ℕ) (q : answerOf (readingOf s) (length lent) ≡ done n) where
   abbrev rows : List ℕ
   rows = numbers (readingOf s .rows)
 

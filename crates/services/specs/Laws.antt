@@ -10,14 +10,14 @@ use lib.Dec.{leb}
 use lib.ListN.{length}
 use Rattle.laws.specs.Choice.{both, both-parts, choose}
 use Rattle.placing.specs.Tags.{UIT}
-use Rattle.syntax.specs.declared.segment.Refusal.{Refusal}
+use Rattle.answers.specs.Answers.{done}
+use Rattle.answers.specs.Laws.{refused≢done}
 use Rattle.syntax.specs.Bytes.{plain}
 use Rattle.syntax.specs.Pieces.{partOf}
 use Rattle.syntax.specs.Segment.{bodyAt}
 use Rattle.parts.specs.Places.{bytesOf}
 use Rattle.parts.specs.Located.{part-bytes}
 use Rattle.services.specs.declared.Service.{Service}
-use Rattle.services.specs.declared.Tested.the-variants.{Good, Refused}
 use Rattle.services.specs.Rows.{isRow, rowCount, firstFrom, first-bounds, some-none}
 use Rattle.services.specs.Marks.{body-end}
 use Rattle.services.specs.Services.{isService, segmentOf, serviceEnd, numberOf, numberFits, periodsFit, hasPeriod, periodsOf, isWrong, isSame, isTwice, testedOf}
@@ -48,9 +48,6 @@ pub record Fine (s rows : List ℕ) (v : Service) : Type 0 where
   -- no service before it has its number
   pub alone : (j : ℕ) → j < rowCount rows (v .from) → isSame s rows (bytesOf s (v .number)) j ≡ false
 
-good≢refused : (x : Refusal) → Refused x ≡ Good → ⊥
-good≢refused x q = let z : _≡_ {A = ℕ} 0 1 = cc in omega arith
-
 module _ (s rows : List ℕ) (v : Service) where
   abbrev size : ℕ
   size = length (plain (bytesOf s (v .number)))
@@ -71,11 +68,11 @@ module _ (s rows : List ℕ) (v : Service) where
         alone = λ j h. some-none (isSame s rows (bytesOf s (v .number))) 0 (rowCount rows (v .from)) q j (omega arith) h;
       }
 
-  pub good-fine : testedOf s rows v ≡ Good → Fine s rows v
+  pub good-fine : testedOf s rows v ≡ done tt → Fine s rows v
   unfolding testedOf
   good-fine t =
-      choose (isWrong s rows v) (λ p. absurd (good≢refused (record { number = 11; position = v .prd }) (rw p at t)))
+      choose (isWrong s rows v) (λ p. absurd (refused≢done (rw p at t)))
       (λ p.
       choose (isTwice s rows (bytesOf s (v .number)) (v .from))
-      (λ q. absurd (good≢refused (record { number = 12; position = v .prd }) (rw (p, q) at t)))
+      (λ q. absurd (refused≢done (rw (p, q) at t)))
       (λ q. right-fine p q))

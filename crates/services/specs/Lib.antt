@@ -4,4 +4,4 @@ pub mod Same
 pub mod Services
 pub mod Ways
 pub mod Laws
-pub mod Cases
+pub mod Tables

@@ -7,6 +7,7 @@ use mathlib.Core.List.{List, [], _∷_}
 use lib.Dec.{ltb, leb}
 use lib.ListN.{length}
 use Rattle.laws.specs.Choice.{pick, both}
+use Rattle.answers.specs.Answers.{Answer, done, refused, wrongService, numberTwice}
 use Rattle.syntax.specs.Bytes.{plain}
 use Rattle.syntax.specs.Segment.{bodyAt}
 use Rattle.syntax.specs.Pieces.{partOf}
@@ -117,14 +118,11 @@ isSame s rows number k = both (isService rows k) (saysNumber s (offsetAt rows k)
 unfoldable pub isTwice : List ℕ → List ℕ → List ℕ → ℕ → Bool
 isTwice s rows number before = someFrom (isSame s rows number) 0 (rowCount rows before)
 
-abbrev pub refuse : ℕ → ℕ → Tested
-refuse number position = Refused (record { number = number; position = position })
-
 -- "services in order, each 11, 12", at its PRD
-unfoldable pub testedOf : List ℕ → List ℕ → Service → Tested
+unfoldable pub testedOf : List ℕ → List ℕ → Service → Answer (Unit {0})
 testedOf s rows v =
-    pick (isWrong s rows v) (refuse 11 (v .prd))
-    (pick (isTwice s rows (bytesOf s (v .number)) (v .from)) (refuse 12 (v .prd)) Good)
+    pick (isWrong s rows v) (wrongService (v .prd))
+    (pick (isTwice s rows (bytesOf s (v .number)) (v .from)) (numberTwice (v .prd)) (done tt))
 
 -- the services from row i on, of n rows, and those of an interchange, in order
 abbrev pub servicesFrom : List ℕ → List ℕ → ℕ → ℕ → List Service
@@ -134,27 +132,23 @@ abbrev pub servicesOf : List ℕ → List ℕ → ℕ → List Service
 servicesOf s rows n = servicesFrom s rows (rowCount rows n) 0
 
 -- `more` counts on from the number of services so far
-abbrev pub afterTest : (ℕ → Counted) → ℕ → Tested → Counted
-afterTest more count Good = more (count + 1)
-afterTest more count (Refused x) = counted.Refused x
+abbrev pub afterTest : (ℕ → Answer ℕ) → ℕ → Answer (Unit {0}) → Answer ℕ
+afterTest more count (done _) = more (count + 1)
+afterTest more count (refused number position) = refused number position
 
 -- the first refusal, or the number of services
-unfoldable pub countOn : List ℕ → List ℕ → List Service → ℕ → Counted
-countOn s rows [] count = counted.Services count
+unfoldable pub countOn : List ℕ → List ℕ → List Service → ℕ → Answer ℕ
+countOn s rows [] count = done count
 countOn s rows (v ∷ l) count = afterTest (countOn s rows l) count (testedOf s rows v)
 
-unfoldable pub countedOf : List ℕ → List ℕ → ℕ → Counted
+unfoldable pub countedOf : List ℕ → List ℕ → ℕ → Answer ℕ
 countedOf s rows n = countOn s rows (servicesOf s rows n) 0
 
--- document 01's number and value of each case: 0 where all is done, and the number of services; else the number and its position
-pub record Answer : Type 0 where
-  pub number : ℕ
-  pub value : ℕ
+-- what each case answers: nothing, or the number of services, where all is good; else number and position
+abbrev pub testedAnswer : Tested → Answer (Unit {0})
+testedAnswer Good = done tt
+testedAnswer (Refused x) = refused (x .number) (x .position)
 
-abbrev pub testedAnswer : Tested → Answer
-testedAnswer Good = record { number = 0; value = 0 }
-testedAnswer (Refused x) = record { number = x .number; value = x .position }
-
-abbrev pub countedAnswer : Counted → Answer
-countedAnswer (counted.Services k) = record { number = 0; value = k }
-countedAnswer (counted.Refused x) = record { number = x .number; value = x .position }
+abbrev pub countedAnswer : Counted → Answer ℕ
+countedAnswer (counted.Services k) = done k
+countedAnswer (counted.Refused x) = refused (x .number) (x .position)

@@ -11,6 +11,7 @@ use lib.Dec.{eqb, ltb}
 use lib.ListN.{length, getD, drop, List·getD-eq-default}
 use Rattle.laws.specs.Choice.{false≢true, choose}
 use Rattle.laws.specs.Lists.{drop-past}
+use Rattle.answers.specs.Answers.{done, refused, wrongService, numberTwice}
 use Rattle.syntax.specs.declared.segment.Refusal.{Refusal}
 use Rattle.syntax.specs.Bytes.{plain}
 use Rattle.syntax.specs.Pieces.{partOf}
@@ -23,12 +24,10 @@ use Rattle.placing.specs.Tags.{PRD, MSD, UIT}
 use Rattle.services.specs.declared.Service.{Service}
 use Rattle.services.specs.declared.Found.the-variants as found
 use Rattle.services.specs.declared.FoundPeriod.the-variants as period
-use Rattle.services.specs.declared.Tested.the-variants.{Good, Refused}
-use Rattle.services.specs.declared.Counted.the-variants as counted
 use Rattle.services.specs.Rows.{offsetAt, isRow, rowCount, firstFrom, first-past, first-here, first-bounds, list-none, list-some}
 use Rattle.services.specs.Marks.{endsSegment, endsElement, endsComponent, firstBy, stopOf, by-between, first-by, body-end, part-none, part-past, part-some}
 use Rattle.services.specs.Same.{startOf}
-use Rattle.services.specs.Services.{isService, isPeriod, segmentOf, numberOf, saysNumber, saysRemoval, removes, serviceAt, nextService, nextPeriod, hasPeriod, isWrong, isSame, isTwice, refuse, testedOf, servicesFrom, periodsFrom, countOn, countedOf}
+use Rattle.services.specs.Services.{isService, isPeriod, segmentOf, numberOf, saysNumber, saysRemoval, removes, serviceAt, nextService, nextPeriod, hasPeriod, isWrong, isSame, isTwice, testedOf, servicesFrom, periodsFrom, countOn, countedOf}
 
 -- the bytes of a segment
 pub segment-bytes : (s : List ℕ) (at to : ℕ) → to ≡ stopOf endsSegment s at → bytesOf s (record { from = at; to = to }) ≡ bodyAt s at
@@ -163,16 +162,16 @@ module _ (s rows number : List ℕ) (before n i : ℕ) (a : n ≡ rowCount rows 
 
 -- 11, then 12
 module _ (s rows : List ℕ) (v : Service) where
-  pub tested-wrong : isWrong s rows v ≡ true → refuse 11 (v .prd) ≡ testedOf s rows v
+  pub tested-wrong : isWrong s rows v ≡ true → wrongService (v .prd) ≡ testedOf s rows v
   unfolding testedOf
   tested-wrong p = rw p
 
   module _ (p : isWrong s rows v ≡ false) (t : List ℕ) (e : t ≡ bytesOf s (v .number)) where
-    pub tested-twice : isTwice s rows t (v .from) ≡ true → refuse 12 (v .prd) ≡ testedOf s rows v
+    pub tested-twice : isTwice s rows t (v .from) ≡ true → numberTwice (v .prd) ≡ testedOf s rows v
     unfolding testedOf
     tested-twice q = rw (p, sym e, q)
 
-    pub tested-good : isTwice s rows t (v .from) ≡ false → Good ≡ testedOf s rows v
+    pub tested-good : isTwice s rows t (v .from) ≡ false → done tt ≡ testedOf s rows v
     unfolding testedOf
     tested-good q = rw (p, sym e, q)
 
@@ -259,16 +258,16 @@ module _ (rows : List ℕ) (i to : ℕ) where
 
 -- the count goes on
 module _ (s rows : List ℕ) (l : List Service) (count : ℕ) where
-  pub count-none : l ≡ [] → countOn s rows l count ≡ counted.Services count
+  pub count-none : l ≡ [] → countOn s rows l count ≡ done count
   unfolding countOn
   count-none e = rw e
 
   module _ (v : Service) (rest : List Service) (e : l ≡ v ∷ rest) where
-    pub count-good : testedOf s rows v ≡ Good → countOn s rows l count ≡ countOn s rows rest (count + 1)
+    pub count-good : testedOf s rows v ≡ done tt → countOn s rows l count ≡ countOn s rows rest (count + 1)
     unfolding countOn
     count-good q = rw (e, q)
 
-    pub count-stop : (x : Refusal) → testedOf s rows v ≡ Refused x → countOn s rows l count ≡ counted.Refused x
+    pub count-stop : (x : Refusal) → testedOf s rows v ≡ refused (x .number) (x .position) → countOn s rows l count ≡ refused (x .number) (x .position)
     unfolding countOn
     count-stop x q = rw (e, q)
 

@@ -17,7 +17,7 @@ use parts::bytes_of;
 use syntax::segment::Refusal;
 ghost use mathlib.Core.Path.{_≡_};
 ghost use Prim.Native.Nat.{_<_};
-ghost use Rattle.services.specs.Services.{segmentOf, removes, serviceAt, nextService, nextPeriod, hasPeriod, isWrong, isSame, isTwice, testedOf, countedOf};
+ghost use Rattle.services.specs.Services.{segmentOf, removes, serviceAt, nextService, nextPeriod, hasPeriod, isWrong, isSame, isTwice, testedOf, countedOf, testedAnswer, countedAnswer};
 
 const PRD: u32 = 0x505244;
 
@@ -184,7 +184,7 @@ fn is_twice(s: &[u8], rows: &[u32], number: &[u8], before: usize) -> bool
 
 /// Tests a service for 11, then for 12.
 pub fn test_service(s: &[u8], rows: &[u32], service: Service) -> Tested
-    ensures { λ r. ⌜ r ≡ testedOf (now (s .entry)) (now (rows .entry)) service ⌝ }
+    ensures { λ r. ⌜ testedAnswer r ≡ testedOf (now (s .entry)) (now (rows .entry)) service ⌝ }
 {
     let prd = service.prd;
     if is_wrong(s, rows, service) {
@@ -205,7 +205,7 @@ pub fn test_service(s: &[u8], rows: &[u32], service: Service) -> Tested
 
 /// Tests the services of the first n rows in order, each for 11, then for 12.
 pub fn test_services(s: &[u8], rows: &[u32], n: usize) -> Counted
-    ensures { λ r. ⌜ r ≡ countedOf (now (s .entry)) (now (rows .entry)) n ⌝ }
+    ensures { λ r. ⌜ countedAnswer r ≡ countedOf (now (s .entry)) (now (rows .entry)) n ⌝ }
 {
     let mut i = 0;
     let mut count = 0;

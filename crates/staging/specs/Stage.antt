@@ -16,7 +16,7 @@ use Rattle.period.specs.Period.{periodOf}
 use Rattle.period.specs.declared.Period.{Period}
 use Rattle.period.specs.declared.Period.the-variants.{Good, Wrong}
 use Rattle.joining.specs.Joined.{inWindow, joinAll}
-use Rattle.interchange.specs.Reader.{Outcome, Verdict, accepted, faulty, readingOf, numbers}
+use Rattle.interchange.specs.Reader.{Outcome, Verdict, readingOf, numbers}
 use Rattle.services.specs.declared.Service.{Service}
 use Rattle.services.specs.Services.{periodsOf, isWrong, isTwice, servicesOf}
 use Rattle.contents.specs.Contents.{Pending, nothing, put, removal, Record}
@@ -104,8 +104,8 @@ stageServices s rows vs v = closeBy s (length vs) v (enterAll (v .first) s rows 
 
 -- what the reader says first: 3 to 10
 abbrev pub stageBy : List ℕ → List ℕ → ℕ → Verdict → View → Called
-stageBy s rows n accepted v = stageServices s rows (servicesOf s rows n) v
-stageBy s rows n (faulty x) v = refusal v (refused (x .number) (x .position))
+stageBy s rows n (done u) v = stageServices s rows (servicesOf s rows n) v
+stageBy s rows n (refused number at) v = refusal v (refused number at)
 
 unfoldable pub stageOf : List ℕ → View → Called
 stageOf s v = stageBy s (numbers (readingOf s .rows)) (length (readingOf s .rows)) (readingOf s .verdict) v

@@ -5,7 +5,7 @@ use mathlib.Core.Bool.{Bool, true, false}
 use mathlib.Core.List.{List}
 use lib.Dec.{eqb, ltb}
 use Rattle.laws.specs.Choice.{pick, both}
-use Rattle.syntax.specs.declared.segment.Refusal.{Refusal}
+use Rattle.answers.specs.Answers.{Answer, done, refused, wrongEnvelope, unknownType, outOfPlace, wrongPeriod}
 use Rattle.syntax.specs.Segment.{tagNumber}
 use Rattle.parts.specs.declared.Part.{Part}
 use Rattle.placing.specs.declared.Place.{Place}
@@ -30,75 +30,80 @@ use Rattle.steps.specs.State.{oneMore, openedState, headedState, closedS
 use Rattle.steps.specs.declared.state.Step.{Step}
 use Rattle.steps.specs.declared.state.Step.the-variants.{Next, Refused}
 
--- a refusal: number and position
-abbrev pub refuse : ℕ → ℕ → Step
-refuse number position = Refused (record { number = number; position = position })
+-- what a good segment leads to: the next state, and its row
+pub data Taken : Type 0 where
+  taken : State → Row → Taken
+
+-- what each case answers
+abbrev pub stepAnswer : Step → Answer Taken
+stepAnswer (Next st r) = done (taken st r)
+stepAnswer (Refused x) = refused (x .number) (x .position)
 
 -- the row of the segment g at an offset, in a group
 abbrev pub rowOf : ℕ → List ℕ → ℕ → Row
 rowOf at g group = record { offset = at; group = group; tag = tagNumber g }
 
 -- "An interchange has .. UIB, one or more messages, UIZ, nothing after."
-abbrev pub opened : State → ℕ → List ℕ → Opened → Step
-opened st at g (Dialogue p) = Next (openedState st at p) (rowOf at g 0)
-opened st at g Wrong = refuse 7 at
+abbrev pub opened : State → ℕ → List ℕ → Opened → Answer Taken
+opened st at g (Dialogue p) = done (taken (openedState st at p) (rowOf at g 0))
+opened st at g Wrong = wrongEnvelope at
 
-unfoldable pub opening : State → ℕ → List ℕ → Step
-opening st at g = pick (eqb (tagNumber g) UIB) (opened st at g (uibOf g)) (refuse 7 at)
+unfoldable pub opening : State → ℕ → List ℕ → Answer Taken
+opening st at g = pick (eqb (tagNumber g) UIB) (opened st at g (uibOf g)) (wrongEnvelope at)
 
 -- "A message is UIH to UIT."
-abbrev pub headed : State → ℕ → List ℕ → Headed → Step
-headed st at g (Message kind p) = Next (headedState st at kind p) (rowOf at g 0)
-headed st at g Missing = refuse 7 at
-headed st at g Unknown = refuse 8 at
+abbrev pub headed : State → ℕ → List ℕ → Headed → Answer Taken
+headed st at g (Message kind p) = done (taken (headedState st at kind p) (rowOf at g 0))
+headed st at g Missing = wrongEnvelope at
+headed st at g Unknown = unknownType at
 
 -- "one or more messages": a UIZ with none before it is 7, and so is one with other contents
-unfoldable pub closing : State → ℕ → List ℕ → List ℕ → Step
+unfoldable pub closing : State → ℕ → List ℕ → List ℕ → Answer Taken
 closing st at g dialogue =
-    pick (both (ltb 0 (st .messages)) (uizOf g dialogue (st .messages))) (Next (closedState st) (rowOf at g 0)) (refuse 7 at)
+    pick (both (ltb 0 (st .messages)) (uizOf g dialogue (st .messages))) (done (taken (closedState st) (rowOf at g 0))) (wrongEnvelope at)
 
 -- "between messages only UIH and UIZ may stand, else 7"
-unfoldable pub between : State → ℕ → List ℕ → List ℕ → Step
+unfoldable pub between : State → ℕ → List ℕ → List ℕ → Answer Taken
 between st at g dialogue =
     pick (eqb (tagNumber g) UIH) (headed st at g (uihOf g))
-    (pick (eqb (tagNumber g) UIZ) (closing st at g dialogue) (refuse 7 at))
+    (pick (eqb (tagNumber g) UIZ) (closing st at g dialogue) (wrongEnvelope at))
 
 -- "UIT repeats 0340 and gives the number of segments, UIH and UIT included."
-unfoldable pub trailing : State → ℕ → List ℕ → List ℕ → Place → ℕ → Step
+unfoldable pub trailing : State → ℕ → List ℕ → List ℕ → Place → ℕ → Answer Taken
 trailing st at g reference p group =
-    pick (uitOf g reference (oneMore (st .segments))) (Next (endedState st p) (rowOf at g group)) (refuse 7 at)
+    pick (uitOf g reference (oneMore (st .segments))) (done (taken (endedState st p) (rowOf at g group))) (wrongEnvelope at)
 
 -- "POP in group 4 of SKDUPD .. POP in other places is placed and not read."
 abbrev pub isPeriod : State → List ℕ → ℕ → Bool
 isPeriod st g group = both (eqb (st .kind) 0) (both (eqb (tagNumber g) POP) (eqb group 4))
 
-abbrev pub judged : State → ℕ → List ℕ → Place → ℕ → Period → Step
-judged st at g p group (period.Good f n form) = Next (onwardState st p) (rowOf at g group)
-judged st at g p group (period.Wrong x) = refuse 10 at
+abbrev pub judged : State → ℕ → List ℕ → Place → ℕ → Period → Answer Taken
+judged st at g p group (period.Good f n form) = done (taken (onwardState st p) (rowOf at g group))
+judged st at g p group (period.Wrong x) = wrongPeriod at
 
-unfoldable pub placed : State → ℕ → List ℕ → List ℕ → ℕ → Place → Step
+unfoldable pub placed : State → ℕ → List ℕ → List ℕ → ℕ → Place → Answer Taken
 placed st at g reference group p =
     pick (eqb (tagNumber g) UIT) (trailing st at g reference p group)
-    (pick (isPeriod st g group) (judged st at g p group (periodOf g)) (Next (onwardState st p) (rowOf at g group)))
+    (pick (isPeriod st g group) (judged st at g p group (periodOf g)) (done (taken (onwardState st p) (rowOf at g group))))
 
 -- the message's own table
 abbrev pub tableOf : Table → Table → ℕ → Table
 tableOf skdupd tsdupd kind = pick (eqb kind 0) skdupd tsdupd
 
 -- in a message a segment is tested for 9 first, so that UIT is tested for 9 before 7 and a further UIH, UIB or UIZ is not read
-abbrev pub settled : Table → State → ℕ → List ℕ → List ℕ → Stepped → Step
+abbrev pub settled : Table → State → ℕ → List ℕ → List ℕ → Stepped → Answer Taken
 settled t st at g reference (Placed p) = placed st at g reference (groupOf t p) p
-settled t st at g reference OutOfPlace = refuse 9 at
+settled t st at g reference OutOfPlace = outOfPlace at
 
-unfoldable pub inside : Table → State → ℕ → List ℕ → List ℕ → Step
+unfoldable pub inside : Table → State → ℕ → List ℕ → List ℕ → Answer Taken
 inside t st at g reference = settled t st at g reference (stepOf t (st .place) (tagNumber g))
 
 -- the step of the segment g at an offset; dialogue and reference are the UIB's and the UIH's as written
-unfoldable pub stepBy : Table → Table → Phase → State → ℕ → List ℕ → List ℕ → List ℕ → Step
+unfoldable pub stepBy : Table → Table → Phase → State → ℕ → List ℕ → List ℕ → List ℕ → Answer Taken
 stepBy skdupd tsdupd Opening st at g dialogue reference = opening st at g
 stepBy skdupd tsdupd Between st at g dialogue reference = between st at g dialogue
 stepBy skdupd tsdupd Inside st at g dialogue reference = inside (tableOf skdupd tsdupd (st .kind)) st at g reference
-stepBy skdupd tsdupd Closed st at g dialogue reference = refuse 7 at
+stepBy skdupd tsdupd Closed st at g dialogue reference = wrongEnvelope at
 
-abbrev pub segmentStep : Table → Table → State → ℕ → List ℕ → List ℕ → List ℕ → Step
+abbrev pub segmentStep : Table → Table → State → ℕ → List ℕ → List ℕ → List ℕ → Answer Taken
 segmentStep skdupd tsdupd st at g dialogue reference = stepBy skdupd tsdupd (st .phase) st at g dialogue reference

@@ -8,6 +8,7 @@ use lib.Dec.{eqb, ltb}
 use borrow.Author.Tests.{eq-eqb, ne-eqb, lt-ltb, le-ltb}
 use native.Mathlib.Omega.{arith}
 use Rattle.laws.specs.Choice.{both, both-false}
+use Rattle.answers.specs.Answers.{done, wrongEnvelope, outOfPlace}
 use Rattle.syntax.specs.Segment.{tagNumber}
 use lib.ListN.{length}
 use lib.Seq.{take-length}
@@ -26,37 +27,35 @@ use Rattle.steps.specs.declared.state.Phase.{Phase}
 use Rattle.steps.specs.declared.state.Phase.the-variants.{Inside}
 use Rattle.steps.specs.declared.state.State.{State}
 use Rattle.steps.specs.declared.state.Row.{Row}
-use Rattle.steps.specs.declared.state.Step.{Step}
-use Rattle.steps.specs.declared.state.Step.the-variants.{Next, Refused}
 use Rattle.steps.specs.State.{oneMore, openedState, closedState, onwardState, endedState}
-use Rattle.steps.specs.Step.{refuse, rowOf, opening, headed, closing, between, trailing, isPeriod, judged, placed, inside, stepBy, segmentStep}
+use Rattle.steps.specs.Step.{taken, rowOf, opening, headed, closing, between, trailing, isPeriod, judged, placed, inside, stepBy, segmentStep}
 
-pub next-is : {s t : State} {r q : Row} → s ≡ t → r ≡ q → Next s r ≡ Next t q
+pub next-is : {s t : State} {r q : Row} → s ≡ t → r ≡ q → done (taken s r) ≡ done (taken t q)
 next-is e f = cc
 
 module _ (st : State) (at : ℕ) (g : List ℕ) where
-  pub opening-other : (tagNumber g ≡ UIB → ⊥) → refuse 7 at ≡ opening st at g
+  pub opening-other : (tagNumber g ≡ UIB → ⊥) → wrongEnvelope at ≡ opening st at g
   unfolding opening
   opening-other h = rw (ne-eqb (tagNumber g) UIB h)
 
-  pub opening-good : tagNumber g ≡ UIB → (p : Part) → uibOf g ≡ Dialogue p → Next (openedState st at p) (rowOf at g 0) ≡ opening st at g
+  pub opening-good : tagNumber g ≡ UIB → (p : Part) → uibOf g ≡ Dialogue p → done (taken (openedState st at p) (rowOf at g 0)) ≡ opening st at g
   unfolding opening
   opening-good h p e = rw (eq-eqb (tagNumber g) UIB h, e)
 
-  pub opening-wrong : tagNumber g ≡ UIB → uibOf g ≡ Wrong → refuse 7 at ≡ opening st at g
+  pub opening-wrong : tagNumber g ≡ UIB → uibOf g ≡ Wrong → wrongEnvelope at ≡ opening st at g
   unfolding opening
   opening-wrong h e = rw (eq-eqb (tagNumber g) UIB h, e)
 
   module _ (dialogue : List ℕ) where
-    pub closing-none : st .messages ≡ 0 → refuse 7 at ≡ closing st at g dialogue
+    pub closing-none : st .messages ≡ 0 → wrongEnvelope at ≡ closing st at g dialogue
     unfolding closing
     closing-none h = rw (le-ltb 0 (st .messages) (omega arith))
 
-    pub closing-good : (st .messages ≡ 0 → ⊥) → uizOf g dialogue (st .messages) ≡ true → Next (closedState st) (rowOf at g 0) ≡ closing st at g dialogue
+    pub closing-good : (st .messages ≡ 0 → ⊥) → uizOf g dialogue (st .messages) ≡ true → done (taken (closedState st) (rowOf at g 0)) ≡ closing st at g dialogue
     unfolding closing
     closing-good h e = rw (lt-ltb 0 (st .messages) (omega arith), e)
 
-    pub closing-wrong : uizOf g dialogue (st .messages) ≡ false → refuse 7 at ≡ closing st at g dialogue
+    pub closing-wrong : uizOf g dialogue (st .messages) ≡ false → wrongEnvelope at ≡ closing st at g dialogue
     unfolding closing
     closing-wrong e = simp (e, both-false)
 
@@ -68,16 +67,16 @@ module _ (st : State) (at : ℕ) (g : List ℕ) where
     unfolding between
     between-uiz h k = rw (ne-eqb (tagNumber g) UIH h, eq-eqb (tagNumber g) UIZ k)
 
-    pub between-other : (tagNumber g ≡ UIH → ⊥) → (tagNumber g ≡ UIZ → ⊥) → refuse 7 at ≡ between st at g dialogue
+    pub between-other : (tagNumber g ≡ UIH → ⊥) → (tagNumber g ≡ UIZ → ⊥) → wrongEnvelope at ≡ between st at g dialogue
     unfolding between
     between-other h k = rw (ne-eqb (tagNumber g) UIH h, ne-eqb (tagNumber g) UIZ k)
 
   module _ (reference : List ℕ) (p : Place) (group : ℕ) where
-    pub trailing-good : uitOf g reference (oneMore (st .segments)) ≡ true → Next (endedState st p) (rowOf at g group) ≡ trailing st at g reference p group
+    pub trailing-good : uitOf g reference (oneMore (st .segments)) ≡ true → done (taken (endedState st p) (rowOf at g group)) ≡ trailing st at g reference p group
     unfolding trailing
     trailing-good e = rw e
 
-    pub trailing-wrong : uitOf g reference (oneMore (st .segments)) ≡ false → refuse 7 at ≡ trailing st at g reference p group
+    pub trailing-wrong : uitOf g reference (oneMore (st .segments)) ≡ false → wrongEnvelope at ≡ trailing st at g reference p group
     unfolding trailing
     trailing-wrong e = rw e
 
@@ -89,7 +88,7 @@ module _ (st : State) (at : ℕ) (g : List ℕ) where
     unfolding placed
     placed-period h e = rw (ne-eqb (tagNumber g) UIT h, e)
 
-    pub placed-other : (tagNumber g ≡ UIT → ⊥) → isPeriod st g group ≡ false → Next (onwardState st p) (rowOf at g group) ≡ placed st at g reference group p
+    pub placed-other : (tagNumber g ≡ UIT → ⊥) → isPeriod st g group ≡ false → done (taken (onwardState st p) (rowOf at g group)) ≡ placed st at g reference group p
     unfolding placed
     placed-other h e = rw (ne-eqb (tagNumber g) UIT h, e)
 
@@ -98,7 +97,7 @@ module _ (st : State) (at : ℕ) (g : List ℕ) where
     unfolding inside
     inside-placed p e = rw e
 
-    pub inside-out : stepOf t (st .place) (tagNumber g) ≡ OutOfPlace → refuse 9 at ≡ inside t st at g reference
+    pub inside-out : stepOf t (st .place) (tagNumber g) ≡ OutOfPlace → outOfPlace at ≡ inside t st at g reference
     unfolding inside
     inside-out e = rw e
 

@@ -21,9 +21,10 @@ use syntax::segment::tag_at;
 ghost use mathlib.Core.Path.{_≡_};
 ghost use lib.Dec.{eqb};
 ghost use Rattle.laws.specs.Choice.{both};
+ghost use Rattle.answers.specs.Answers as answers;
 ghost use Rattle.envelope.specs.Envelope.{uihOf};
 ghost use Rattle.period.specs.Period.{periodOf};
-ghost use Rattle.steps.specs.Step.{refuse, rowOf, opening, headed, closing, between, trailing, judged, placed, inside, segmentStep};
+ghost use Rattle.steps.specs.Step.{stepAnswer, rowOf, opening, headed, closing, between, trailing, judged, placed, inside, segmentStep};
 
 const UIB: u32 = 0x554942;
 
@@ -36,7 +37,7 @@ const UIZ: u32 = 0x55495a;
 const POP: u32 = 0x504f50;
 
 fn refused(number: u8, position: usize) -> Step
-    ensures { λ r. ⌜ r ≡ refuse number position ⌝ }
+    ensures { λ r. ⌜ stepAnswer r ≡ answers.refused number position ⌝ }
 {
     Step::Refused(Refusal { number, position })
 }
@@ -53,7 +54,7 @@ fn row(at: usize, segment: &[u8], group: u32) -> Row
 
 // The UIB is to come.
 fn open_dialogue(st: State, at: usize, segment: &[u8]) -> Step
-    ensures { λ r. ⌜ r ≡ opening st at (now (segment .entry)) ⌝ }
+    ensures { λ r. ⌜ stepAnswer r ≡ opening st at (now (segment .entry)) ⌝ }
 {
     if tag_at(segment, 0) != UIB {
         return refused(7, at);
@@ -66,7 +67,7 @@ fn open_dialogue(st: State, at: usize, segment: &[u8]) -> Step
 
 // A UIH between messages.
 fn head_message(st: State, at: usize, segment: &[u8]) -> Step
-    ensures { λ r. ⌜ r ≡ headed st at (now (segment .entry)) (uihOf (now (segment .entry))) ⌝ }
+    ensures { λ r. ⌜ stepAnswer r ≡ headed st at (now (segment .entry)) (uihOf (now (segment .entry))) ⌝ }
 {
     match read_uih(segment) {
         Headed::Message(kind, reference) => Step::Next(
@@ -80,7 +81,7 @@ fn head_message(st: State, at: usize, segment: &[u8]) -> Step
 
 // A UIZ between messages.
 fn close_dialogue(st: State, at: usize, segment: &[u8], dialogue: &[u8]) -> Step
-    ensures { λ r. ⌜ r ≡ closing st at (now (segment .entry)) (now (dialogue .entry)) ⌝ }
+    ensures { λ r. ⌜ stepAnswer r ≡ closing st at (now (segment .entry)) (now (dialogue .entry)) ⌝ }
 {
     if st.messages == 0 {
         return refused(7, at);
@@ -93,7 +94,7 @@ fn close_dialogue(st: State, at: usize, segment: &[u8], dialogue: &[u8]) -> Step
 
 // Between messages.
 fn next_message(st: State, at: usize, segment: &[u8], dialogue: &[u8]) -> Step
-    ensures { λ r. ⌜ r ≡ between st at (now (segment .entry)) (now (dialogue .entry)) ⌝ }
+    ensures { λ r. ⌜ stepAnswer r ≡ between st at (now (segment .entry)) (now (dialogue .entry)) ⌝ }
 {
     let tag = tag_at(segment, 0);
     if tag == UIH {
@@ -114,7 +115,7 @@ fn end_message(
     place: Place,
     group: u32,
 ) -> Step
-    ensures { λ r. ⌜ r ≡ trailing st at (now (segment .entry)) (now (reference .entry)) place group ⌝ }
+    ensures { λ r. ⌜ stepAnswer r ≡ trailing st at (now (segment .entry)) (now (reference .entry)) place group ⌝ }
 {
     if check_uit(segment, reference, one_more(st.segments)) {
         return Step::Next(st.ended(place), row(at, segment, group));
@@ -137,7 +138,7 @@ pub fn is_period(kind: u8, tag: u32, group: u32) -> bool
 
 // A period, placed.
 fn judge_period(st: State, at: usize, segment: &[u8], place: Place, group: u32) -> Step
-    ensures { λ r. ⌜ r ≡ judged st at (now (segment .entry)) place group (periodOf (now (segment .entry))) ⌝ }
+    ensures { λ r. ⌜ stepAnswer r ≡ judged st at (now (segment .entry)) place group (periodOf (now (segment .entry))) ⌝ }
 {
     let whole = Part {
         from: 0,
@@ -158,7 +159,7 @@ fn take_segment(
     group: u32,
     place: Place,
 ) -> Step
-    ensures { λ r. ⌜ r ≡ placed st at (now (segment .entry)) (now (reference .entry)) group place ⌝ }
+    ensures { λ r. ⌜ stepAnswer r ≡ placed st at (now (segment .entry)) (now (reference .entry)) group place ⌝ }
 {
     let tag = tag_at(segment, 0);
     if tag == UIT {
@@ -172,7 +173,7 @@ fn take_segment(
 
 // In a message, by its table.
 fn next_segment(st: State, at: usize, segment: &[u8], reference: &[u8], table: &[[u32; 8]]) -> Step
-    ensures { λ r. ⌜ r ≡ inside (now (table .entry)) st at (now (segment .entry)) (now (reference .entry)) ⌝ }
+    ensures { λ r. ⌜ stepAnswer r ≡ inside (now (table .entry)) st at (now (segment .entry)) (now (reference .entry)) ⌝ }
 {
     let place = st.place;
     match place.step(table, tag_at(segment, 0)) {
@@ -192,7 +193,7 @@ pub fn step_segment(
     skdupd: &[[u32; 8]],
     tsdupd: &[[u32; 8]],
 ) -> Step
-    ensures { λ r. ⌜ r ≡ segmentStep (now (skdupd .entry)) (now (tsdupd .entry)) st at (now (segment .entry)) (now (dialogue .entry)) (now (reference .entry)) ⌝ }
+    ensures { λ r. ⌜ stepAnswer r ≡ segmentStep (now (skdupd .entry)) (now (tsdupd .entry)) st at (now (segment .entry)) (now (dialogue .entry)) (now (reference .entry)) ⌝ }
 {
     let phase = st.phase;
     match phase {

@@ -1,6 +1,7 @@
 pub mod Bytes
 pub mod Pieces
 pub mod Segment
+pub mod Said
 pub mod Masks
 pub mod Runs
 pub mod Counts

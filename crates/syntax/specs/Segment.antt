@@ -6,6 +6,7 @@ use mathlib.Core.List.{List, [], _∷_}
 use lib.Dec.{leb, ltb}
 use lib.ListN.{length, getD, drop}
 use Rattle.laws.specs.Choice.{pick, both, all}
+use Rattle.answers.specs.Answers.{Answer, done, byteNotPermitted, inputEnds, wrongSegment, number, position}
 use Rattle.syntax.specs.declared.segment.Refusal.{Refusal}
 use Rattle.syntax.specs.declared.segment.Scanned.{Scanned}
 use Rattle.syntax.specs.declared.segment.Scanned.the-variants.{End, NotPermitted, Unended, Malformed}
@@ -62,12 +63,26 @@ scanOf n at g =
 abbrev pub segmentAt : List ℕ → ℕ → Scanned
 segmentAt s at = scanOf (length s) at (bodyAt s at)
 
--- "What each number means": 4 at that byte, 5 and 6 at the segment's first byte; 0 where it is whole
+-- what each case answers of the segment at an offset: the terminator's index, or number and position
+abbrev pub scannedAnswer : ℕ → Scanned → Answer ℕ
+scannedAnswer at (End e) = done e
+scannedAnswer at (NotPermitted i) = byteNotPermitted i
+scannedAnswer at Unended = inputEnds at
+scannedAnswer at Malformed = wrongSegment at
+
+-- and as the reader hands it on; 0 where the segment is whole
 abbrev pub refusalOf : ℕ → Scanned → Refusal
-refusalOf at (End e) = record { number = 0; position = 0 }
-refusalOf at (NotPermitted i) = record { number = 4; position = i }
-refusalOf at Unended = record { number = 5; position = at }
-refusalOf at Malformed = record { number = 6; position = at }
+refusalOf at x = record { number = number (scannedAnswer at x); position = position (scannedAnswer at x) }
+
+-- "in it 4, 5, 6": what is answered of the body g of a segment at an offset, in an input of n bytes
+unfoldable pub bodyAnswer : ℕ → ℕ → List ℕ → Answer ℕ
+bodyAnswer n at g =
+    pick (all permittedOf g)
+    (pick (ltb (at + length g) n) (pick (wellFormed g) (done (at + length g)) (wrongSegment at)) (inputEnds at))
+    (byteNotPermitted (at + permittedRun g))
+
+abbrev pub segmentAnswer : List ℕ → ℕ → Answer ℕ
+segmentAnswer s at = bodyAnswer (length s) at (bodyAt s at)
 
 -- the tag's three bytes as one number
 abbrev pub tagNumber : List ℕ → ℕ

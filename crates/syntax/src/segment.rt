@@ -12,7 +12,7 @@ ghost use mathlib.Core.Bool.{not};
 ghost use Prim.Native.Nat.{_<_};
 ghost use lib.ListN.{drop};
 ghost use Rattle.laws.specs.Choice.{pick, both};
-ghost use Rattle.syntax.specs.Segment.{capital, segmentAt, refusalOf, tagNumber};
+ghost use Rattle.syntax.specs.Segment.{capital, segmentAt, scannedAnswer, refusalOf, segmentAnswer, tagNumber};
 ghost use Rattle.syntax.specs.Tags.{tagCloses, tagAhead};
 
 /// What stands at an offset.
@@ -102,7 +102,8 @@ fn is_tagged(s: &[u8], at: usize) -> bool
 
 /// The segment that starts at an offset. Its end is found first; its parts are counted only where it may pass a limit, or is to be refused.
 pub fn read_segment(s: &[u8], at: usize) -> Scanned
-    ensures { λ r. ⌜ r ≡ segmentAt (now (s .entry)) at ⌝ }
+    ensures scan { λ r. ⌜ r ≡ segmentAt (now (s .entry)) at ⌝ }
+    ensures said { λ r. ⌜ scannedAnswer at r ≡ segmentAnswer (now (s .entry)) at ⌝ }
 {
     if is_tagged(s, at) {
         if s[at + 3] == b'\'' {

@@ -23,11 +23,6 @@ pub printed-whole : tableText 5 printedRows
 unfolding rowText rowsText decimalOn
 printed-whole = refl
 
--- rows that the buffer does not hold are none
-pub printed-more : tableText 15000 printedRows ≡ tableText 5 printedRows
-unfolding rowText rowsText decimalOn
-printed-more = refl
-
 pub printed-refusal : refusalText 7 47 ≡ 114 ∷ 101 ∷ 102 ∷ 117 ∷ 115 ∷ 101 ∷ 100 ∷ 9 ∷ 55 ∷ 9 ∷ 52 ∷ 55 ∷ 10 ∷ []
 unfolding refusalText decimalOn
 printed-refusal = refl

@@ -12,11 +12,11 @@ use lib.Seq.{take-at, paste-zero}
 use borrow.Author.Tests.{le-leb, lt-leb}
 use Rattle.laws.specs.Choice.{choose, false≢true}
 use Rattle.laws.specs.Lists.{over, drop-here}
+use Rattle.answers.specs.Answers.{done, outputTooShort}
 use Rattle.dates.specs.Text.{putAt}
 use Rattle.dates.specs.Put.{put-put, put-room, put-front, length-put}
 use Rattle.envelope.specs.Decimal.{decimalOn, decimalOf}
 use Rattle.text.specs.Text.{pairText, tailText, rowText, rowAt, rowsText, tableText, heading, refusal, refusalText, answerOf, bytesOf}
-use Rattle.text.specs.declared.Written.the-variants.{Bytes, NoRoom}
 
 pub leb-le : (a b : ℕ) → leb a b ≡ true → a ≤ b
 leb-le a b e =
@@ -151,11 +151,11 @@ all-put o z t w to at e h q p =
 
 -- a whole text, for which there is room or not
 pub text-written : (text o q : List ℕ) (n : ℕ) → length text ≤ length o → n ≡ length text → q ≡ putAt o 0 text
-    → (Bytes n ≡ answerOf text o) × (q ≡ bytesOf text o)
+    → (done n ≡ answerOf text o) × (q ≡ bytesOf text o)
 unfolding answerOf bytesOf over
 text-written text o q n h e p = (rw (le-leb _ _ h, e), rw (le-leb _ _ h) (p ∙ put-front o text h))
 
-pub text-refused : (text o : List ℕ) → length o < length text → (NoRoom ≡ answerOf text o) × (o ≡ bytesOf text o)
+pub text-refused : (text o : List ℕ) → length o < length text → (outputTooShort ≡ answerOf text o) × (o ≡ bytesOf text o)
 unfolding answerOf bytesOf
 text-refused text o h = (rw (lt-leb _ _ h), rw (lt-leb _ _ h))
 
@@ -163,10 +163,10 @@ module _ (n : ℕ) (l o : List ℕ) where
   table-length : length (tableText n l) ≡ 17 + length (rowsText n l)
   table-length = length-append heading (rowsText n l)
 
-  pub table-short : length o < 17 → (NoRoom ≡ answerOf (tableText n l) o) × (o ≡ bytesOf (tableText n l) o)
+  pub table-short : length o < 17 → (outputTooShort ≡ answerOf (tableText n l) o) × (o ≡ bytesOf (tableText n l) o)
   table-short h = let e = table-length in text-refused (tableText n l) o (omega arith)
 
-  pub table-refused : 17 ≤ length o → leb (length (rowsText n l)) (length o - 17) ≡ false → (NoRoom ≡ answerOf (tableText n l) o) × (o ≡ bytesOf (tableText n l) o)
+  pub table-refused : 17 ≤ length o → leb (length (rowsText n l)) (length o - 17) ≡ false → (outputTooShort ≡ answerOf (tableText n l) o) × (o ≡ bytesOf (tableText n l) o)
   table-refused h q =
       let e = table-length in
       let k = leb-gt (length (rowsText n l)) (length o - 17) q in
@@ -181,7 +181,7 @@ module _ (n : ℕ) (l o : List ℕ) where
 
   pub table-written : (p q : List ℕ) (m : ℕ) → 17 ≤ length o → leb (length (rowsText n l)) (length o - 17) ≡ true
       → p ≡ putAt o 0 heading → m ≡ 17 + length (rowsText n l) → q ≡ putAt p 17 (rowsText n l)
-      → (Bytes m ≡ answerOf (tableText n l) o) × (q ≡ bytesOf (tableText n l) o)
+      → (done m ≡ answerOf (tableText n l) o) × (q ≡ bytesOf (tableText n l) o)
   table-written p q m h t ep em eq =
       let e = table-length in
       let k = leb-le (length (rowsText n l)) (length o - 17) t in
@@ -192,12 +192,12 @@ module _ (number position n : ℕ) (e : n ≡ length (pairText number position (
   unfolding refusalText
   refusal-length = length-append refusal (pairText number position (10 ∷ [])) ∙ ap (λ (k : ℕ). 8 + k) (sym e)
 
-  pub refusal-refused : (o : List ℕ) → length o < 8 + n → (NoRoom ≡ answerOf (refusalText number position) o) × (o ≡ bytesOf (refusalText number position) o)
+  pub refusal-refused : (o : List ℕ) → length o < 8 + n → (outputTooShort ≡ answerOf (refusalText number position) o) × (o ≡ bytesOf (refusalText number position) o)
   refusal-refused o h = let k = refusal-length in text-refused (refusalText number position) o (omega arith)
 
   pub refusal-written : (o z : List ℕ) {p q r : List ℕ} → n ≤ 42 → p ≡ putAt z 0 refusal → length z ≡ 50 → q ≡ putAt p 8 (pairText number position (10 ∷ []))
       → 8 + n ≤ length o → r ≡ putAt o 0 (take (8 + n) q)
-      → (Bytes (8 + n) ≡ answerOf (refusalText number position) o) × (r ≡ bytesOf (refusalText number position) o)
+      → (done (8 + n) ≡ answerOf (refusalText number position) o) × (r ≡ bytesOf (refusalText number position) o)
   unfolding refusalText
   refusal-written o z {p} {q} {r} hn ep hz eq ho er =
       let k = refusal-length in

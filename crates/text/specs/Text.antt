@@ -7,6 +7,7 @@ use lib.Dec.{leb}
 use lib.ListN.{length, getD}
 use Rattle.laws.specs.Choice.{pick}
 use Rattle.laws.specs.Lists.{over}
+use Rattle.answers.specs.Answers.{Answer, done, outputTooShort}
 use Rattle.envelope.specs.Decimal.{decimalOf}
 use Rattle.text.specs.declared.Written.{Written}
 use Rattle.text.specs.declared.Written.the-variants.{Bytes, NoRoom}
@@ -48,9 +49,14 @@ refusal = 114 ∷ 101 ∷ 102 ∷ 117 ∷ 115 ∷ 101 ∷ 100 ∷ 9 ∷ []
 unfoldable pub refusalText : ℕ → ℕ → List ℕ
 refusalText number position = refusal ++ pairText number position (10 ∷ [])
 
--- a text for which there is room is written over the front of the lent bytes; any other leaves them as they were
-unfoldable pub answerOf : List ℕ → List ℕ → Written
-answerOf text out = pick (leb (length text) (length out)) (Bytes (length text)) NoRoom
+-- what each case answers: the bytes written, or number and position
+abbrev pub writtenAnswer : Written → Answer ℕ
+writtenAnswer (Bytes n) = done n
+writtenAnswer NoRoom = outputTooShort
+
+-- a text for which there is room is written over the front of the lent bytes; any other is 17 and leaves them as they were
+unfoldable pub answerOf : List ℕ → List ℕ → Answer ℕ
+answerOf text out = pick (leb (length text) (length out)) (done (length text)) outputTooShort
 
 unfoldable pub bytesOf : List ℕ → List ℕ → List ℕ
 bytesOf text out = pick (leb (length text) (length out)) (over text out) out

@@ -8,13 +8,13 @@ ghost use lib.Dec.{leb};
 ghost use lib.ListN.{length, take, drop};
 ghost use Rattle.dates.specs.Text.{putAt};
 ghost use Rattle.envelope.specs.Decimal.{decimalOf};
-ghost use Rattle.text.specs.Text.{pairText, rowAt, rowsText, tableText, refusalText, answerOf, bytesOf};
+ghost use Rattle.text.specs.Text.{pairText, rowAt, rowsText, tableText, refusalText, writtenAnswer, answerOf, bytesOf};
 
 /// What came of writing a text.
 pub enum Written {
     /// How many bytes it has.
     Bytes(usize),
-    /// The lent bytes are too few.
+    /// 17: the lent bytes are too few.
     NoRoom,
 }
 
@@ -139,7 +139,7 @@ fn put_rows(rows: &[u32], n: usize, out: &mut [u8], at: usize) -> usize
 
 /// The table of the first n rows, each of three numbers (offset, group, tag).
 pub fn write_table(rows: &[u32], n: usize, out: &mut [u8]) -> Written
-    ensures told { λ r. ⌜ r ≡ answerOf (tableText n (now (rows .entry))) (now (out .entry)) ⌝ }
+    ensures told { λ r. ⌜ writtenAnswer r ≡ answerOf (tableText n (now (rows .entry))) (now (out .entry)) ⌝ }
     ensures left { λ r. ⌜ now (out .exit) ≡ bytesOf (tableText n (now (rows .entry))) (now (out .entry)) ⌝ }
 {
     if out.len() < 17 {
@@ -154,7 +154,7 @@ pub fn write_table(rows: &[u32], n: usize, out: &mut [u8]) -> Written
 
 /// The line of a refusal: its number and position.
 pub fn write_refusal(number: u8, position: usize, out: &mut [u8]) -> Written
-    ensures told { λ r. ⌜ r ≡ answerOf (refusalText number position) (now (out .entry)) ⌝ }
+    ensures told { λ r. ⌜ writtenAnswer r ≡ answerOf (refusalText number position) (now (out .entry)) ⌝ }
     ensures left { λ r. ⌜ now (out .exit) ≡ bytesOf (refusalText number position) (now (out .entry)) ⌝ }
 {
     let mut line = [0u8; 50];

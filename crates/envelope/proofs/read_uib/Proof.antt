@@ -10,6 +10,7 @@ use Rattle.parts.specs.declared.Part.{Part}
 use Rattle.envelope.specs.declared.Opened.the-variants.{Dialogue}
 use Rattle.envelope.specs.Envelope.{says, valueOf, placeOf, UNOB, version4}
 use Rattle.envelope.specs.Laws.{place-absent, place-present}
+use Rattle.envelope.specs.Said.{uib-said}
 use Rattle.envelope.specs.Ways.{uib-level, uib-version, uib-absent, uib-good}
 use borrow.Author.Needs.{needs}
 use Rattle.envelope.proofs.read_uib.Statement.{statement}
@@ -43,7 +44,8 @@ equals-requires c κs = search needs
 returns : tie.Need-returns
 returns c =
     let e = c .before in
-    uib-level (now (e .before .before .before .before .args .segment)) (level e ∙ not-true (e .equals .result) (c .if1 .taken))
+    let g = now (e .before .before .before .before .args .segment) in
+    uib-said g (uib-level g (level e ∙ not-true (e .equals .result) (c .if1 .taken)))
 
 value-requires-2 : tie.Need-value-requires-2
 value-requires-2 c κs = search needs
@@ -58,7 +60,8 @@ returns-2 : tie.Need-returns-2
 returns-2 c =
     let f = c .before in
     let e = f .before .before .before .before in
-    uib-version (now (e .before .before .before .before .args .segment)) (level e ∙ not-false (e .equals .result) (f .before .before .before .if1 .left)) (version f ∙ not-true (f .equals2 .result) (c .if2 .taken))
+    let g = now (e .before .before .before .before .args .segment) in
+    uib-said g (uib-version g (level e ∙ not-false (e .equals .result) (f .before .before .before .if1 .left)) (version f ∙ not-true (f .equals2 .result) (c .if2 .taken)))
 
 place-requires : tie.Need-place-requires
 place-requires c κs = search needs
@@ -72,10 +75,11 @@ returns-3 c =
     let f = d .before .before .before in
     let e = f .before .before .before .before in
     let g = now (e .before .before .before .before .args .segment) in
-    uib-absent g
+    uib-said g
+    (uib-absent g
     (level e ∙ not-false (e .equals .result) (f .before .before .before .if1 .left))
     (version f ∙ not-false (f .equals2 .result) (d .before .before .if2 .left))
-    (place-absent g 2 1 (found d ∙ c .if3 .taken))
+    (place-absent g 2 1 (found d ∙ c .if3 .taken)))
 
 returns-4 : tie.Need-returns-4
 returns-4 c =
@@ -83,11 +87,12 @@ returns-4 c =
     let f = d .before .before .before in
     let e = f .before .before .before .before in
     let g = now (e .before .before .before .before .args .segment) in
-    ap Dialogue (d .before .place .ensures)
+    uib-said g
+    (ap Dialogue (d .before .place .ensures)
     ∙ uib-good g
     (level e ∙ not-false (e .equals .result) (f .before .before .before .if1 .left))
     (version f ∙ not-false (f .equals2 .result) (d .before .before .if2 .left))
-    (place-present g 2 1 (found d ∙ c .if3 .left))
+    (place-present g 2 1 (found d ∙ c .if3 .left)))
 
 pub read-uib-spec : {M : Type 1} → statement M
 read-uib-spec =

@@ -2,6 +2,7 @@
 -- Assumes nothing.
 use mathlib.Core.Path.{sym, _∙_}
 use denote.Ref.{now}
+use Rattle.envelope.specs.Said.{uih-said}
 use Rattle.envelope.specs.Written.{skdupd-head, tsdupd-head}
 use borrow.Author.Needs.{needs}
 use Rattle.envelope.proofs.read_uih.Statement.{statement}
@@ -17,7 +18,9 @@ read-written-requires : tie.Need-read-written-requires
 read-written-requires c κs = search needs
 
 returns : tie.Need-returns
-returns c = c .read-written .ensures ∙ skdupd-head (now (c .before .before .before .before .before .args .segment)) (sym (c .before .before .begins .ensures) ∙ c .before .if1 .taken)
+returns c =
+    let g = now (c .before .before .before .before .before .args .segment) in
+    uih-said g (c .read-written .ensures ∙ skdupd-head g (sym (c .before .before .begins .ensures) ∙ c .before .if1 .taken))
 
 slice-aggregate-begins-2 : tie.Need-slice-aggregate-begins-2
 slice-aggregate-begins-2 c = search needs
@@ -29,13 +32,15 @@ read-written-requires-2 : tie.Need-read-written-requires-2
 read-written-requires-2 c κs = search needs
 
 returns-2 : tie.Need-returns-2
-returns-2 c = c .read-written2 .ensures ∙ tsdupd-head (now (c .before .before .before .before .before .before .before .before .args .segment)) (sym (c .before .before .begins2 .ensures) ∙ c .before .if2 .taken)
+returns-2 c =
+    let g = now (c .before .before .before .before .before .before .before .before .args .segment) in
+    uih-said g (c .read-written2 .ensures ∙ tsdupd-head g (sym (c .before .before .begins2 .ensures) ∙ c .before .if2 .taken))
 
 read-any-requires : tie.Need-read-any-requires
 read-any-requires c κs = search needs
 
 returns-3 : tie.Need-returns-3
-returns-3 c = search needs
+returns-3 c = uih-said (now (c .before .before .before .before .before .before .before .before .args .segment)) (c .read-any .ensures)
 
 pub read-uih-spec : {M : Type 1} → statement M
 read-uih-spec =

@@ -1,6 +1,6 @@
 -- `hints::quick_step` meets its contract. Assumes nothing.
 use denote.Ref.{now}
-use Rattle.hints.specs.Ways.{quick-not, quick-told}
+use Rattle.hints.specs.Ways.{quick-not, quick-told, quick-said}
 use borrow.Author.Needs.{needs}
 use Rattle.hints.proofs.quick_step.Statement.{statement}
 use Rattle.hints.proofs.quick_step.Tie as tie
@@ -17,7 +17,7 @@ step-requires c κs = search needs
 returns : tie.Need-returns
 returns c =
     let a = c .before .before .before .before .before .args in
-    quick-not (now (a .table)) (now (a .hints)) (a .place) (a .tag) (c .before .before .before .hint .result) (c .before .before .times .result) (c .before .before .before .hint .ensures) (c .before .before .times .ensures) (c .before .if1 .taken) (c .step .result) (c .step .ensures)
+    quick-said (now (a .table)) (now (a .hints)) (a .place) (a .tag) (quick-not (now (a .table)) (now (a .hints)) (a .place) (a .tag) (c .before .before .before .hint .result) (c .before .before .times .result) (c .before .before .before .hint .ensures) (c .before .before .times .ensures) (c .before .if1 .taken) (c .step .result) (c .step .ensures .0))
 
 add-last : tie.Need-add-last
 add-last c = search needs
@@ -28,7 +28,7 @@ reached-requires c κs = search needs
 returns-2 : tie.Need-returns-2
 returns-2 c =
     let a = c .before .before .before .before .before .args in
-    quick-told (now (a .table)) (now (a .hints)) (a .place) (a .tag) (c .before .before .before .hint .result) (c .before .before .times .result) (c .before .before .before .hint .ensures) (c .before .before .times .ensures) (c .before .if1 .left) (c .reached .result) (c .reached .ensures)
+    quick-said (now (a .table)) (now (a .hints)) (a .place) (a .tag) (quick-told (now (a .table)) (now (a .hints)) (a .place) (a .tag) (c .before .before .before .hint .result) (c .before .before .times .result) (c .before .before .before .hint .ensures) (c .before .before .times .ensures) (c .before .if1 .left) (c .reached .result) (c .reached .ensures))
 
 pub quick-step-spec : {M : Type 1} → statement M
 quick-step-spec =

@@ -19,7 +19,7 @@ use Rattle.lent.specs.Laws.{found-over, found-told}
 returns : tie.Need-returns
 returns c =
     let a = c .before .before .args in
-    found-over (now (a .s)) (a .at) (c .if1 .taken)
+    found-over (now (a .s)) (a .at) (omega arith)
 
 read-segment-requires : tie.Need-read-segment-requires
 read-segment-requires c κs = search needs
@@ -35,7 +35,7 @@ add-t9 c =
     let k = c .before .before in
     let r = k .before .before in
     let a = r .before .before .before .args in
-    let w = end-within (now (a .s)) (a .at) (k .scanned .given .0 .0) (sym (r .read-segment .ensures) ∙ k .scanned .given .1) in
+    let w = end-within (now (a .s)) (a .at) (k .scanned .given .0 .0) (sym (r .read-segment .ensures .0) ∙ k .scanned .given .1) in
     omega arith
 
 enum-told : tie.Need-enum-told
@@ -62,7 +62,7 @@ returns-2 c =
     let r = k .before .before in
     let a = r .before .before .before .args in
     ap (λ (t : ℕ). Segment t (k .scanned .given .0 .0 + 1)) (c .tag-at .ensures)
-    ∙ found-told (now (a .s)) (a .at) (End (k .scanned .given .0 .0)) (r .before .if1 .left) (sym (r .read-segment .ensures) ∙ k .scanned .given .1)
+    ∙ found-told (now (a .s)) (a .at) (End (k .scanned .given .0 .0)) (r .before .if1 .left) (sym (r .read-segment .ensures .0) ∙ k .scanned .given .1)
 
 returns-3 : tie.Need-returns-3
 returns-3 c =
@@ -70,7 +70,7 @@ returns-3 c =
     let r = e .before .before in
     let a = r .before .before .before .args in
     ap Refused (c .refusal .ensures ∙ ap (refusalOf (a .at)) (e .enum-told .given .1))
-    ∙ found-told (now (a .s)) (a .at) (NotPermitted (e .enum-told .given .0 .0)) (r .before .if1 .left) (sym (r .read-segment .ensures) ∙ e .enum-told .given .1)
+    ∙ found-told (now (a .s)) (a .at) (NotPermitted (e .enum-told .given .0 .0)) (r .before .if1 .left) (sym (r .read-segment .ensures .0) ∙ e .enum-told .given .1)
 
 returns-4 : tie.Need-returns-4
 returns-4 c =
@@ -78,7 +78,7 @@ returns-4 c =
     let r = e .before .before in
     let a = r .before .before .before .args in
     ap Refused (c .refusal2 .ensures ∙ ap (refusalOf (a .at)) (e .enum-told2 .given .1))
-    ∙ found-told (now (a .s)) (a .at) Unended (r .before .if1 .left) (sym (r .read-segment .ensures) ∙ e .enum-told2 .given .1)
+    ∙ found-told (now (a .s)) (a .at) Unended (r .before .if1 .left) (sym (r .read-segment .ensures .0) ∙ e .enum-told2 .given .1)
 
 returns-5 : tie.Need-returns-5
 returns-5 c =
@@ -86,7 +86,7 @@ returns-5 c =
     let r = e .before .before in
     let a = r .before .before .before .args in
     ap Refused (c .refusal3 .ensures ∙ ap (refusalOf (a .at)) (e .enum-told3 .given .1))
-    ∙ found-told (now (a .s)) (a .at) Malformed (r .before .if1 .left) (sym (r .read-segment .ensures) ∙ e .enum-told3 .given .1)
+    ∙ found-told (now (a .s)) (a .at) Malformed (r .before .if1 .left) (sym (r .read-segment .ensures .0) ∙ e .enum-told3 .given .1)
 
 pub segment-at-spec : {M : Type 1} → statement M
 segment-at-spec =

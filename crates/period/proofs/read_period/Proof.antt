@@ -3,7 +3,9 @@
 use mathlib.Core.Path.{ap, _∙_}
 use borrow.Author.Needs.{needs}
 use denote.Ref.{now}
+use Rattle.parts.specs.Places.{bytesOf}
 use Rattle.period.specs.Period.{periodOf}
+use Rattle.period.specs.Said.{period-said}
 use Rattle.period.specs.Written.{period-known}
 use Rattle.period.proofs.read_period.Statement.{statement}
 use Rattle.period.proofs.read_period.Tie as tie
@@ -26,10 +28,13 @@ read-any-requires c κs = search needs
 returns : tie.Need-returns
 returns c =
     let w = c .before .before .before in
-    period-known (now (w .before .bytes-of .result)) (w .read-written .ensures) (c .before .first .given .1) ∙ ap periodOf (w .before .bytes-of .ensures)
+    let a = w .before .before .before .args in
+    period-said (bytesOf (now (a .s)) (a .segment)) (period-known (now (w .before .bytes-of .result)) (w .read-written .ensures) (c .before .first .given .1) ∙ ap periodOf (w .before .bytes-of .ensures))
 
 returns-2 : tie.Need-returns-2
-returns-2 c = c .read-any .ensures
+returns-2 c =
+    let a = c .before .before .before .before .before .before .args in
+    period-said (bytesOf (now (a .s)) (a .segment)) (c .read-any .ensures)
 
 pub read-period-spec : {M : Type 1} → statement M
 read-period-spec =

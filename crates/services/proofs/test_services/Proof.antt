@@ -1,13 +1,13 @@
 -- `services::test_services` meets its contract: the count of the services that are left leads to the answer.
 -- Assumes nothing.
-use mathlib.Core.Path.{_≡_, sym, _∙_}
+use mathlib.Core.Path.{_≡_, sym, ap, _∙_}
 use mathlib.Core.List.{List}
 use Prim.Native.Nat.{_+_, _-_, _≤_}
 use native.Mathlib.Omega.{arith}
 use borrow.Author.Needs.{needs}
 use denote.Ref.{now}
 use Rattle.services.specs.Rows.{rowCount}
-use Rattle.services.specs.Services.{testedOf, servicesFrom, countOn, countedOf}
+use Rattle.services.specs.Services.{testedOf, servicesFrom, countOn, countedOf, testedAnswer}
 use Rattle.services.specs.declared.Service.{Service}
 use Rattle.services.specs.declared.Tested.{Tested}
 use Rattle.services.specs.declared.Tested.the-variants.{Good, Refused}
@@ -37,8 +37,8 @@ module _ (t : tie.After-test-service Inv-loop μ-loop) where
       next-found (now (start .args .s)) (now (start .args .rows)) (start .args .n) (own .loop .i) service
       (sym (t .before .before .before .before .next-service .ensures) ∙ t .before .before .service .given .1)
 
-  tested : (x : Tested) → t .test-service .result ≡ x → testedOf (now (start .args .s)) (now (start .args .rows)) service ≡ x
-  tested x e = sym (t .test-service .ensures) ∙ e
+  tested : (x : Tested) → t .test-service .result ≡ x → testedOf (now (start .args .s)) (now (start .args .rows)) service ≡ testedAnswer x
+  tested x e = sym (t .test-service .ensures) ∙ ap testedAnswer e
 
   abbrev left : List Service
   left = servicesFrom (now (start .args .s)) (now (start .args .rows)) (rowCount (now (start .args .rows)) (start .args .n)) (own .loop .i)

@@ -7,10 +7,10 @@ use denote.Ref.{now}
 use lib.ListN.{length, length-replicate}
 use Rattle.interchange.specs.declared.reader.Gathered.{Gathered}
 use Rattle.interchange.specs.declared.reader.Gathered.the-variants.{Numbers, Full, Faulty}
-use Rattle.interchange.specs.declared.reader.Answer.{Answer}
-use Rattle.interchange.specs.declared.reader.Answer.the-variants.{Rows, Refused}
+use Rattle.interchange.specs.declared.reader.Reading.{Reading}
+use Rattle.interchange.specs.declared.reader.Reading.the-variants.{Rows, Refused}
 use Rattle.steps.specs.declared.state.State.{State}
-use Rattle.interchange.specs.Reader.{Outcome, accepted}
+use Rattle.interchange.specs.Reader.{Outcome, accepted, readAnswer}
 use Rattle.interchange.specs.Chunks.{wholeFrom, Filled, Chunk, chunk-as}
 use Rattle.interchange.specs.Answers.{Behind, behind-fault, behind-short, behind-rows, behind-refused, behind-full, behind-fits}
 use borrow.Fn.Kinds.{In}
@@ -144,8 +144,8 @@ module _ (t : ℕ) (r : After-rest t) where
   abbrev rest : Outcome
   rest = wholeFrom (list t (full t filled)) (next t filled) (then t filled)
 
-  told : (x : Answer) → r .read-on .result ≡ x → Behind (behind + some t filled) rest lent x after
-  told x e = let b = r .read-on .ensures in (sym e ∙ b .0, b .1)
+  told : (x : Reading) → r .read-on .result ≡ x → Behind (behind + some t filled) rest lent (readAnswer x) after
+  told x e = let b = r .read-on .ensures in (sym (ap readAnswer e) ∙ b .0, b .1)
 
 read-on-slice-aggregate-gather : (t : ℕ) → read-on-lts.Need-slice-aggregate-gather (
   gather-reads.Asked,

@@ -3,7 +3,7 @@ use Prim.Native.Nat.{ℕ, _+_}
 use denote.Ref.{now}
 use lib.ListN.{length}
 use Rattle.steps.specs.State.{openingState}
-use Rattle.interchange.specs.Reader.{readOn, readingOf}
+use Rattle.interchange.specs.Reader.{readOn, readingOf, readAnswer}
 use Rattle.interchange.specs.Answers.{none-read, long-read, sized-read, right-same}
 use borrow.Author.Needs.{needs}
 use Rattle.interchange.proofs.reader.read.Statement.{statement}
@@ -34,7 +34,7 @@ returns-3 c =
     let e = r .before .before in
     let a = e .before .before .before .before .args in
     let s = now (a .interchange) in
-    right-same (readOn (length s + 1) s openingState 0) (readingOf s) (now (a .rows)) (r .read-sized .result) (r .read-sized .last .1 .0)
+    right-same (readOn (length s + 1) s openingState 0) (readingOf s) (now (a .rows)) (readAnswer (r .read-sized .result)) (r .read-sized .last .1 .0)
     (sized-read s (e .before .if1 .left) (e .if2 .left)) (r .read-sized .ensures)
 
 pub read-spec : {M : Type 1} → statement M

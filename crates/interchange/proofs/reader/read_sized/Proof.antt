@@ -13,6 +13,7 @@ use mathlib.Core.Path.{ap}
 use denote.Ref.{now}
 use Rattle.steps.specs.declared.state.State.{State}
 use Rattle.steps.specs.State.{openingState}
+use Rattle.interchange.specs.Reader.{readAnswer}
 use Rattle.interchange.specs.Chunks.{wholeFrom}
 use Rattle.interchange.specs.Answers.{right-same, right-behind}
 
@@ -57,9 +58,9 @@ returns c =
     let list = now (a .s) in
     let lent = now (a .rows) in
     let after = r .read-on .last .1 .1 .1 .1 .1 .1 .1 .0 in
-    right-same (wholeFrom list (o .opening .result) 0) (wholeFrom list openingState 0) lent (r .read-on .result) after
+    right-same (wholeFrom list (o .opening .result) 0) (wholeFrom list openingState 0) lent (readAnswer (r .read-on .result)) after
     (ap (λ (st : State). wholeFrom list st 0) (o .opening .ensures))
-    (right-behind (wholeFrom list (o .opening .result) 0) lent (r .read-on .result) after (r .read-on .ensures))
+    (right-behind (wholeFrom list (o .opening .result) 0) lent (readAnswer (r .read-on .result)) after (r .read-on .ensures))
 
 pub read-sized-spec : {M : Type 1} → statement M
 read-sized-spec =

@@ -7,7 +7,7 @@ use native.Mathlib.Omega.{arith}
 use denote.Ref.{now}
 use Rattle.syntax.specs.Segment.{bodyAt}
 use Rattle.syntax.specs.Ends.{end-within}
-use Rattle.steps.specs.Step.{segmentStep}
+use Rattle.steps.specs.Step.{stepAnswer, segmentStep}
 use Rattle.interchange.specs.Reader.{dialogueOf, referenceOf, turnStep}
 use Rattle.interchange.specs.Turns.{body-slice, step-same}
 use borrow.Author.Needs.{needs}
@@ -26,7 +26,7 @@ module _ (u : tie.After-step-segment) where
   abbrev start : tie.Start
   start = u .before .before .before .before .before .before .before
 
-  told : u .step-segment .result ≡ segmentStep (now (start .args .skdupd)) (now (start .args .tsdupd)) (start .args .st) (start .args .at) (bodyAt (now (start .args .s)) (start .args .at)) (dialogueOf (now (start .args .s)) (start .args .st)) (referenceOf (now (start .args .s)) (start .args .st))
+  told : stepAnswer (u .step-segment .result) ≡ segmentStep (now (start .args .skdupd)) (now (start .args .tsdupd)) (start .args .st) (start .args .at) (bodyAt (now (start .args .s)) (start .args .at)) (dialogueOf (now (start .args .s)) (start .args .st)) (referenceOf (now (start .args .s)) (start .args .st))
   told =
       let a = start .args in
       u .step-segment .ensures
@@ -62,12 +62,12 @@ enum-known-refusal c = search needs
 returns : tie.Need-returns
 returns c =
     let u = c .before .before .before in
-    ap (turnStep (start u .args .end + 1)) (sym (c .before .next .given .1) ∙ told u)
+    ap (turnStep (start u .args .end + 1)) (sym (ap stepAnswer (c .before .next .given .1)) ∙ told u)
 
 returns-2 : tie.Need-returns-2
 returns-2 c =
     let u = c .before .before .before in
-    ap (turnStep (start u .args .end + 1)) (sym (c .before .refusal .given .1) ∙ told u)
+    ap (turnStep (start u .args .end + 1)) (sym (ap stepAnswer (c .before .refusal .given .1)) ∙ told u)
 
 pub take-step-spec : {M : Type 1} → statement M
 take-step-spec =

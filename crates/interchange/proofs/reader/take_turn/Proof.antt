@@ -23,7 +23,7 @@ enum-known-found c = search needs
 take-step-requires : tie.Need-take-step-requires
 take-step-requires c κs =
     let r = c .before .before .before in
-    sym (r .read-segment .ensures) ∙ c .before .found .given .1
+    sym (r .read-segment .ensures .0) ∙ c .before .found .given .1
 
 enum-told : tie.Need-enum-told
 enum-told c = search needs
@@ -49,7 +49,7 @@ returns c =
     let r = k .before .before in
     let a = r .before .before .args in
     c .take-step .ensures
-    ∙ turn-is (now (a .skdupd)) (now (a .tsdupd)) (now (a .s)) (a .st) (a .at) (End (k .found .given .0 .0)) (sym (r .read-segment .ensures) ∙ k .found .given .1)
+    ∙ turn-is (now (a .skdupd)) (now (a .tsdupd)) (now (a .s)) (a .st) (a .at) (End (k .found .given .0 .0)) (sym (r .read-segment .ensures .0) ∙ k .found .given .1)
 
 returns-2 : tie.Need-returns-2
 returns-2 c =
@@ -57,7 +57,7 @@ returns-2 c =
     let r = e .before .before in
     let a = r .before .before .args in
     ap Stop (c .refusal .ensures ∙ ap (refusalOf (a .at)) (e .enum-told .given .1))
-    ∙ turn-is (now (a .skdupd)) (now (a .tsdupd)) (now (a .s)) (a .st) (a .at) (NotPermitted (e .enum-told .given .0 .0)) (sym (r .read-segment .ensures) ∙ e .enum-told .given .1)
+    ∙ turn-is (now (a .skdupd)) (now (a .tsdupd)) (now (a .s)) (a .st) (a .at) (NotPermitted (e .enum-told .given .0 .0)) (sym (r .read-segment .ensures .0) ∙ e .enum-told .given .1)
 
 returns-3 : tie.Need-returns-3
 returns-3 c =
@@ -65,7 +65,7 @@ returns-3 c =
     let r = e .before .before in
     let a = r .before .before .args in
     ap Stop (c .refusal2 .ensures ∙ ap (refusalOf (a .at)) (e .enum-told2 .given .1))
-    ∙ turn-is (now (a .skdupd)) (now (a .tsdupd)) (now (a .s)) (a .st) (a .at) Unended (sym (r .read-segment .ensures) ∙ e .enum-told2 .given .1)
+    ∙ turn-is (now (a .skdupd)) (now (a .tsdupd)) (now (a .s)) (a .st) (a .at) Unended (sym (r .read-segment .ensures .0) ∙ e .enum-told2 .given .1)
 
 returns-4 : tie.Need-returns-4
 returns-4 c =
@@ -73,7 +73,7 @@ returns-4 c =
     let r = e .before .before in
     let a = r .before .before .args in
     ap Stop (c .refusal3 .ensures ∙ ap (refusalOf (a .at)) (e .enum-told3 .given .1))
-    ∙ turn-is (now (a .skdupd)) (now (a .tsdupd)) (now (a .s)) (a .st) (a .at) Malformed (sym (r .read-segment .ensures) ∙ e .enum-told3 .given .1)
+    ∙ turn-is (now (a .skdupd)) (now (a .tsdupd)) (now (a .s)) (a .st) (a .at) Malformed (sym (r .read-segment .ensures .0) ∙ e .enum-told3 .given .1)
 
 pub take-turn-spec : {M : Type 1} → statement M
 take-turn-spec =

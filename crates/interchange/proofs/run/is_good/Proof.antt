@@ -45,7 +45,7 @@ module _ (r : tie.After-read-period) where
   told x e =
       good-read (start .args .kind) (start .args .tag) (start .args .group) (bodyAt list (start .args .at))
       (sym (r .before .before .is-period .ensures) ∙ not-false (r .before .before .is-period .result) (r .before .if1 .left)) x
-      (sym (ap periodOf (part-is list (start .args .at) (start .args .end) (start .pre))) ∙ sym (r .read-period .ensures) ∙ e)
+      (sym (ap periodOf (part-is list (start .args .at) (start .args .end) (start .pre))) ∙ sym (r .read-period .ensures .0) ∙ e)
 
 returns-2 : tie.Need-returns-2
 returns-2 c =

@@ -50,7 +50,7 @@ module _ (t : tie.After-tag-at Inv-loop μ-loop) where
   last = t .before .before .end .given .0 .0
 
   ended : segmentAt (list own) (own .loop .at) ≡ End last
-  ended = sym (t .before .before .before .before .read-segment .ensures) ∙ t .before .before .end .given .1
+  ended = sym (t .before .before .before .before .read-segment .ensures .0) ∙ t .before .before .end .given .1
 
   within : (own .loop .at + 3 ≤ last) × (last < length (list own))
   within = end-within (list own) (own .loop .at) last ended
@@ -157,7 +157,7 @@ loop-again c =
           (moved-inside (now (a .s)) (a .st) (a .from) (a .gathered) (now (a .room)) (a .st) (p .0)
           (o .loop .place) (o .loop .segments) (o .loop .at) (o .loop .numbers) (o .loop .room) (o .loop .inv .0)
           (last t) (ended t) (now (a .table)) (p .1) (t .tag-at .result) (t .tag-at .ensures) (n .before .before .before .if1 .left)
-          (n .next .given .0 .0) (sym (p .2 (o .loop .place) (t .tag-at .result)) ∙ sym (n .before .before .quick-step .ensures) ∙ n .next .given .1) (j .group .result) (j .group .ensures)
+          (n .next .given .0 .0) (sym (p .2 (o .loop .place) (t .tag-at .result)) ∙ sym (n .before .before .quick-step .ensures .0) ∙ n .next .given .1) (j .group .result) (j .group .ensures)
           (sym (k .is-good .ensures) ∙ not-false (k .is-good .result) (d .before .before .if2 .left))
           (omega arith) (d .put-row .last .0) (d .put-row .ensures)),
       omega arith,

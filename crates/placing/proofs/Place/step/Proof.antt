@@ -3,6 +3,7 @@ use mathlib.Core.Path.{_≡_, sym, _∙_}
 use borrow.Author.Needs.{needs}
 use denote.Ref.{now}
 use Rattle.placing.specs.Rule.{choicesFrom, firstOf, stepOf}
+use Rattle.placing.specs.Said.{step-said}
 use Rattle.placing.specs.Walks.{turn-here, turn-out, turn-last, turn-up, step-start}
 use Rattle.placing.proofs.Place.step.Statement.{statement}
 use Rattle.placing.proofs.Place.step.Tie as tie
@@ -31,7 +32,7 @@ returns : tie.Need-returns Inv-loop μ-loop
 returns c =
     let l = c .before .before .before .before in
     let a = l .before .before .args in
-    sym (turn-here (now (a .table)) (a .self) (a .tag) (l .loop .level) (l .loop .row) (c .before .q .given .0 .0) (sym (c .before .before .before .turn .ensures) ∙ c .before .q .given .1)) ∙ l .loop .inv
+    step-said (now (a .table)) (a .self) (a .tag) (sym (turn-here (now (a .table)) (a .self) (a .tag) (l .loop .level) (l .loop .row) (c .before .q .given .0 .0) (sym (c .before .before .before .turn .ensures) ∙ c .before .q .given .1)) ∙ l .loop .inv)
 
 enum-told : tie.Need-enum-told Inv-loop μ-loop
 enum-told c = search needs
@@ -40,7 +41,7 @@ returns-2 : tie.Need-returns-2 Inv-loop μ-loop
 returns-2 c =
     let l = c .before .before .before in
     let a = l .before .before .args in
-    sym (turn-out (now (a .table)) (a .self) (a .tag) (l .loop .level) (l .loop .row) (sym (c .before .before .turn .ensures) ∙ c .enum-told .given .1)) ∙ l .loop .inv
+    step-said (now (a .table)) (a .self) (a .tag) (sym (turn-out (now (a .table)) (a .self) (a .tag) (l .loop .level) (l .loop .row) (sym (c .before .before .turn .ensures) ∙ c .enum-told .given .1)) ∙ l .loop .inv)
 
 enum-told-2 : tie.Need-enum-told-2 Inv-loop μ-loop
 enum-told-2 c = search needs
@@ -49,7 +50,7 @@ returns-3 : tie.Need-returns-3 Inv-loop μ-loop
 returns-3 c =
     let l = c .before .before .before .before in
     let a = l .before .before .args in
-    sym (turn-last (now (a .table)) (a .self) (a .tag) (l .loop .level) (l .loop .row) (c .if1 .taken) (sym (c .before .before .before .turn .ensures) ∙ c .before .enum-told2 .given .1)) ∙ l .loop .inv
+    step-said (now (a .table)) (a .self) (a .tag) (sym (turn-last (now (a .table)) (a .self) (a .tag) (l .loop .level) (l .loop .row) (c .if1 .taken) (sym (c .before .before .before .turn .ensures) ∙ c .before .enum-told2 .given .1)) ∙ l .loop .inv)
 
 entry-requires : tie.Need-entry-requires Inv-loop μ-loop
 entry-requires c κs = search needs

@@ -35,7 +35,7 @@ returns-2 c =
     let u = i .before in
     let a = u .before .before .before .before .before .args in
     next-is (c .before .closed .ensures) (c .row .ensures)
-    ∙ closing-good (a .st) (a .at) (now (a .segment)) (now (a .dialogue)) (u .before .if1 .left) (sym (u .check-uiz .ensures) ∙ i .if2 .taken)
+    ∙ closing-good (a .st) (a .at) (now (a .segment)) (now (a .dialogue)) (u .before .if1 .left) (sym (u .check-uiz .ensures .0) ∙ i .if2 .taken)
 
 refused-requires-2 : tie.Need-refused-requires-2
 refused-requires-2 c κs = search needs
@@ -44,7 +44,7 @@ returns-3 : tie.Need-returns-3
 returns-3 c =
     let u = c .before .before in
     let a = u .before .before .before .before .before .args in
-    c .refused2 .ensures ∙ closing-wrong (a .st) (a .at) (now (a .segment)) (now (a .dialogue)) (sym (u .check-uiz .ensures) ∙ c .before .if2 .left)
+    c .refused2 .ensures ∙ closing-wrong (a .st) (a .at) (now (a .segment)) (now (a .dialogue)) (sym (u .check-uiz .ensures .0) ∙ c .before .if2 .left)
 
 pub close-dialogue-spec : {M : Type 1} → statement M
 close-dialogue-spec =

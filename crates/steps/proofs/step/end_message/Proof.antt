@@ -33,7 +33,7 @@ module _ (u : tie.After-check-uit) where
   told : u .check-uit .result ≡ uitOf (now (u .before .before .before .before .args .segment)) (now (u .before .before .before .before .args .reference)) (oneMore (u .before .before .before .before .args .st .segments))
   told =
       let a = u .before .before .before .before .args in
-      u .check-uit .ensures ∙ ap (uitOf (now (a .segment)) (now (a .reference))) (u .before .one-more .ensures)
+      u .check-uit .ensures .0 ∙ ap (uitOf (now (a .segment)) (now (a .reference))) (u .before .one-more .ensures)
 
 returns : tie.Need-returns
 returns c =

@@ -41,19 +41,19 @@ returns c =
     let k = c .before .before .before in
     let u = k .before .before in
     let a = u .before .before .args in
-    next-is (c .before .headed .ensures) (c .row .ensures) ∙ ap (headed (a .st) (a .at) (now (a .segment))) (sym (k .kind .given .1) ∙ u .read-uih .ensures)
+    next-is (c .before .headed .ensures) (c .row .ensures) ∙ ap (headed (a .st) (a .at) (now (a .segment))) (sym (k .kind .given .1) ∙ u .read-uih .ensures .0)
 
 returns-2 : tie.Need-returns-2
 returns-2 c =
     let u = c .before .before .before in
     let a = u .before .before .args in
-    c .refused .ensures ∙ ap (headed (a .st) (a .at) (now (a .segment))) (sym (c .before .enum-told .given .1) ∙ u .read-uih .ensures)
+    c .refused .ensures ∙ ap (headed (a .st) (a .at) (now (a .segment))) (sym (c .before .enum-told .given .1) ∙ u .read-uih .ensures .0)
 
 returns-3 : tie.Need-returns-3
 returns-3 c =
     let u = c .before .before .before in
     let a = u .before .before .args in
-    c .refused2 .ensures ∙ ap (headed (a .st) (a .at) (now (a .segment))) (sym (c .before .enum-told2 .given .1) ∙ u .read-uih .ensures)
+    c .refused2 .ensures ∙ ap (headed (a .st) (a .at) (now (a .segment))) (sym (c .before .enum-told2 .given .1) ∙ u .read-uih .ensures .0)
 
 pub head-message-spec : {M : Type 1} → statement M
 head-message-spec =

@@ -33,7 +33,7 @@ refused-requires c κs = search needs
 
 module _ (u : tie.After-read-period) where
   told : u .read-period .result ≡ periodOf (now (u .before .before .args .segment))
-  told = u .read-period .ensures ∙ ap periodOf (whole (now (u .before .before .args .segment)))
+  told = u .read-period .ensures .0 ∙ ap periodOf (whole (now (u .before .before .args .segment)))
 
 returns : tie.Need-returns
 returns c =

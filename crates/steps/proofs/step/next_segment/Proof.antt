@@ -41,7 +41,7 @@ module _ (u : tie.After-step) where
   told : u .step .result ≡ stepOf (now (u .before .before .before .before .before .args .table)) (u .before .before .before .before .before .args .st .place) (tagNumber (now (u .before .before .before .before .before .args .segment)))
   told =
       let a = u .before .before .before .before .before .args in
-      u .step .ensures ∙ ap (stepOf (now (a .table)) (a .st .place)) (u .before .tag-at .ensures)
+      u .step .ensures .0 ∙ ap (stepOf (now (a .table)) (a .st .place)) (u .before .tag-at .ensures)
 
 returns : tie.Need-returns
 returns c =

@@ -49,7 +49,7 @@ returns-2 c =
     let t = u .before .before in
     let a = t .before .before .args in
     next-is (c .before .opened .ensures) (c .row .ensures)
-    ∙ opening-good (a .st) (a .at) (now (a .segment)) (sym (t .tag-at .ensures) ∙ u .before .if1 .left) (d .dialogue .given .0 .0) (sym (u .read-uib .ensures) ∙ d .dialogue .given .1)
+    ∙ opening-good (a .st) (a .at) (now (a .segment)) (sym (t .tag-at .ensures) ∙ u .before .if1 .left) (d .dialogue .given .0 .0) (sym (u .read-uib .ensures .0) ∙ d .dialogue .given .1)
 
 returns-3 : tie.Need-returns-3
 returns-3 c =
@@ -57,7 +57,7 @@ returns-3 c =
     let t = u .before .before in
     let a = t .before .before .args in
     c .refused2 .ensures
-    ∙ opening-wrong (a .st) (a .at) (now (a .segment)) (sym (t .tag-at .ensures) ∙ u .before .if1 .left) (sym (u .read-uib .ensures) ∙ c .before .enum-told .given .1)
+    ∙ opening-wrong (a .st) (a .at) (now (a .segment)) (sym (t .tag-at .ensures) ∙ u .before .if1 .left) (sym (u .read-uib .ensures .0) ∙ c .before .enum-told .given .1)
 
 pub open-dialogue-spec : {M : Type 1} → statement M
 open-dialogue-spec =

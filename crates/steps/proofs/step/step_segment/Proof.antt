@@ -5,8 +5,8 @@ use borrow.Author.Tests.{eq-eqb, ne-eqb}
 use denote.Ref.{now}
 use Rattle.steps.specs.declared.state.Phase.{Phase}
 use Rattle.steps.specs.declared.state.Phase.the-variants.{Opening, Between, Inside, Closed}
-use Rattle.steps.specs.declared.state.Step.{Step}
-use Rattle.steps.specs.Step.{stepBy, segmentStep}
+use Rattle.answers.specs.Answers.{Answer}
+use Rattle.steps.specs.Step.{Taken, stepBy, segmentStep}
 use borrow.Author.Needs.{needs}
 use Rattle.steps.proofs.step.step_segment.Statement.{statement}
 use Rattle.steps.proofs.step.step_segment.Tie as tie
@@ -19,7 +19,7 @@ use Rattle.steps.proofs.step.refused.Reads as refused-reads
 
 -- the step of a phase is the step of the state that is in it
 module _ (s : tie.After-shared-slice-known3) where
-  abbrev by : Phase → Step
+  abbrev by : Phase → Answer Taken
   by f =
       let a = s .before .before .before .args in
       stepBy (now (a .skdupd)) (now (a .tsdupd)) f (a .st) (a .at) (now (a .segment)) (now (a .dialogue)) (now (a .reference))

@@ -9,6 +9,7 @@ use denote.Ref.{now}
 use lib.ListN.{length, drop}
 use Rattle.syntax.specs.Tags.{tagAhead}
 use Rattle.syntax.specs.Found.{endFrom}
+use Rattle.syntax.specs.Said.{scan-said}
 use Rattle.syntax.specs.Whole.{tag-facts, end-past-start, end-after-plus, whole-bare, whole-short, whole-small}
 use borrow.Author.Needs.{needs}
 use Rattle.syntax.proofs.segment.read_segment.Statement.{statement}
@@ -57,7 +58,7 @@ add-t9 c = let h = long (c .before .before) in omega arith
 returns : tie.Need-returns
 returns c =
     let o = c .before .before in
-    whole-bare (list o) (from o) (ahead o) (c .if2 .taken)
+    scan-said (list o) (from o) (whole-bare (list o) (from o) (ahead o) (c .if2 .taken))
 
 add-find-end : tie.Need-add-find-end
 add-find-end c = let h = long (c .before .before) in omega arith
@@ -76,7 +77,7 @@ sub-if4 c =
 returns-2 : tie.Need-returns-2
 returns-2 c =
     let f = c .before .before in
-    whole-short (list (own f)) (from (own f)) (ahead (own f)) (f .find-end .result) (found f) (c .before .if3 .taken) (c .if4 .taken)
+    scan-said (list (own f)) (from (own f)) (whole-short (list (own f)) (from (own f)) (ahead (own f)) (f .find-end .result) (found f) (c .before .if3 .taken) (c .if4 .taken))
 
 sub-is-small : tie.Need-sub-is-small
 sub-is-small c = search needs
@@ -93,13 +94,15 @@ is-small-requires c κs = search needs
 returns-3 : tie.Need-returns-3
 returns-3 c =
     let f = c .before .before .before .before .before in
-    whole-small (list (own f)) (from (own f)) (ahead (own f)) (f .find-end .result) (found f) (c .before .before .before .before .if3 .taken) (sym (c .before .is-small .ensures) ∙ c .if5 .taken)
+    scan-said (list (own f)) (from (own f)) (whole-small (list (own f)) (from (own f)) (ahead (own f)) (f .find-end .result) (found f) (c .before .before .before .before .if3 .taken) (sym (c .before .is-small .ensures) ∙ c .if5 .taken))
 
 counted-requires : tie.Need-counted-requires
 counted-requires c κs = search needs
 
 returns-4 : tie.Need-returns-4
-returns-4 c = search needs
+returns-4 c =
+    let a = c .before .before .before .before .args in
+    scan-said (now (a .s)) (a .at) (c .counted .ensures)
 
 pub read-segment-spec : {M : Type 1} → statement M
 read-segment-spec =

@@ -1,0 +1,145 @@
+-- `checking::is_slot` meets its contract.
+-- Assumes nothing.
+use mathlib.Core.Path.{_≡_, sym, _∙_}
+use mathlib.Core.Bool.{Bool, true, false}
+use mathlib.Core.List.{List}
+use Prim.Native.Nat.{ℕ}
+use native.Mathlib.Omega.{arith}
+use lib.ListN.{length, getD, take, drop}
+use lib.Seq.{length-take-le}
+use borrow.Author.Tests.{not-true, not-false}
+use borrow.Author.Needs.{needs}
+use Rattle.gaps.specs.Zero.{allZero}
+use Rattle.checking.specs.Same.{Bytes}
+use Rattle.checking.specs.Slot.{isSlot, fits, fits-put, fits-none, fits-no-flag, fits-both, fits-no-entry, fits-live, slot-no-number, slot-number-fits}
+use Rattle.checking.proofs.is_slot.Statement.{statement}
+use Rattle.checking.proofs.is_slot.Tie as tie
+
+shared-slice-read-live : tie.Need-shared-slice-read-live
+shared-slice-read-live c = search needs
+
+shared-slice-read-pending : tie.Need-shared-slice-read-pending
+shared-slice-read-pending c = search needs
+
+slice-aggregate-is-number : tie.Need-slice-aggregate-is-number
+slice-aggregate-is-number c = let h = c .before .before .before .before .pre in sym (length-take-le 10 (c .before .before .before .before .args .slot .now) (omega arith))
+
+is-number-requires : tie.Need-is-number-requires
+is-number-requires c κs = let h = c .before .before .before .before .pre in length-take-le 10 (c .before .before .before .before .args .slot .now) (omega arith)
+
+-- the number was looked at
+module _ (n : tie.After-is-number) where
+  abbrev slot : List ℕ
+  slot = n .before .before .before .before .before .args .slot .now
+
+  bytes : Bytes slot
+  bytes i = omega (arith, n .before .before .before .shared-slice-known2 .given i)
+
+  refused : n .is-number .result ≡ false → false ≡ isSlot slot
+  refused t = slot-no-number slot (n .before .before .before .before .before .pre) bytes (n .is-number .result) (n .is-number .ensures) t
+
+  abbrev live : ℕ
+  live = getD slot 10 0
+
+  abbrev pending : ℕ
+  pending = getD slot 75 0
+
+  abbrev no-live : Bool
+  no-live = allZero (take 64 (drop 11 slot))
+
+  abbrev no-put : Bool
+  no-put = allZero (take 64 (drop 76 slot))
+
+  fitting : n .is-number .result ≡ true → fits live pending no-live no-put ≡ isSlot slot
+  fitting t = slot-number-fits slot (n .before .before .before .before .before .pre) bytes (n .is-number .result) (n .is-number .ensures) t
+
+returns : tie.Need-returns
+returns c = refused (c .before) (not-true _ (c .if1 .taken))
+
+returns-2 : tie.Need-returns-2
+returns-2 c =
+    let e = c .before .before in
+    let n = e .before in
+    fits-none (live n) (pending n) (no-live n) (no-put n) (c .before .if2 .taken) (c .if3 .taken) ∙ fitting n (not-false _ (e .if1 .left))
+
+sub-is-zero : tie.Need-sub-is-zero
+sub-is-zero c = search needs
+
+part-is-zero-start : tie.Need-part-is-zero-start
+part-is-zero-start c = search needs
+
+part-is-zero-end : tie.Need-part-is-zero-end
+part-is-zero-end c = search needs
+
+is-zero-requires : tie.Need-is-zero-requires
+is-zero-requires c κs = search needs
+
+returns-3 : tie.Need-returns-3
+returns-3 c =
+    let i = c .before .before in
+    let e = i .before .before in
+    let n = e .before in
+    c .is-zero .ensures ∙ fits-put (live n) (pending n) (no-live n) (no-put n) (i .before .if2 .taken) (i .if3 .left) ∙ fitting n (not-false _ (e .if1 .left))
+
+returns-4 : tie.Need-returns-4
+returns-4 c =
+    let e = c .before .before in
+    let n = e .before in
+    fits-no-flag (live n) (pending n) (no-live n) (no-put n) (c .before .if2 .left) (c .if4 .taken) ∙ fitting n (not-false _ (e .if1 .left))
+
+returns-5 : tie.Need-returns-5
+returns-5 c =
+    let e = c .before .before .before in
+    let n = e .before in
+    fits-both (live n) (pending n) (no-live n) (no-put n) (c .before .if4 .left) (c .if5 .taken) ∙ fitting n (not-false _ (e .if1 .left))
+
+returns-6 : tie.Need-returns-6
+returns-6 c =
+    let f = c .before .before in
+    let e = f .before .before in
+    let n = e .before in
+    fits-no-entry (live n) (pending n) (no-live n) (no-put n) (f .if4 .left) (c .before .if5 .left) (c .if6 .taken) ∙ fitting n (not-false _ (e .if1 .left))
+
+sub-is-zero-2 : tie.Need-sub-is-zero-2
+sub-is-zero-2 c = search needs
+
+part-is-zero-start-2 : tie.Need-part-is-zero-start-2
+part-is-zero-start-2 c = search needs
+
+part-is-zero-end-2 : tie.Need-part-is-zero-end-2
+part-is-zero-end-2 c = search needs
+
+is-zero-requires-2 : tie.Need-is-zero-requires-2
+is-zero-requires-2 c κs = search needs
+
+returns-7 : tie.Need-returns-7
+returns-7 c =
+    let i = c .before .before in
+    let f = i .before .before in
+    let e = f .before .before in
+    let n = e .before in
+    c .is-zero2 .ensures ∙ fits-live (live n) (pending n) (no-live n) (no-put n) (f .if4 .left) (i .before .if5 .left) (i .if6 .left) ∙ fitting n (not-false _ (e .if1 .left))
+
+pub is-slot-spec : {M : Type 1} → statement M
+is-slot-spec =
+    tie.close
+    (tie.spec
+    shared-slice-read-live
+    shared-slice-read-pending
+    slice-aggregate-is-number
+    is-number-requires
+    returns
+    returns-2
+    sub-is-zero
+    part-is-zero-start
+    part-is-zero-end
+    is-zero-requires
+    returns-3
+    returns-4
+    returns-5
+    returns-6
+    sub-is-zero-2
+    part-is-zero-start-2
+    part-is-zero-end-2
+    is-zero-requires-2
+    returns-7)

@@ -1,0 +1,5 @@
+pub mod Same
+pub mod Number
+pub mod Slot
+pub mod Room
+pub mod Register

@@ -1,0 +1,67 @@
+-- Comparing a text made of parts, or of zeros.
+-- Assumes nothing.
+use mathlib.Core.Path.{_≡_, refl, sym, ap}
+use mathlib.Core.Bool.{Bool, true, false}
+use mathlib.Core.List.{List, [], _∷_, _++_}
+use Prim.Native.Nat.{ℕ, zero, suc, _+_, _<_}
+use native.Mathlib.Omega.{arith}
+use lib.Dec.{eqb, ltb}
+use borrow.Author.Tests.{eq-eqb, ne-eqb, eqb-true, eqb-false, lt-ltb}
+use lib.ListN.{length, getD, take, drop, replicate}
+use lib.Seq.{getD-drop}
+use Rattle.laws.specs.Choice.{both, choose, all, both-parts, both-assoc, false≢true}
+use Rattle.values.specs.Values.{sameText}
+use Rattle.gaps.specs.Zero.{allZero}
+
+-- a text is the same as itself
+pub same-itself : (l : List ℕ) → sameText l l ≡ true
+unfolding sameText
+same-itself [] = refl
+same-itself (b ∷ l) = rw (eq-eqb b b refl) (same-itself l)
+
+-- a text of two parts is compared part by part
+pub same-append : (a x b : List ℕ) → sameText (a ++ x) b ≡ both (sameText a (take (length a) b)) (sameText x (drop (length a) b))
+unfolding sameText
+same-append [] x b = refl
+same-append (c ∷ a) x [] = refl
+same-append (c ∷ a) x (d ∷ b) =
+    rw (same-append a x b) (sym (both-assoc (eqb c d) (sameText a (take (length a) b)) (sameText x (drop (length a) b))))
+
+-- two texts that are found the same are one
+pub same-told : (a b : List ℕ) → sameText a b ≡ true → a ≡ b
+unfolding sameText
+same-told [] [] q = refl
+same-told [] (d ∷ b) q = absurd (false≢true q)
+same-told (c ∷ a) [] q = absurd (false≢true q)
+same-told (c ∷ a) (d ∷ b) q =
+    let w = both-parts (eqb c d) (sameText a b) q in
+    rw (eqb-true c d (w .0), same-told a b (w .1))
+
+pub other-length : (a b : List ℕ) → (length a ≡ length b → ⊥) → sameText a b ≡ false
+other-length a b h = choose (sameText a b) (λ p. absurd (h (ap length (same-told a b p)))) (λ p. p)
+
+pub same-number : (a b : ℕ) → eqb a b ≡ eqb b a
+same-number a b =
+    choose (eqb a b)
+    (λ p. rw p (sym (eq-eqb b a (sym (eqb-true a b p)))))
+    (λ p. rw p (sym (ne-eqb b a (λ e. eqb-false a b p (sym e)))))
+
+-- zeros are zeros, as many
+pub same-zeros : (n : ℕ) (b : List ℕ) → length b ≡ n → sameText (replicate n 0) b ≡ allZero b
+unfolding sameText allZero
+same-zeros zero [] h = refl
+same-zeros zero (d ∷ b) h = absurd (omega arith)
+same-zeros (suc n) [] h = absurd (omega arith)
+same-zeros (suc n) (d ∷ b) h = rw (same-number 0 d, same-zeros n b (omega arith))
+
+-- a list of bytes
+abbrev pub Bytes : List ℕ → Type 0
+Bytes s = (i : ℕ) → getD s i 0 < 256
+
+pub bytes-drop : (k : ℕ) (s : List ℕ) → Bytes s → Bytes (drop k s)
+bytes-drop k s h i = rw getD-drop (h (k + i))
+
+pub bytes-all : (n : ℕ) (s : List ℕ) → Bytes s → all (λ b. ltb b 256) (take n s) ≡ true
+bytes-all zero s h = refl
+bytes-all (suc n) [] h = refl
+bytes-all (suc n) (b ∷ s) h = rw (lt-ltb b 256 (h 0)) (bytes-all n s (λ i. h (suc i)))

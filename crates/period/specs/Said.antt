@@ -1,0 +1,29 @@
+-- What a POP comes to is what the table answers.
+-- Assumes nothing.
+use mathlib.Core.Path.{_≡_, refl, ap, _∙_}
+use mathlib.Core.Bool.{Bool}
+use mathlib.Core.List.{List}
+use Prim.Native.Nat.{ℕ}
+use Rattle.laws.specs.Choice.{choose}
+use Rattle.period.specs.declared.Period.{Period}
+use Rattle.period.specs.declared.Span.{Span}
+use Rattle.period.specs.declared.Span.the-variants.{Days, NoSpan}
+use Rattle.period.specs.declared.Formed.{Formed}
+use Rattle.period.specs.declared.Formed.the-variants.{Told, Faulty}
+use Rattle.period.specs.Period.{firstLast, dayText, weekText, spanIn, formedOf, restGood, periodBy, periodOn, periodOf, periodAnswer, popBy, popOn, popAnswer}
+
+module _ (at : ℕ) where
+  by-said : (x : Formed) (rest : Bool) (f n : ℕ) → periodAnswer at (periodBy x rest f n) ≡ popBy at x rest f n
+  by-said (Faulty x) rest f n = refl
+  by-said (Told form) rest f n = choose rest (λ q. rw q) (λ q. rw q)
+
+  on-said : (x : Span) (g : List ℕ) → periodAnswer at (periodOn x g) ≡ popOn at x g
+  on-said NoSpan g = refl
+  on-said (Days f n) g = by-said (formedOf n (dayText g) (weekText g)) (restGood g) f n
+
+  pub pop-said : (g : List ℕ) → periodAnswer at (periodOf g) ≡ popAnswer at g
+  unfolding periodOf popAnswer
+  pop-said g = on-said (spanIn (firstLast g)) g
+
+pub period-said : (g : List ℕ) {x : Period} → x ≡ periodOf g → (x ≡ periodOf g) × ((at : ℕ) → periodAnswer at x ≡ popAnswer at g)
+period-said g e = (e, λ at. ap (periodAnswer at) e ∙ pop-said at g)

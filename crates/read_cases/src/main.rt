@@ -1,0 +1,279 @@
+//! Reads cases, a line each, and writes for each the text that the printing program prints.
+//! A line is how many numbers the row buffer holds, a tab, and an interchange. In it `~` and two hexadecimal digits stand
+//! for a byte, and `{3|text}` for a text three times. A line that begins with `#` is copied.
+//! A table of more than 1,000 bytes is told by `long`, its rows, its bytes, and the remainder by 65,521 of the number that
+//! its bytes are.
+
+use interchange::reader::Answer;
+use interchange::reader::read;
+use libc::STDOUT_FILENO;
+use parts::Part;
+use parts::bytes_of;
+use text::Written;
+use text::write_refusal;
+use text::write_table;
+ghost use Prim.Native.Nat.{_<_, _≤_};
+ghost use lib.ListN.{length};
+
+// Where a byte next stands, or the end.
+fn find(s: &[u8], from: usize, byte: u8) -> usize
+    requires { ⌜ from ≤ length (now s) ⌝ }
+    ensures { λ r. ⌜ (from ≤ r) × (r ≤ length (now (s .entry))) ⌝ }
+{
+    let mut i = from;
+    while i < s.len() {
+        if s[i] == byte {
+            return i;
+        }
+        i += 1;
+    }
+    i
+}
+
+fn number(line: &[u8], from: usize) -> usize {
+    let mut i = from;
+    let mut value = 0;
+    while i < line.len() {
+        let b = line[i];
+        if b < b'0' {
+            return value;
+        }
+        if b'9' < b {
+            return value;
+        }
+        value = (value % 1000000) * 10 + (b - b'0') as usize;
+        i += 1;
+    }
+    value
+}
+
+fn hexadecimal(b: u8) -> u8 {
+    if b < b'0' {
+        return 0;
+    }
+    if b <= b'9' {
+        return b - b'0';
+    }
+    if b < b'A' {
+        return 0;
+    }
+    if b <= b'F' {
+        return b - b'A' + 10;
+    }
+    0
+}
+
+// The byte that stands or is named at an index.
+fn byte_at(line: &[u8], i: usize) -> u8
+    requires { ⌜ i < length (now line) ⌝ }
+{
+    if line[i] != b'~' {
+        return line[i];
+    }
+    if line.len() - i < 3 {
+        return 0;
+    }
+    let high = hexadecimal(line[i + 1]) % 16;
+    let low = hexadecimal(line[i + 2]) % 16;
+    high * 16 + low
+}
+
+// Where the notation goes on past the sign at an index.
+fn past(line: &[u8], i: usize) -> usize
+    requires { ⌜ i < length (now line) ⌝ }
+    ensures { λ r. ⌜ i < r ⌝ }
+{
+    if line[i] == b'{' {
+        return find(line, i, b'|') + 1;
+    }
+    if line[i] == b'~' {
+        return i + 3;
+    }
+    i + 1
+}
+
+fn put(out: &mut [u8], at: usize, b: u8) -> usize {
+    if out.len() <= at {
+        return at;
+    }
+    out[at] = b;
+    at + 1
+}
+
+// The bytes from an index to another, once more at a third; where they end.
+fn copy(out: &mut [u8], from: usize, to: usize, at: usize) -> usize {
+    let mut n = at;
+    let mut i = from;
+    while i < to {
+        if out.len() <= i {
+            return n;
+        }
+        let b = out[i];
+        n = put(out, n, b);
+        i += 1;
+    }
+    n
+}
+
+// The bytes from an index to another, as often as a number says; where they end.
+fn repeat(out: &mut [u8], from: usize, to: usize, times: usize) -> usize {
+    let mut n = to;
+    let mut left = times;
+    while 1 < left {
+        n = copy(out, from, to, n);
+        left -= 1;
+    }
+    n
+}
+
+// How many bytes a notation has said, where the text that is repeated begins, and how often it stands.
+struct Said {
+    bytes: usize,
+    start: usize,
+    times: usize,
+}
+
+fn take(line: &[u8], i: usize, said: Said, out: &mut [u8]) -> Said
+    requires { ⌜ i < length (now line) ⌝ }
+{
+    let n = said.bytes;
+    if line[i] == b'{' {
+        return Said {
+            bytes: n,
+            start: n,
+            times: number(line, i + 1),
+        };
+    }
+    if line[i] == b'}' {
+        return Said {
+            bytes: repeat(out, said.start, n, said.times),
+            start: n,
+            times: 0,
+        };
+    }
+    Said {
+        bytes: put(out, n, byte_at(line, i)),
+        start: said.start,
+        times: said.times,
+    }
+}
+
+// What the notation from an index on says, over the front of the bytes lent; how many bytes it has.
+fn expand(line: &[u8], from: usize, out: &mut [u8]) -> usize {
+    let mut said = Said {
+        bytes: 0,
+        start: 0,
+        times: 0,
+    };
+    let mut i = from;
+    while i < line.len() {
+        said = take(line, i, said, out);
+        i = past(line, i);
+    }
+    said.bytes
+}
+
+fn say(words: &[u8]) {
+    io::write_all(STDOUT_FILENO, words);
+}
+
+fn print_number(n: usize) {
+    io::print_decimal(STDOUT_FILENO, n as u64);
+}
+
+fn one_more(r: usize, b: u8) -> usize {
+    (r % 65521 * 256 + b as usize) % 65521
+}
+
+fn remainder(text: &[u8]) -> usize {
+    let mut r = 0;
+    let mut i = 0;
+    while i < text.len() {
+        let b = text[i];
+        r = one_more(r, b);
+        i += 1;
+    }
+    r
+}
+
+fn print_table(text: &[u8], rows: usize) {
+    if text.len() <= 1000 {
+        say(text);
+        return;
+    }
+    say(b"long\t");
+    print_number(rows);
+    say(b"\t");
+    print_number(text.len());
+    say(b"\t");
+    print_number(remainder(text));
+    say(b"\n");
+}
+
+fn answer_rows(rows: &[u32], n: usize) {
+    let mut out = [0u8; 250000];
+    match write_table(rows, n, &mut out) {
+        Written::Bytes(k) => print_table(bytes_of(&out, Part { from: 0, to: k }), n),
+        Written::NoRoom => say(b"no room\n"),
+    }
+}
+
+fn answer_refusal(number: u8, position: usize) {
+    let mut out = [0u8; 64];
+    match write_refusal(number, position, &mut out) {
+        Written::Bytes(k) => say(bytes_of(&out, Part { from: 0, to: k })),
+        Written::NoRoom => say(b"no room\n"),
+    }
+}
+
+fn answer_case(interchange: &[u8], rows: &mut [u32]) {
+    match read(interchange, rows) {
+        Answer::Rows(n) => answer_rows(rows, n),
+        Answer::Refused(refusal) => answer_refusal(refusal.number, refusal.position),
+    }
+}
+
+fn answer_in(interchange: &[u8], rows: &mut [u32], room: usize) {
+    if rows.len() < room {
+        return;
+    }
+    let from = rows.len() - room;
+    answer_case(interchange, &mut rows[from..]);
+}
+
+fn answer_line(line: &[u8]) {
+    if line.len() == 0 {
+        return;
+    }
+    if line[0] == b'#' {
+        say(line);
+        say(b"\n");
+        return;
+    }
+    let mut interchange = [0u8; 60001];
+    let n = expand(line, find(line, 0, b'\t') + 1, &mut interchange);
+    let mut rows = [0u32; 45000];
+    answer_in(
+        bytes_of(&interchange, Part { from: 0, to: n }),
+        &mut rows,
+        number(line, 0),
+    );
+}
+
+fn answer_all(s: &[u8]) {
+    let mut i = 0;
+    while i < s.len() {
+        let end = find(s, i, b'\n');
+        answer_line(&s[i..end]);
+        i = end + 1;
+    }
+}
+
+fn main() {
+    let mut buffer = [0u8; 65536];
+    let n = io::read_full(0, &mut buffer);
+    answer_all(&buffer[..n]);
+    // The largest numbers that are printed; and rows that the buffer does not hold are none.
+    answer_refusal(255, 18446744073709551615);
+    answer_rows(&[55, 0, 0x55495A, 63], 15000);
+}
