@@ -11,7 +11,8 @@ use lib.ListN.{length, take, drop}
 use lib.Seq.{take-at}
 use Rattle.laws.specs.Choice.{pick, either, choose, either-parts}
 use Rattle.laws.specs.Lists.{over}
-use Rattle.syntax.specs.declared.segment.Refusal.{Refusal}
+use Rattle.answers.specs.Answers.{Answer, done, refused}
+use Rattle.answers.specs.Laws.{refused≢done, done≢refused, done-is}
 use Rattle.syntax.specs.declared.segment.Scanned.{Scanned}
 use Rattle.syntax.specs.declared.segment.Scanned.the-variants.{End, NotPermitted, Unended, Malformed}
 use Rattle.syntax.specs.Segment.{bodyAt, segmentAt}
@@ -19,12 +20,9 @@ use Rattle.placing.specs.Skdupd.{skdupdTable}
 use Rattle.placing.specs.Tsdupd.{tsdupdTable}
 use Rattle.steps.specs.declared.state.State.{State}
 use Rattle.steps.specs.declared.state.Row.{Row}
-use Rattle.steps.specs.declared.state.Step.{Step}
-use Rattle.steps.specs.declared.state.Step.the-variants.{Next, Refused}
 use Rattle.steps.specs.State.{openingState}
-use Rattle.steps.specs.Step.{segmentStep}
-use Rattle.interchange.specs.declared.reader.Answer.the-variants as answer
-use Rattle.interchange.specs.Reader.{Outcome, Verdict, accepted, faulty, isClosed, dialogueOf, referenceOf, turnStep, turnScan, turnAt, afterTurn, readOn, sized, readingOf, numbers, answerBy, answerOf, rowsBy, rowsAfter}
+use Rattle.steps.specs.Step.{Taken, taken, segmentStep}
+use Rattle.interchange.specs.Reader.{Outcome, Verdict, accepted, isClosed, dialogueOf, referenceOf, turnStep, turnScan, turnAt, afterTurn, readOn, sized, readingOf, numbers, answerBy, answerOf, rowsBy, rowsAfter}
 use Rattle.interchange.specs.Offsets.{turn-on}
 use Rattle.interchange.specs.Turns.{turn-is}
 use Rattle.interchange.specs.Laws.{length-numbers}
@@ -35,16 +33,16 @@ module _ (s : List ℕ) where
   Few at o = 4 * length (o .rows) + at ≤ length s
 
   module _ (f : ℕ) (ih : (st : State) (at : ℕ) → at ≤ length s → Few at (readOn f s st at)) (from : State) (at : ℕ) (h : at ≤ length s) where
-    abbrev step : Step
+    abbrev step : Answer Taken
     step = segmentStep skdupdTable tsdupdTable from at (bodyAt s at) (dialogueOf s from) (referenceOf s from)
 
-    stepped : (e : ℕ) → segmentAt s at ≡ End e → (y : Step) → step ≡ y → Few at (afterTurn (readOn f s) (turnStep (e + 1) y))
-    stepped e k (Next st r) q =
+    stepped : (e : ℕ) → segmentAt s at ≡ End e → (y : Answer Taken) → step ≡ y → Few at (afterTurn (readOn f s) (turnStep (e + 1) y))
+    stepped e k (done (taken st r)) q =
         let w = turn-on skdupdTable tsdupdTable s from at st r (e + 1) (sym (turn-is skdupdTable tsdupdTable s from at (End e) k) ∙ ap (turnStep (e + 1)) q) in
         let m = ih st (e + 1) (w .2) in
         let n = w .1 in
         omega arith
-    stepped e k (Refused x) q = omega arith
+    stepped e k (refused m p) q = omega arith
 
     scanned : (x : Scanned) → segmentAt s at ≡ x → Few at (afterTurn (readOn f s) (turnScan skdupdTable tsdupdTable s from at x))
     scanned (End e) k = stepped e k step refl
@@ -77,40 +75,40 @@ module _ (s : List ℕ) where
 
 -- ---- what the reader answers where it is lent so much
 
-refused≢rows : {x : Refusal} {n : ℕ} → answer.Refused x ≡ answer.Rows n → ⊥
-refused≢rows q = let z : _≡_ {A = ℕ} 0 1 = cc in omega arith
-
 -- the number of rows of an accepted interchange, and its rows at the front of the buffer
 pub record Rows (s : List ℕ) (n : ℕ) (after : List ℕ) : Type 0 where
   pub accepts : readingOf s .verdict ≡ accepted
   pub count : length (readingOf s .rows) ≡ n
   pub front : take (3 * n) after ≡ numbers (readingOf s .rows)
 
-module _ (rows : List Row) (lent : List ℕ) (enough : 3 * length rows ≤ length lent) where
-  refused-by : (x : Refusal) (v : Verdict) → answerBy rows (length lent) v ≡ answer.Refused x → v ≡ faulty x
-  refused-by x accepted q =
-      absurd (refused≢rows (sym (rw (le-ltb (length lent) (3 * length rows) enough) at q)))
-  refused-by x (faulty y) q =
-      let e : y ≡ x = cc in
-      ap faulty e
+-- a refusal is the same whatever would have been done
+pub refused-again : (A : Type 0) (B : Type 0) (m at k to : ℕ) → _≡_ {A = Answer A} (refused m at) (refused k to) → _≡_ {A = Answer B} (refused m at) (refused k to)
+refused-again A B m at k to q =
+    let e : m ≡ k = cc in
+    let f : at ≡ to = cc in
+    rw (e, f)
 
-  rows-by : (n : ℕ) (v : Verdict) → answerBy rows (length lent) v ≡ answer.Rows n → (v ≡ accepted) × (length rows ≡ n) × (take (3 * n) (rowsBy rows lent v) ≡ numbers rows)
+module _ (rows : List Row) (lent : List ℕ) (enough : 3 * length rows ≤ length lent) where
+  refused-by : (m at : ℕ) (v : Verdict) → answerBy rows (length lent) v ≡ refused m at → v ≡ refused m at
+  refused-by m at (done u) q = absurd (done≢refused (rw (le-ltb (length lent) (3 * length rows) enough) at q))
+  refused-by m at (refused k to) q = refused-again ℕ (Unit {0}) k to m at q
+
+  rows-by : (n : ℕ) (v : Verdict) → answerBy rows (length lent) v ≡ done n → (v ≡ accepted) × (length rows ≡ n) × (take (3 * n) (rowsBy rows lent v) ≡ numbers rows)
   unfolding over
-  rows-by n accepted q =
-      let e : answer.Rows (length rows) ≡ answer.Rows n = rw (le-ltb (length lent) (3 * length rows) enough) at q in
-      let c : length rows ≡ n = cc in
+  rows-by n (done u) q =
+      let c : length rows ≡ n = done-is (rw (le-ltb (length lent) (3 * length rows) enough) at q) in
       let l = length-numbers rows in
       (refl, c, rw (le-ltb (length lent) (3 * length rows) enough) (take-at (numbers rows) (drop (length (numbers rows)) lent) (3 * n) (omega arith)))
-  rows-by n (faulty y) q = absurd (refused≢rows q)
+  rows-by n (refused k to) q = absurd (refused≢done q)
 
 module _ (s lent : List ℕ) (room : length lent ≡ 45000) where
-  pub read-refused : (x : Refusal) → answerOf (readingOf s) (length lent) ≡ answer.Refused x → readingOf s .verdict ≡ faulty x
+  pub read-refused : (m at : ℕ) → answerOf (readingOf s) (length lent) ≡ refused m at → readingOf s .verdict ≡ refused m at
   unfolding answerOf
-  read-refused x q =
+  read-refused m at q =
       let k = few-rows s in
-      refused-by (readingOf s .rows) lent (omega arith) x (readingOf s .verdict) q
+      refused-by (readingOf s .rows) lent (omega arith) m at (readingOf s .verdict) q
 
-  pub read-rows : (n : ℕ) → answerOf (readingOf s) (length lent) ≡ answer.Rows n → Rows s n (rowsAfter (readingOf s) lent)
+  pub read-rows : (n : ℕ) → answerOf (readingOf s) (length lent) ≡ done n → Rows s n (rowsAfter (readingOf s) lent)
   unfolding answerOf rowsAfter
   read-rows n q =
       let k = few-rows s in

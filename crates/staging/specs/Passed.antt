@@ -11,6 +11,7 @@ use borrow.Author.Tests.{leb-true, leb-false, le-leb, lt-leb}
 use lib.ListN.{length}
 use Rattle.laws.specs.Choice.{pick, both, choose}
 use Rattle.answers.specs.Answers.{Answer, done, refused, wrongService, numberTwice, outsideWindow, unknownService, overQuota}
+use Rattle.answers.specs.Laws.{refused≢done, done-is}
 use Rattle.parts.specs.Places.{bytesOf}
 use Rattle.values.specs.Values.{sameText}
 use Rattle.services.specs.declared.Service.{Service}
@@ -27,9 +28,6 @@ use Rattle.staging.specs.Changing.{KeepsNumber, order, swap}
 use Rattle.staging.specs.Tests.{isLive, knownOf, unknownBy, adds, drops, counted, testKnown, testInside, testOne, thenTest, testAll, noTotals}
 use Rattle.staging.specs.Passes.{entered, removeOne, putOne, removeAll, putAll}
 use Rattle.staging.specs.Together.{removed-keeps, put-keeps, entry-keeps, finish, Unsaid, Alike, lookIn, servicesIn, alone, apart, own-row, after-ordered, after-alike, enter-tested}
-
-refused≢done : {A : Type 0} {m at : ℕ} {a : A} → refused m at ≡ done a → ⊥
-refused≢done q = let z : _≡_ {A = ℕ} 0 1 = cc in omega arith
 
 -- what a service that passes its tests is
 pub record Pass (first : ℕ) (s rows : List ℕ) (look : List ℕ → Known) (v : Service) : Type 0 where
@@ -51,10 +49,7 @@ module _ (first : ℕ) (s rows : List ℕ) (look : List ℕ → Known) (v : Serv
   known-done q =
       choose (both (v .removal) (unknownBy (look (numberIn s v))))
       (λ p. absurd (refused≢done (rw p at q)))
-      (λ p. (p, done-is u (counted (v .removal) (look (numberIn s v)) t) (sym (rw p at q))))
-    where
-      done-is : (a b : Totals) → done a ≡ done b → a ≡ b
-      done-is a b e = cc
+      (λ p. (p, done-is (sym (rw p at q))))
 
   pub passed : testOne first s rows look v t ≡ done u → Pass first s rows look v × (u ≡ counted (v .removal) (look (numberIn s v)) t)
   unfolding testOne

@@ -14,15 +14,13 @@ use Rattle.syntax.specs.Pieces.{first, later, join, pieces, nth, partOf}
 use Rattle.syntax.specs.Segment.{bodyAt, scanOf, segmentAt}
 use Rattle.syntax.specs.declared.segment.Scanned.{Scanned}
 use Rattle.syntax.specs.declared.segment.Scanned.the-variants.{End, NotPermitted, Unended, Malformed}
-use Rattle.syntax.specs.declared.segment.Refusal.{Refusal}
+use Rattle.answers.specs.Answers.{Answer, done, refused}
 use Rattle.placing.specs.Table.{Table}
 use Rattle.placing.specs.Skdupd.{skdupdTable}
 use Rattle.placing.specs.Tsdupd.{tsdupdTable}
 use Rattle.steps.specs.declared.state.State.{State}
 use Rattle.steps.specs.declared.state.Row.{Row}
-use Rattle.steps.specs.declared.state.Step.{Step}
-use Rattle.steps.specs.declared.state.Step.the-variants.{Next, Refused}
-use Rattle.steps.specs.Step.{segmentStep}
+use Rattle.steps.specs.Step.{Taken, taken, segmentStep}
 use Rattle.steps.specs.State.{openingState}
 use Rattle.interchange.specs.Reader.{isClosed, dialogueOf, referenceOf, turnStep, turnScan, turnAt, afterTurn, readOn, sized, readingOf, numbers}
 use Rattle.interchange.specs.Offsets.{turn-on}
@@ -139,14 +137,14 @@ end-permitted s at e q = choose (all permittedOf (bodyAt s at)) (λ p. p) (λ p.
 
 module _ (s : List ℕ) where
   module _ (f : ℕ) (ih : (st : State) (at : ℕ) → Read s (readOn f s st at .rows)) (from : State) (at : ℕ) where
-    abbrev step : Step
+    abbrev step : Answer Taken
     step = segmentStep skdupdTable tsdupdTable from at (bodyAt s at) (dialogueOf s from) (referenceOf s from)
 
-    stepped : (e : ℕ) → segmentAt s at ≡ End e → (y : Step) → step ≡ y → Read s (afterTurn (readOn f s) (turnStep (e + 1) y) .rows)
-    stepped e h (Next st r) q =
+    stepped : (e : ℕ) → segmentAt s at ≡ End e → (y : Answer Taken) → step ≡ y → Read s (afterTurn (readOn f s) (turnStep (e + 1) y) .rows)
+    stepped e h (done (taken st r)) q =
         let o = turn-on skdupdTable tsdupdTable s from at st r (e + 1) (sym (turn-is skdupdTable tsdupdTable s from at (End e) h) ∙ ap (turnStep (e + 1)) q) .0 in
         (subst (λ (k : ℕ). Permitted (bodyAt s k)) (sym o) (end-permitted s at e h), ih st (e + 1))
-    stepped e h (Refused x) q = tt
+    stepped e h (refused m p) q = tt
 
     scanned : (x : Scanned) → segmentAt s at ≡ x → Read s (afterTurn (readOn f s) (turnScan skdupdTable tsdupdTable s from at x) .rows)
     scanned (End e) h = stepped e h step refl

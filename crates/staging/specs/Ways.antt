@@ -13,7 +13,7 @@ use lib.Seq.{take-all}
 use Rattle.laws.specs.Choice.{pick, both, both-true, choose}
 use Rattle.laws.specs.Lists.{over, drop-past}
 use Rattle.answers.specs.Answers.{Answer, done, refused}
-use Rattle.syntax.specs.declared.segment.Refusal.{Refusal}
+use Rattle.answers.specs.Laws.{refused≢done}
 use Rattle.syntax.specs.Bytes.{plain}
 use Rattle.syntax.specs.Segment.{bodyAt}
 use Rattle.parts.specs.declared.Part.{Part}
@@ -28,7 +28,6 @@ use Rattle.slots.specs.declared.Found.the-variants.{At, Gap}
 use Rattle.slots.specs.Find.{findOf, Within, find-within}
 use Rattle.gaps.specs.Move.{closedIn, insertedIn}
 use Rattle.services.specs.declared.Service.{Service}
-use Rattle.services.specs.declared.Tested.the-variants as services
 use Rattle.services.specs.Marks.{body-end}
 use Rattle.services.specs.Ways.{segment-bytes}
 use Rattle.services.specs.Services.{segmentOf, periodsOf, isWrong, isTwice, testedOf}
@@ -37,6 +36,7 @@ use Rattle.staging.specs.declared.Known.{Known}
 use Rattle.staging.specs.declared.Known.the-variants as known
 use Rattle.staging.specs.Stage.{numberIn, outsideBy, firstOutside, daysOf}
 use Rattle.staging.specs.Tests.{unknownBy, adds, drops, counted, testKnown, testInside, testOne, thenTest, testAll}
+use Rattle.staging.specs.Few.{refused-again}
 use Rattle.staging.specs.Passed.{passed}
 use Rattle.staging.specs.Room.{numberBytes, knownAt, knownBy, lookAt, removalEntry, newSlot, putBy, putIn, removeAt, removeBy, removeIn, removeBytes, putBytes, removesIn, putsIn}
 
@@ -135,42 +135,36 @@ module _ (removal : Bool) (h : Known) where
   pub unknown-put : removal ≡ false → false ≡ both removal (unknownBy h)
   unknown-put q = rw q
 
-good≢refused : {x : Refusal} → services.Refused x ≡ services.Good → ⊥
-good≢refused q = let z : _≡_ {A = ℕ} 0 1 = cc in omega arith
-
-refused-is : {x y : Refusal} → services.Refused x ≡ services.Refused y → x ≡ y
-refused-is q = cc
-
 -- what services' own test says: 11, then 12
 module _ (s rows : List ℕ) (v : Service) where
-  tested-good : testedOf s rows v ≡ services.Good → (isWrong s rows v ≡ false) × (isTwice s rows (bytesOf s (v .number)) (v .from) ≡ false)
+  tested-good : testedOf s rows v ≡ done tt → (isWrong s rows v ≡ false) × (isTwice s rows (bytesOf s (v .number)) (v .from) ≡ false)
   unfolding testedOf
   tested-good q =
-      choose (isWrong s rows v) (λ p. absurd (good≢refused (rw p at q)))
-      (λ p. choose (isTwice s rows (bytesOf s (v .number)) (v .from)) (λ r. absurd (good≢refused (rw (p, r) at q))) (λ r. (p, r)))
+      choose (isWrong s rows v) (λ p. absurd (refused≢done (rw p at q)))
+      (λ p. choose (isTwice s rows (bytesOf s (v .number)) (v .from)) (λ r. absurd (refused≢done (rw (p, r) at q))) (λ r. (p, r)))
 
   module _ (first : ℕ) (look : List ℕ → Known) (t : Totals) where
-    pub one-refused : (x : Refusal) → testedOf s rows v ≡ services.Refused x → refused (x .number) (x .position) ≡ testOne first s rows look v t
+    pub one-refused : (m at : ℕ) → refused m at ≡ testedOf s rows v → refused m at ≡ testOne first s rows look v t
     unfolding testedOf testOne
-    one-refused x q =
+    one-refused m at q =
         choose (isWrong s rows v)
-        (λ p. rw p (ap (λ (y : Refusal). refused (y .number) (y .position)) (sym (refused-is (rw p at q)))))
+        (λ p. rw p (refused-again (Unit {0}) Totals m at 11 (v .prd) (rw p at q)))
         (λ p.
         choose (isTwice s rows (bytesOf s (v .number)) (v .from))
-        (λ r. rw (p, r) (ap (λ (y : Refusal). refused (y .number) (y .position)) (sym (refused-is (rw (p, r) at q)))))
-        (λ r. absurd (good≢refused (sym (rw (p, r) at q)))))
+        (λ r. rw (p, r) (refused-again (Unit {0}) Totals m at 12 (v .prd) (rw (p, r) at q)))
+        (λ r. absurd (refused≢done (rw (p, r) at q))))
 
-    module _ (g : testedOf s rows v ≡ services.Good) where
+    module _ (g : done tt ≡ testedOf s rows v) where
       pub one-outside : (at : ℕ) → some at ≡ firstOutside first s (periodsOf rows v) → refused 13 at ≡ testOne first s rows look v t
       unfolding testOne
       one-outside at o =
-          let w = tested-good g in
+          let w = tested-good (sym g) in
           rw (w .0, w .1, ← o)
 
       pub one-inside : none ≡ firstOutside first s (periodsOf rows v) → (a : Answer Totals) → a ≡ testKnown (v .removal) (v .prd) (look (numberIn s v)) t → a ≡ testOne first s rows look v t
       unfolding testOne
       one-inside o a q =
-          let w = tested-good g in
+          let w = tested-good (sym g) in
           rw (w .0, w .1, ← o) q
 
 adds-few : (removal : Bool) (k : Known) → adds removal k ≤ 1

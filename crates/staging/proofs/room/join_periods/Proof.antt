@@ -72,7 +72,7 @@ loop-again c =
     let t = c .before .before in
     let a = start t .args in
     let v = own t .loop .inv in (
-      join-on (a .first) (now (a .s)) (periodsFrom (now (a .rows)) (own t .loop .i) (a .to)) (own t .loop .days) (at t) (periodsFrom (now (a .rows)) (row t + 1) (a .to)) (next t .rest) (t .before .segment-at .result) (t .join-period .last .0) (t .before .segment-at .ensures) (t .join-period .ensures .1) ∙ v .0,
+      join-on (a .first) (now (a .s)) (periodsFrom (now (a .rows)) (own t .loop .i) (a .to)) (own t .loop .days) (at t) (periodsFrom (now (a .rows)) (row t + 1) (a .to)) (next t .rest) (t .before .segment-at .result) (t .join-period .last .0) (t .before .segment-at .ensures) (t .join-period .ensures .0 .1) ∙ v .0,
       t .join-period .kept .0 ∙ v .1,
     )
 

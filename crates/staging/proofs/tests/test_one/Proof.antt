@@ -3,6 +3,7 @@
 use mathlib.Core.Path.{sym, ap, _∙_}
 use borrow.Author.Needs.{needs}
 use denote.Ref.{now}
+use Rattle.services.specs.Services as services
 use Rattle.staging.specs.Tests.{windowFound, testedAnswer}
 use Rattle.staging.specs.Room.{lookAt}
 use Rattle.staging.specs.Ways.{one-refused, one-outside, one-inside}
@@ -39,7 +40,7 @@ returns c =
     let g = w .before in
     let t = g .before .before in
     let a = t .before .before .before .before .args in
-    one-inside (now (a .s)) (now (a .rows)) (a .service) (a .first) (lookAt (now (a .room))) (a .totals) (sym (t .test-service .ensures) ∙ g .enum-told .given .1)
+    one-inside (now (a .s)) (now (a .rows)) (a .service) (a .first) (lookAt (now (a .room))) (a .totals) (sym (ap services.testedAnswer (g .enum-told .given .1)) ∙ t .test-service .ensures)
     (sym (ap windowFound (c .before .enum-told2 .given .1)) ∙ w .test-window .ensures) (testedAnswer (c .test-known .result)) (c .test-known .ensures)
 
 returns-2 : tie.Need-returns-2
@@ -50,7 +51,7 @@ returns-2 c =
     let t = g .before .before in
     let a = t .before .before .before .before .args in
     c .refuse .ensures
-    ∙ one-outside (now (a .s)) (now (a .rows)) (a .service) (a .first) (lookAt (now (a .room))) (a .totals) (sym (t .test-service .ensures) ∙ g .enum-told .given .1)
+    ∙ one-outside (now (a .s)) (now (a .rows)) (a .service) (a .first) (lookAt (now (a .room))) (a .totals) (sym (ap services.testedAnswer (g .enum-told .given .1)) ∙ t .test-service .ensures)
     (h .at .given .0 .0) (sym (ap windowFound (h .at .given .1)) ∙ w .test-window .ensures)
 
 returns-3 : tie.Need-returns-3
@@ -58,7 +59,7 @@ returns-3 c =
     let r = c .before in
     let t = r .before .before in
     let a = t .before .before .before .before .args in
-    one-refused (now (a .s)) (now (a .rows)) (a .service) (a .first) (lookAt (now (a .room))) (a .totals) (r .refusal .given .0 .0) (sym (t .test-service .ensures) ∙ r .refusal .given .1)
+    one-refused (now (a .s)) (now (a .rows)) (a .service) (a .first) (lookAt (now (a .room))) (a .totals) (r .refusal .given .0 .0 .number) (r .refusal .given .0 .0 .position) (sym (ap services.testedAnswer (r .refusal .given .1)) ∙ t .test-service .ensures)
 
 pub test-one-spec : {M : Type 1} → statement M
 test-one-spec =
