@@ -10,15 +10,15 @@ use borrow.Author.Tests.{le-leb, lt-leb, leb-true, leb-false}
 use borrow.Rule.Slice.PartMut.{midOf, putMid}
 use lib.ListN.{length, getD}
 use Rattle.laws.specs.Choice.{pick, both, choose}
-use Rattle.answers.specs.Answers.{Answer, done, refused}
+use Rattle.answers.specs.Answers.{Answer, done, refused, notRegister, badAccount}
 use Rattle.slots.specs.Slots.{slotsOf, length-slots}
 use Rattle.slots.specs.Rising.{leading}
 use Rattle.interchange.specs.Reader.{Verdict, accepted, readingOf, numbers}
 use Rattle.services.specs.Services.{servicesOf}
 use Rattle.contents.specs.Contents.{Record, goodAccount}
 use Rattle.contents.specs.Written.{roomBytes, written, held, isRegister}
-use Rattle.contents.specs.Calls.{View, Called, isAccount, viewOf, withRecords, answerOn, bytesAfter}
-use Rattle.rooms.specs.Views.{roomStart, roomEnd, view-good, lent-is, lent-back}
+use Rattle.contents.specs.Calls.{View, Called, refusal, isAccount, viewOf, withRecords, answerOn, bytesAfter}
+use Rattle.rooms.specs.Views.{roomStart, roomEnd, view-good, written-back, lent-is, lent-back}
 use Rattle.staging.specs.declared.Totals.{Totals}
 use Rattle.staging.specs.Stage.{stageServices, stageBy, stageOf}
 use Rattle.staging.specs.Room.{removesIn, putsIn, roomTests, roomFits, roomAnswer, roomAfter}
@@ -134,3 +134,37 @@ module _ (b : List ℕ) (account : ℕ) (reg : isRegister b ≡ true) (acc : isA
           let p : roomAnswer lent s (roomTests lent first s held-rows n) ≡ roomAnswer lent s (roomTests lent first s rows count) = rw (r, k) in
           let q : roomAfter lent first s held-rows n (roomTests lent first s held-rows n) ≡ roomAfter lent first s rows count (roomTests lent first s rows count) = rw (r, k) in
           register-staged answer last (a ∙ p) (l ∙ q)
+
+-- ---- the refusals before the services
+
+module _ (b : List ℕ) (account : ℕ) (answer : View → Answer ℕ) (after : View → List Record) where
+  pub not-register : isRegister b ≡ false → (notRegister ≡ answerOn b account answer) × (b ≡ bytesAfter b account after)
+  unfolding answerOn bytesAfter
+  not-register q = rw q (refl, refl)
+
+  pub no-account : isRegister b ≡ true → isAccount account ≡ false → (badAccount ≡ answerOn b account answer) × (b ≡ bytesAfter b account after)
+  unfolding answerOn bytesAfter
+  no-account q r = rw (q, r) (refl, refl)
+
+pub account-low : (account : ℕ) → account < 1 → isAccount account ≡ false
+account-low account h = rw (lt-leb 1 account h)
+
+pub account-high : (account : ℕ) → 1 ≤ account → 8 < account → isAccount account ≡ false
+account-high account h k = rw (le-leb 1 account h, lt-leb account 8 k)
+
+pub account-some : (account : ℕ) → 1 ≤ account → account ≤ 8 → isAccount account ≡ true
+account-some account h k = rw (le-leb 1 account h, le-leb account 8 k)
+
+stage-refused : (s : List ℕ) (v : View) (m at : ℕ) → readingOf s .verdict ≡ refused m at → stageOf s v ≡ refusal v (refused m at)
+unfolding stageOf
+stage-refused s v m at q = ap (λ (x : Verdict). stageBy s (numbers (readingOf s .rows)) (length (readingOf s .rows)) x v) q
+
+-- 3 to 10: what the reader refuses changes nothing
+pub read-stops : (b : List ℕ) (account : ℕ) → isRegister b ≡ true → isAccount account ≡ true → (s : List ℕ) (m at : ℕ) → readingOf s .verdict ≡ refused m at
+    → (refused m at ≡ answerOn b account (λ v. stageOf s v .answer)) × (b ≡ bytesAfter b account (λ v. stageOf s v .records))
+read-stops b account reg acc s m at q =
+    let view : View = viewOf (held b) account in
+    let e = stage-refused s view m at q in (
+      sym (ap (λ (x : Called). x .answer) e) ∙ sym (answer-is b account reg acc (λ v. stageOf s v .answer)),
+      sym (after-is b account reg acc (λ v. stageOf s v .records) ∙ ap (λ (x : Called). written (withRecords (held b) account (x .records))) e ∙ written-back b reg account acc),
+    )

@@ -6,6 +6,9 @@ mod tests;
 use crate::room::put_all;
 use crate::room::remove_all;
 use crate::tests::test_all;
+use checking::is_register;
+use interchange::reader::Reading;
+use interchange::reader::read;
 use rooms::first_day;
 use rooms::room_end;
 use rooms::room_start;
@@ -13,11 +16,11 @@ use syntax::segment::Refusal;
 ghost use mathlib.Core.Path.{_≡_};
 ghost use mathlib.Core.Bool.{true};
 ghost use lib.ListN.{length};
-ghost use Rattle.interchange.specs.Reader.{accepted, readingOf, numbers};
 ghost use Rattle.contents.specs.Written.{isRegister};
 ghost use Rattle.contents.specs.Calls.{isAccount, answerOn, bytesAfter};
 ghost use Rattle.staging.specs.Stage.{stageOf};
 ghost use Rattle.staging.specs.Tests.{stagedAnswer};
+ghost use Rattle.staging.specs.Few.{Rows};
 ghost use Rattle.staging.specs.Room.{roomTests, roomFits, roomAnswer, roomAfter};
 
 const SLOT: usize = 140;
@@ -93,14 +96,45 @@ fn stage_room(room: &mut [u8], first: usize, s: &[u8], rows: &[u32], n: usize) -
     }
 }
 
-// The same in a register, where the interchange is accepted and these are its rows.
+// The same in a register, where the interchange is accepted and the buffer begins with its n rows.
 fn stage_rows(b: &mut [u8], account: usize, s: &[u8], rows: &[u32], n: usize) -> Staged
-    requires { ⌜ (isRegister (now b) ≡ true) × (isAccount account ≡ true) × (readingOf (now s) .verdict ≡ accepted) × (now rows ≡ numbers (readingOf (now s) .rows)) × (n ≡ length (readingOf (now s) .rows)) ⌝ }
+    requires { ⌜ (isRegister (now b) ≡ true) × (isAccount account ≡ true) × (length (now rows) ≡ 45000) × Rows (now s) n (now rows) ⌝ }
     ensures told { λ r. ⌜ stagedAnswer r ≡ answerOn (now (b .entry)) account (λ v. stageOf (now (s .entry)) v .answer) ⌝ }
     ensures left { λ _. ⌜ now (b .exit) ≡ bytesAfter (now (b .entry)) account (λ v. stageOf (now (s .entry)) v .records) ⌝ }
 {
     let first = first_day(b);
     let from = room_start(b, account);
     let to = room_end(b, account);
-    stage_room(&mut b[from..to], first, s, rows, n)
+    let end = 3 * n;
+    stage_room(&mut b[from..to], first, s, &rows[..end], n)
+}
+
+// Reads the interchange, then stages it. 45,000 numbers hold the rows of 60,000 bytes, since a segment takes four.
+fn stage_read(b: &mut [u8], account: usize, s: &[u8]) -> Staged
+    requires { ⌜ (isRegister (now b) ≡ true) × (isAccount account ≡ true) ⌝ }
+    ensures told { λ r. ⌜ stagedAnswer r ≡ answerOn (now (b .entry)) account (λ v. stageOf (now (s .entry)) v .answer) ⌝ }
+    ensures left { λ _. ⌜ now (b .exit) ≡ bytesAfter (now (b .entry)) account (λ v. stageOf (now (s .entry)) v .records) ⌝ }
+{
+    let mut rows = [0u32; 45000];
+    match read(s, &mut rows) {
+        Reading::Rows(n) => stage_rows(b, account, s, &rows, n),
+        Reading::Refused(refusal) => Staged::Refused(refusal),
+    }
+}
+
+/// Stages an interchange in an account of a register: all its services enter as pending, or none, and then nothing changes.
+pub fn stage(b: &mut [u8], account: usize, interchange: &[u8]) -> Staged
+    ensures told { λ r. ⌜ stagedAnswer r ≡ answerOn (now (b .entry)) account (λ v. stageOf (now (interchange .entry)) v .answer) ⌝ }
+    ensures left { λ _. ⌜ now (b .exit) ≡ bytesAfter (now (b .entry)) account (λ v. stageOf (now (interchange .entry)) v .records) ⌝ }
+{
+    if !is_register(b) {
+        return Staged::NotRegister;
+    }
+    if account < 1 {
+        return Staged::NoAccount;
+    }
+    if 8 < account {
+        return Staged::NoAccount;
+    }
+    stage_read(b, account, interchange)
 }

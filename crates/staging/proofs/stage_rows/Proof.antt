@@ -1,10 +1,15 @@
 -- `stage_rows` meets its contract.
 -- Assumes nothing.
+use mathlib.Core.Path.{sym}
+use Prim.Native.Nat.{_*_}
 use native.Mathlib.Omega.{arith}
 use borrow.Author.Needs.{needs}
 use denote.Ref.{now}
+use lib.ListN.{take}
+use lib.Seq.{length-take-le}
 use Rattle.rooms.specs.Views.{room-from, room-within}
 use Rattle.staging.specs.Tests.{stagedAnswer}
+use Rattle.staging.specs.Few.{few-rows}
 use Rattle.staging.specs.Closing.{rows-staged}
 use Rattle.staging.proofs.stage_rows.Statement.{statement}
 use Rattle.staging.proofs.stage_rows.Tie as tie
@@ -17,6 +22,13 @@ room-start-requires c κs = search needs
 
 room-end-requires : tie.Need-room-end-requires
 room-end-requires c κs = search needs
+
+mul-end : tie.Need-mul-end
+mul-end c =
+    let i = c .before .before .before .before .before .before .before .before .before in
+    let n = i .pre .3 .count in
+    let h = few-rows (now (i .args .s)) in
+    omega arith
 
 sub-stage-room : tie.Need-sub-stage-room
 sub-stage-room c =
@@ -41,6 +53,14 @@ part-stage-room-end c =
     let e = c .room-end .ensures in
     omega arith
 
+slice-aggregate-stage-room : tie.Need-slice-aggregate-stage-room
+slice-aggregate-stage-room c =
+    let i = c .before .before .before .before .before .before .before .before .before .before .before in
+    let l = i .pre .2 in
+    let n = i .pre .3 .count in
+    let h = few-rows (now (i .args .s)) in
+    sym (length-take-le (3 * i .args .n) (now (i .args .rows)) (omega arith))
+
 stage-room-requires : tie.Need-stage-room-requires
 stage-room-requires c κs = search needs
 
@@ -50,12 +70,12 @@ same-length c = search needs
 returns : tie.Need-returns
 returns c =
     let p = c .before .before in
-    let e = p .before .before in
+    let e = p .before .before .before in
     let s = e .before .before in
     let d = s .before .before in
     let i = d .before .before .before .before .before in
-    rows-staged (now (i .args .b)) (i .args .account) (i .pre .0) (i .pre .1) (now (i .args .s)) (i .pre .2) (d .first-day .result) (s .room-start .result) (e .room-end .result)
-    (d .first-day .ensures) (s .room-start .ensures) (e .room-end .ensures) (now (i .args .rows)) (i .args .n) (i .pre .3) (i .pre .4)
+    rows-staged (now (i .args .b)) (i .args .account) (i .pre .0) (i .pre .1) (now (i .args .s)) (i .pre .3 .accepts) (d .first-day .result) (s .room-start .result) (e .room-end .result)
+    (d .first-day .ensures) (s .room-start .ensures) (e .room-end .ensures) (take (3 * i .args .n) (now (i .args .rows))) (i .args .n) (i .pre .3 .front) (sym (i .pre .3 .count))
     (stagedAnswer (p .stage-room .result)) (p .stage-room .last .0) (p .stage-room .ensures .0) (p .stage-room .ensures .1)
 
 pub stage-rows-spec : {M : Type 1} → statement M
@@ -65,9 +85,11 @@ stage-rows-spec =
     first-day-requires
     room-start-requires
     room-end-requires
+    mul-end
     sub-stage-room
     part-stage-room-start
     part-stage-room-end
+    slice-aggregate-stage-room
     stage-room-requires
     same-length
     returns)
