@@ -25,13 +25,19 @@ use Rattle.services.specs.declared.Service.{Service}
 use Rattle.services.specs.declared.Found.the-variants as found
 use Rattle.services.specs.declared.FoundPeriod.the-variants as period
 use Rattle.services.specs.Rows.{offsetAt, isRow, rowCount, firstFrom, first-past, first-here, first-bounds, list-none, list-some}
-use Rattle.services.specs.Marks.{endsSegment, endsElement, endsComponent, firstBy, stopOf, by-between, first-by, part-none, part-past, part-some}
+use Rattle.services.specs.Marks.{endsSegment, endsElement, endsComponent, firstBy, stopOf, by-between, first-by, body-end, part-none, part-past, part-some}
 use Rattle.services.specs.Same.{startOf}
-use Rattle.services.specs.Services.{isService, isPeriod, numberOf, saysNumber, saysRemoval, removes, serviceAt, nextService, nextPeriod, hasPeriod, isWrong, isSame, isTwice, testedOf, servicesFrom, periodsFrom, countOn, countedOf}
+use Rattle.services.specs.Services.{isService, isPeriod, segmentOf, numberOf, saysNumber, saysRemoval, removes, serviceAt, nextService, nextPeriod, hasPeriod, isWrong, isSame, isTwice, testedOf, servicesFrom, periodsFrom, countOn, countedOf}
 
 -- the bytes of a segment
 pub segment-bytes : (s : List ℕ) (at to : ℕ) → to ≡ stopOf endsSegment s at → bytesOf s (record { from = at; to = to }) ≡ bodyAt s at
 segment-bytes s at to q = rw q (by-between endsSegment s at ∙ sym (first-by 39 false (drop at s)))
+
+-- where it stands
+pub segment-found : (s : List ℕ) (at to : ℕ) → to ≡ stopOf endsSegment s at → record { from = at; to = to } ≡ segmentOf s at
+segment-found s at to q =
+    let e : to ≡ at + length (bodyAt s at) = q ∙ sym (body-end s at) in
+    ap (λ (x : ℕ). record { from = at; to = x }) e
 
 pub removal-says : (s : List ℕ) (at to : ℕ) (p : Part) (t : List ℕ) (x : Bool) → to ≡ stopOf endsSegment s at → p ≡ partAt s (record { from = at; to = to }) 1 1 2 → t ≡ bytesOf s p
     → x ≡ sameText (plain t) (53 ∷ 54 ∷ []) → x ≡ saysRemoval s at

@@ -8,6 +8,7 @@ use crate::rows::first_row;
 use crate::rows::is_row;
 use crate::rows::offset_of;
 use crate::rows::row_count;
+use crate::segments::end_of;
 use crate::segments::number_at;
 use crate::segments::says_number;
 use crate::segments::says_removal;
@@ -16,7 +17,7 @@ use parts::bytes_of;
 use syntax::segment::Refusal;
 ghost use mathlib.Core.Path.{_≡_};
 ghost use Prim.Native.Nat.{_<_};
-ghost use Rattle.services.specs.Services.{removes, serviceAt, nextService, nextPeriod, hasPeriod, isWrong, isSame, isTwice, testedOf, countedOf, testedAnswer, countedAnswer};
+ghost use Rattle.services.specs.Services.{segmentOf, removes, serviceAt, nextService, nextPeriod, hasPeriod, isWrong, isSame, isTwice, testedOf, countedOf, testedAnswer, countedAnswer};
 
 const PRD: u32 = 0x505244;
 
@@ -119,6 +120,14 @@ pub fn next_period(rows: &[u32], i: usize, to: usize) -> FoundPeriod
         return FoundPeriod::NoMore;
     }
     FoundPeriod::Pop(k, offset_of(rows, k))
+}
+
+/// Where the segment at an offset stands: up to its terminator, or to the input's end.
+pub fn segment_at(s: &[u8], at: usize) -> Part
+    ensures { λ r. ⌜ r ≡ segmentOf (now (s .entry)) at ⌝ }
+{
+    let to = end_of(s, at, 0);
+    Part { from: at, to }
 }
 
 // Whether a POP stands among rows.

@@ -37,7 +37,7 @@ fn is_end(b: u8, kind: u8) -> bool
 }
 
 // The index from `from` on where a segment, an element or a component ends, or the input's length.
-fn end_of(s: &[u8], from: usize, kind: u8) -> usize
+pub(crate) fn end_of(s: &[u8], from: usize, kind: u8) -> usize
     ensures { λ r. ⌜ r ≡ stopOf (endsBy kind) (now (s .entry)) from ⌝ }
 {
     let mut i = from;

@@ -1,1 +1,140 @@
 //! Staging an interchange: its services enter an account's pending entries, all of them or none (document 01, "The register").
+
+mod room;
+mod tests;
+
+use crate::room::put_all;
+use crate::room::remove_all;
+use crate::tests::test_all;
+use checking::is_register;
+use interchange::reader::Reading;
+use interchange::reader::read;
+use rooms::first_day;
+use rooms::room_end;
+use rooms::room_start;
+use syntax::segment::Refusal;
+ghost use mathlib.Core.Path.{_≡_};
+ghost use mathlib.Core.Bool.{true};
+ghost use lib.ListN.{length};
+ghost use Rattle.contents.specs.Written.{isRegister};
+ghost use Rattle.contents.specs.Calls.{isAccount, answerOn, bytesAfter};
+ghost use Rattle.staging.specs.Stage.{stageOf};
+ghost use Rattle.staging.specs.Tests.{stagedAnswer};
+ghost use Rattle.staging.specs.Few.{Rows};
+ghost use Rattle.staging.specs.Room.{roomTests, roomFits, roomAnswer, roomAfter};
+
+const SLOT: usize = 140;
+
+/// What came of staging an interchange.
+pub enum Staged {
+    /// All services entered; how many there are.
+    Done(usize),
+    /// The buffer is not a register.
+    NotRegister,
+    /// The account is not 1 to 8.
+    NoAccount,
+    /// What the reader or a service's test refuses, or the quota.
+    Refused(Refusal),
+}
+
+/// What the services of an interchange come to.
+pub struct Totals {
+    /// How many there are.
+    pub services: usize,
+    /// How many records they add to the account's.
+    pub added: usize,
+    /// How many records they drop.
+    pub dropped: usize,
+}
+
+/// What the tests of the services come to.
+pub enum Tested {
+    Passed(Totals),
+    /// The first that is refused: 11, 12, 13 or 14.
+    Refused(Refusal),
+}
+
+/// What an account holds of a number.
+pub enum Known {
+    Nothing,
+    /// A record: whether it has a live calendar, and whether its removal is pending.
+    Record(bool, bool),
+}
+
+// 15: whether a room holds the records that the services leave in the end.
+fn fits(room: &[u8], totals: Totals) -> bool
+    ensures { λ r. ⌜ r ≡ roomFits (now (room .entry)) totals ⌝ }
+{
+    let added = totals.added;
+    let dropped = totals.dropped;
+    if added <= dropped {
+        return true;
+    }
+    let free = room.len() / SLOT - slots::used(room);
+    added - dropped <= free
+}
+
+// Stages the services of n rows in an account's room: all tests first, then all removals, then all puts, so that the room never holds
+// more than it does in the end.
+fn stage_room(room: &mut [u8], first: usize, s: &[u8], rows: &[u32], n: usize) -> Staged
+    ensures told { λ r. ⌜ stagedAnswer r ≡ roomAnswer (now (room .entry)) (now (s .entry)) (roomTests (now (room .entry)) first (now (s .entry)) (now (rows .entry)) n) ⌝ }
+    ensures left { λ _. ⌜ now (room .exit) ≡ roomAfter (now (room .entry)) first (now (s .entry)) (now (rows .entry)) n (roomTests (now (room .entry)) first (now (s .entry)) (now (rows .entry)) n) ⌝ }
+{
+    match test_all(room, first, s, rows, n) {
+        Tested::Refused(refusal) => Staged::Refused(refusal),
+        Tested::Passed(totals) => {
+            if !fits(room, totals) {
+                return Staged::Refused(Refusal {
+                    number: 15,
+                    position: s.len(),
+                });
+            }
+            remove_all(room, s, rows, n);
+            put_all(room, first, s, rows, n);
+            Staged::Done(totals.services)
+        }
+    }
+}
+
+// The same in a register, where the interchange is accepted and the buffer begins with its n rows.
+fn stage_rows(b: &mut [u8], account: usize, s: &[u8], rows: &[u32], n: usize) -> Staged
+    requires { ⌜ (isRegister (now b) ≡ true) × (isAccount account ≡ true) × (length (now rows) ≡ 45000) × Rows (now s) n (now rows) ⌝ }
+    ensures told { λ r. ⌜ stagedAnswer r ≡ answerOn (now (b .entry)) account (λ v. stageOf (now (s .entry)) v .answer) ⌝ }
+    ensures left { λ _. ⌜ now (b .exit) ≡ bytesAfter (now (b .entry)) account (λ v. stageOf (now (s .entry)) v .records) ⌝ }
+{
+    let first = first_day(b);
+    let from = room_start(b, account);
+    let to = room_end(b, account);
+    let end = 3 * n;
+    stage_room(&mut b[from..to], first, s, &rows[..end], n)
+}
+
+// Reads the interchange, then stages it. 45,000 numbers hold the rows of 60,000 bytes, since a segment takes four.
+fn stage_read(b: &mut [u8], account: usize, s: &[u8]) -> Staged
+    requires { ⌜ (isRegister (now b) ≡ true) × (isAccount account ≡ true) ⌝ }
+    ensures told { λ r. ⌜ stagedAnswer r ≡ answerOn (now (b .entry)) account (λ v. stageOf (now (s .entry)) v .answer) ⌝ }
+    ensures left { λ _. ⌜ now (b .exit) ≡ bytesAfter (now (b .entry)) account (λ v. stageOf (now (s .entry)) v .records) ⌝ }
+{
+    let mut rows = [0u32; 45000];
+    match read(s, &mut rows) {
+        Reading::Rows(n) => stage_rows(b, account, s, &rows, n),
+        Reading::Refused(refusal) => Staged::Refused(refusal),
+    }
+}
+
+/// Stages an interchange in an account of a register: all its services enter as pending, or none, and then nothing changes.
+pub fn stage(b: &mut [u8], account: usize, interchange: &[u8]) -> Staged
+    ensures told { λ r. ⌜ stagedAnswer r ≡ answerOn (now (b .entry)) account (λ v. stageOf (now (interchange .entry)) v .answer) ⌝ }
+    ensures left { λ _. ⌜ now (b .exit) ≡ bytesAfter (now (b .entry)) account (λ v. stageOf (now (interchange .entry)) v .records) ⌝ }
+{
+    if !is_register(b) {
+        return Staged::NotRegister;
+    }
+    if account < 1 {
+        return Staged::NoAccount;
+    }
+    if 8 < account {
+        return Staged::NoAccount;
+    }
+    stage_read(b, account, interchange)
+}

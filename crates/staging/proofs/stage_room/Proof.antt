@@ -1,0 +1,83 @@
+-- `stage_room` meets its contract.
+-- Assumes nothing.
+use mathlib.Core.Path.{sym, ap, _∙_}
+use borrow.Author.Needs.{needs}
+use borrow.Author.Tests.{not-true, not-false}
+use denote.Ref.{now}
+use Rattle.staging.specs.Tests.{testedAnswer}
+use Rattle.staging.specs.Closing.{room-refused, room-over, room-done}
+use Rattle.staging.proofs.stage_room.Statement.{statement}
+use Rattle.staging.proofs.stage_room.Tie as tie
+
+test-all-requires : tie.Need-test-all-requires
+test-all-requires c κs = search needs
+
+enum-known-refusal : tie.Need-enum-known-refusal
+enum-known-refusal c = search needs
+
+enum-known-totals : tie.Need-enum-known-totals
+enum-known-totals c = search needs
+
+fits-requires : tie.Need-fits-requires
+fits-requires c κs = search needs
+
+same-length : tie.Need-same-length
+same-length c = search needs
+
+returns : tie.Need-returns
+returns c =
+    let f = c .before in
+    let t = f .before .before .before in
+    let x = t .before .before in
+    let a = x .before .before .before .before .before .args in
+    room-over (now (a .room)) (a .first) (now (a .s)) (now (a .rows)) (a .n) (t .totals .given .0 .0) (sym (ap testedAnswer (t .totals .given .1)) ∙ x .test-all .ensures) (f .fits2 .result) (f .fits2 .ensures)
+    (not-true (f .fits2 .result) (c .if1 .taken))
+
+remove-all-requires : tie.Need-remove-all-requires
+remove-all-requires c κs = search needs
+
+put-all-requires : tie.Need-put-all-requires
+put-all-requires c κs = search needs
+
+same-length-2 : tie.Need-same-length-2
+same-length-2 c = search needs
+
+returns-2 : tie.Need-returns-2
+returns-2 c =
+    let r = c .before in
+    let x = r .before .before in
+    let a = x .before .before .before .before .before .args in
+    let y = r .refusal .given .0 .0 in
+    room-refused (now (a .room)) (a .first) (now (a .s)) (now (a .rows)) (a .n) (y .number) (y .position) (sym (ap testedAnswer (r .refusal .given .1)) ∙ x .test-all .ensures)
+
+same-length-3 : tie.Need-same-length-3
+same-length-3 c = search needs
+
+returns-3 : tie.Need-returns-3
+returns-3 c =
+    let p = c .before .before in
+    let d = p .before .before .before .before in
+    let e = d .before .before in
+    let f = e .before in
+    let t = f .before .before .before in
+    let x = t .before .before in
+    let a = x .before .before .before .before .before .args in
+    room-done (now (a .room)) (a .first) (now (a .s)) (now (a .rows)) (a .n) (t .totals .given .0 .0) (sym (ap testedAnswer (t .totals .given .1)) ∙ x .test-all .ensures) (f .fits2 .result) (f .fits2 .ensures)
+    (not-false (f .fits2 .result) (e .if1 .left)) (d .remove-all .last .0) (p .put-all .last .0) (d .remove-all .ensures) (p .put-all .ensures)
+
+pub stage-room-spec : {M : Type 1} → statement M
+stage-room-spec =
+    tie.close
+    (tie.spec
+    test-all-requires
+    enum-known-refusal
+    enum-known-totals
+    fits-requires
+    same-length
+    returns
+    remove-all-requires
+    put-all-requires
+    same-length-2
+    returns-2
+    same-length-3
+    returns-3)
