@@ -2,5 +2,8 @@ pub mod Calls
 pub mod Order
 pub mod Buffer
 pub mod Register
+pub mod Kept
 pub mod InContents
 pub mod Theorems
+pub mod Tied
+pub mod Example
