@@ -1,10 +1,30 @@
 //! The register's calls: open, release, withdraw, show, on any buffer and any account number. Document 01, "The register".
 //! Each call tests before it stores; a refusal changes no byte.
+use dates::Date;
+use dates::Number;
 use shown::Lines;
 ghost use mathlib.Core.Path.{_≡_};
-ghost use Rattle.contents.specs.Calls.{isAccount, releaseOf, withdrawOf, showAnswer, showBytes, answerOn, bytesAfter, outputAfter};
+ghost use mathlib.Core.List.{map};
+ghost use Prim.Native.Nat.{_+_, _*_, _≤_, _<_};
+ghost use lib.ListN.{length};
+ghost use Rattle.laws.specs.Joined.{joined, total};
+ghost use Rattle.dates.specs.Text.{putAt};
+ghost use Rattle.contents.specs.Written.{twoBytes};
+ghost use Rattle.contents.specs.Calls.{openAnswer, openBytes, isAccount, releaseOf, withdrawOf, showAnswer, showBytes, answerOn, bytesAfter, outputAfter};
 ghost use Rattle.shown.specs.Shown.{linesAnswer};
-ghost use Rattle.register.specs.Register.{releasedAnswer, withdrawnAnswer, recordAnswer};
+ghost use Rattle.register.specs.Register.{openedAnswer, releasedAnswer, withdrawnAnswer, recordAnswer};
+
+const LENGTH: usize = 35858;
+
+const HEAD: usize = 18;
+
+/// What came of opening.
+pub enum Opened {
+    Done,
+    WrongLength,
+    /// The first date is none, its window is not wholly within the dates, or the quotas are too many.
+    BadOpening,
+}
 
 /// What came of a release.
 pub enum Released {
@@ -30,6 +50,69 @@ pub enum Shown {
     BadAccount,
     NoRecord,
     TooShort,
+}
+
+fn wide(x: u32) -> usize
+    ensures { λ r. ⌜ (r ≡ x) × (r < 4294967296) ⌝ }
+{
+    x as usize
+}
+
+fn total_of(quotas: &[u32]) -> usize
+    requires { ⌜ length (now quotas) ≤ 8 ⌝ }
+    ensures { λ r. ⌜ r ≡ total (now (quotas .entry)) ⌝ }
+{
+    let mut sum = 0;
+    let mut k = 0;
+    while k < quotas.len() {
+        sum += wide(quotas[k]);
+        k += 1;
+    }
+    sum
+}
+
+// A number in two bytes, the lower first.
+fn put_number(b: &mut [u8], at: usize, n: usize)
+    requires { ⌜ n < 65536 ⌝ }
+    ensures { λ _. ⌜ now (b .exit) ≡ putAt (now (b .entry)) at (twoBytes n) ⌝ }
+{
+    let bytes = [(n % 256) as u8, (n / 256) as u8];
+    dates::put_bytes(b, at, &bytes);
+}
+
+// The quotas, behind the number of the first date.
+fn put_quotas(b: &mut [u8], quotas: &[u32])
+    requires { ⌜ (2 + length (now quotas) * 2 ≤ length (now b)) × (total (now quotas) ≤ 256) ⌝ }
+    ensures { λ _. ⌜ now (b .exit) ≡ putAt (now (b .entry)) 2 (joined (map twoBytes (now (quotas .entry)))) ⌝ }
+{
+    let mut k = 0;
+    while k < quotas.len() {
+        put_number(b, 2 + k * 2, wide(quotas[k]));
+        k += 1;
+    }
+}
+
+/// Opens a register over a buffer: window and quotas, no records.
+pub fn open(b: &mut [u8], first: Date, quotas: [u32; 8]) -> Opened
+    ensures told { λ r. ⌜ openedAnswer r ≡ openAnswer (now (b .entry)) first quotas ⌝ }
+    ensures left { λ _. ⌜ now (b .exit) ≡ openBytes (now (b .entry)) first quotas ⌝ }
+{
+    if b.len() != LENGTH {
+        return Opened::WrongLength;
+    }
+    let Number::Day(day) = first.day_number() else {
+        return Opened::BadOpening;
+    };
+    if 40177 - 512 < day {
+        return Opened::BadOpening;
+    }
+    if 256 < total_of(&quotas) {
+        return Opened::BadOpening;
+    }
+    put_number(b, 0, day);
+    put_quotas(b, &quotas);
+    gaps::clear_from(b, HEAD);
+    Opened::Done
 }
 
 fn is_account(account: usize) -> bool
