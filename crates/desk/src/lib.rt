@@ -2,6 +2,7 @@
 
 pub mod calendars;
 pub mod reading;
+pub mod registers;
 
 use interchange::reader::Reading;
 use interchange::reader::read;
