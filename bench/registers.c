@@ -554,7 +554,7 @@ static int compare(unsigned long n, unsigned long seed) {
 
 // ---- Time ----
 
-enum { COPIES = 16, MOST_ROUNDS = 200 };
+enum { COPIES = 4, MOST_ROUNDS = 400 };
 static uint8_t full[REGISTER_LENGTH], copies[COPIES][REGISTER_LENGTH], out[ROOM];
 static uint32_t rows[45000];
 static struct text sample;
@@ -654,7 +654,7 @@ int main(int n, char **words) {
     if (!strcmp(mode, "compare"))
         return compare(first ? first : 200000, n > 3 ? strtoul(words[3], 0, 10) : 1);
     if (!strcmp(mode, "time")) {
-        time_all(first < 1 ? 60 : first > MOST_ROUNDS ? MOST_ROUNDS : (unsigned)first);
+        time_all(first < 1 ? 200 : first > MOST_ROUNDS ? MOST_ROUNDS : (unsigned)first);
         return 0;
     }
     printf("registers compare N SEED | time ROUNDS\n");
