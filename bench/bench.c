@@ -4,6 +4,8 @@
 //   bench costs            what a byte of extreme interchanges costs, over what a byte of a realistic one costs
 //   bench where            what our time goes to, by interchanges that differ in one thing
 //   bench once WHO KIND N  one reading by `ours`, `yardstick` or `nobody` of `skdupd` or `tsdupd` of N bytes, for counting instructions
+#include "measure.h"
+#include "samples.h"
 #include "yardstick.h"
 
 int printf(const char *format, ...);
@@ -14,55 +16,11 @@ unsigned long strtoul(const char *text, char **end, int base);
 int memcmp(const void *a, const void *b, size_t n);
 void *memcpy(void *to, const void *from, size_t n);
 void *memmove(void *to, const void *from, size_t n);
-struct timespec {
-    long seconds, nanoseconds;
-};
-int clock_gettime(int clock, struct timespec *to);
 
 // The proved reader, by the static library of the crate `desk`.
 struct reply drumcallisto_read(const uint8_t *s, size_t n, uint32_t *rows, size_t room);
 
-enum { LONGEST = 60000, SPACE = 200000, MOST_SEGMENTS = 16000, MOST_NUMBERS = 45000, GUARD = 8 };
-
-// Chance, from a seed.
-static uint64_t chance = 88172645463325252u;
-
-static uint64_t next_chance(void) {
-    chance ^= chance << 13;
-    chance ^= chance >> 7;
-    chance ^= chance << 17;
-    return chance * 2685821657736338717u >> 11;
-}
-
-static unsigned below(unsigned n) { return (unsigned)(next_chance() % n); }
-
-static int one_in(unsigned n) { return below(n) == 0; }
-
-// A text that grows.
-struct text {
-    size_t n;
-    uint8_t at[SPACE];
-};
-
-static void put(struct text *t, int c) {
-    if (t->n < SPACE)
-        t->at[t->n++] = (uint8_t)c;
-}
-
-static void puts_to(struct text *t, const char *s) {
-    while (*s)
-        put(t, *s++);
-}
-
-static void put_number(struct text *t, unsigned long n, unsigned width) {
-    char digits[24];
-    unsigned i = 0;
-    do
-        digits[i++] = (char)('0' + n % 10);
-    while ((n /= 10) || i < width);
-    while (i)
-        put(t, digits[--i]);
-}
+enum { LONGEST = 60000, MOST_SEGMENTS = 16000, MOST_NUMBERS = 45000, GUARD = 8 };
 
 // ---- Interchanges by chance ----
 
@@ -76,7 +34,6 @@ struct segment {
 static struct text pool;
 static struct segment segments[MOST_SEGMENTS];
 static size_t segment_count;
-static unsigned release_rate; // one in so many plain bytes is released; 0 for none
 static unsigned fault_rate;   // one in so many contents is faulty
 static struct text dialogue;  // after release
 
@@ -84,26 +41,6 @@ static const char *const tags[] = {
     "ADS", "ALS", "ASD", "CNY", "CON", "DTI", "ERI", "FRQ", "HDR", "IFT", "LNG", "MES", "MSD", "NME", "ODI", "ORG", "PDT", "POP", "POR",
     "PRD", "RFR", "RLS", "SER", "TCE", "TFF", "TIZ", "TRF", "UIH", "UIT", "UIB", "UIZ", "UNA", "XYZ", "AAA", "ZZZ"};
 enum { TAGS = sizeof tags / sizeof tags[0] };
-
-static int service(int c) { return c == '+' || c == ':' || c == '*' || c == '?' || c == '\''; }
-
-static int permitted(int c) {
-    return c >= 32 && c < 123 && c != '#' && c != '$' && c != '@' && c != '[' && c != '\\' && c != ']' && c != '^' && c != '`';
-}
-
-// A character of a text; service characters are released.
-static void put_character(struct text *t, int c) {
-    if (service(c) || (release_rate && one_in(release_rate)))
-        put(t, '?');
-    put(t, c);
-}
-
-static void put_characters(struct text *t, const uint8_t *s, size_t n) {
-    for (size_t i = 0; i < n; i++)
-        put_character(t, s[i]);
-}
-
-static void put_word(struct text *t, const char *s) { put_characters(t, (const uint8_t *)s, strlen(s)); }
 
 static int any_character(void) {
     if (one_in(12))
@@ -148,22 +85,6 @@ static struct segment *begin(const char *tag, int kind) {
 }
 
 static void end(struct segment *g) { g->n = pool.n - g->from; }
-
-static unsigned leap(unsigned y) { return (y % 4 == 0 && y % 100 != 0) || y % 400 == 0; }
-
-static unsigned month_length(unsigned y, unsigned m) { return m == 2 ? 28 + leap(y) : m == 4 || m == 6 || m == 9 || m == 11 ? 30 : 31; }
-
-// The date so many days after 1990-01-01, which may lie past 2099.
-static void put_date(struct text *t, unsigned day) {
-    unsigned y = 1990, m = 1;
-    while (day >= 365 + leap(y))
-        day -= 365 + leap(y++);
-    while (day >= month_length(y, m))
-        day -= month_length(y, m++);
-    char d[11] = {(char)('0' + y / 1000), (char)('0' + y / 100 % 10), (char)('0' + y / 10 % 10), (char)('0' + y % 10), '-',
-                  (char)('0' + m / 10), (char)('0' + m % 10), '-', (char)('0' + (day + 1) / 10), (char)('0' + (day + 1) % 10), 0};
-    put_word(t, d);
-}
 
 static const char *const odd_dates[] = {
     "2000-02-29", "2000-02-30", "2001-02-29", "2001-02-28", "2004-02-29", "2096-02-29", "2099-12-31", "2100-01-01", "1989-12-31", "1990-01-01",
@@ -853,161 +774,7 @@ static int compare(unsigned long n, unsigned long seed) {
     return 0;
 }
 
-// ---- Realistic interchanges ----
-
-static const char *pick(const char *const *from, unsigned n) { return from[below(n)]; }
-
-static const char *const stations[] = {"BRUXELLES MIDI", "PARIS NORD", "KOELN HBF", "AIX LA CHAPELLE", "Basel SBB", "Lille Europe", "Gare de l?'Est", "Wien Hbf",
-                                       "Amsterdam Centraal", "Zuerich HB", "Milano C.le", "Lyon Part Dieu"};
-
-static void end_text(struct text *t) { put(t, '\''); }
-
-static void put_station(struct text *t) { put_number(t, 8700000 + below(200000), 7); }
-
-static void put_hour(struct text *t) { put_number(t, below(24) * 100 + below(60), 4); }
-
-static unsigned long text_segments(const struct text *t, size_t from) {
-    unsigned long n = 0;
-    for (size_t i = from; i < t->n; i++) {
-        if (t->at[i] == '?')
-            i++;
-        else
-            n += t->at[i] == '\'';
-    }
-    return n;
-}
-
-static void open_text(struct text *t, int skdupd) {
-    t->n = 0;
-    puts_to(t, "UIB+UNOB:4+0080-2000-0001+++0080+1187+20000715:142200'");
-    puts_to(t, skdupd ? "UIH+SKDUPD:D:04A::UN+1'MSD+AAR:61'ORG+0080+++0080'HDR+81+273:2000-08-01/2001-05-26*11:2000-07-15T1422*45:2000-07-15T1422+0003'"
-                      : "UIH+TSDUPD:D:04A::UN+1'MSD+AAR:61'HDR+81+273:2000-08-01/2001-05-26*45:2000-07-15T1422+0003'");
-}
-
-static void close_text(struct text *t) {
-    unsigned long n = text_segments(t, 0); // without the UIB, with the UIT
-    puts_to(t, "UIT+1+");
-    put_number(t, n, 1);
-    puts_to(t, "'UIZ+0080-2000-0001+1'");
-}
-
-// A service: its segments as document 000's examples have them.
-static void put_service(struct text *t) {
-    puts_to(t, "PRD+");
-    put_number(t, 1 + below(29999), 1);
-    puts_to(t, one_in(4) ? ":11:::::Alexander von Humboldt+0080*0088'" : ":::37+0080'");
-    puts_to(t, "PDT++:::62'");
-    if (one_in(3))
-        puts_to(t, "IFT+AUY:::EN+RESERVATION COMPULSORY'");
-    if (one_in(3))
-        puts_to(t, "ASD+26++67'");
-    for (unsigned periods = 1 + below(3); periods; periods--) {
-        unsigned first = 3865 + below(200), days = 20 + below(240), form = below(4);
-        puts_to(t, "POP+273:");
-        put_date(t, first);
-        put(t, '/');
-        put_date(t, first + days - 1);
-        if (form == 0) {
-            puts_to(t, "::");
-            for (unsigned k = 0; k < days; k++)
-                put(t, '0' + (int)below(2));
-        } else if (form < 3) {
-            puts_to(t, form == 1 ? "+12345" : "+67");
-        }
-        end_text(t);
-        if (one_in(3))
-            puts_to(t, "PDT++:::67'");
-        if (one_in(3))
-            puts_to(t, "ASD+26++67'");
-        for (unsigned stops = 4 + below(9); stops; stops--) {
-            puts_to(t, "POR+");
-            put_station(t);
-            put(t, '+');
-            put_hour(t);
-            put(t, '*');
-            put_hour(t);
-            if (one_in(2)) {
-                put(t, '+');
-                put_number(t, 1 + below(20), 1);
-            }
-            end_text(t);
-            if (one_in(6))
-                puts_to(t, "MES+25:KMT'");
-            if (one_in(6))
-                puts_to(t, "ASD+7:1730:1830:::::P12++12345'");
-            if (one_in(8))
-                puts_to(t, "TRF+1'");
-            if (one_in(12))
-                puts_to(t, "RFR+AUE:39:::0088'RLS+13+8'");
-        }
-        for (unsigned relations = 1 + below(3); relations; relations--) {
-            puts_to(t, "ODI+");
-            put_station(t);
-            put(t, '*');
-            put_station(t);
-            puts_to(t, one_in(2) ? "+2*5'" : "'");
-            puts_to(t, "PDT++:::67'");
-            if (one_in(2))
-                puts_to(t, "TFF+SP'");
-            puts_to(t, "ASD+26++67'");
-            if (one_in(2))
-                puts_to(t, "SER+33::::2:13+273:2000-06-01/2000-09-30'ASD+26++67'");
-        }
-    }
-}
-
-static void put_place(struct text *t) {
-    puts_to(t, "ALS+29+00");
-    put_station(t);
-    put(t, ':');
-    puts_to(t, pick(stations, sizeof stations / sizeof stations[0]));
-    puts_to(t, "+47:32:51N*7:35:22E'");
-    if (one_in(5))
-        puts_to(t, "ADS+:1:2+5:48 AVENUE FONSNY+BRUSSELS+1060+BE'");
-    if (one_in(2))
-        puts_to(t, "POP+273:2000-08-01/2001-05-26++1234567'");
-    if (one_in(4))
-        puts_to(t, "CON+WF:3225259152:TE*WF:3225252952:FX'");
-    if (one_in(3))
-        puts_to(t, "TRF+1'");
-    if (one_in(3))
-        puts_to(t, "CNY+BE+88:2000-03-28*98:2000-09-27+1*1'TIZ+WET:1'");
-    if (one_in(4))
-        puts_to(t, "LNG+6+FR'");
-    if (one_in(3))
-        puts_to(t, "SER+101'");
-    for (unsigned n = below(3); n; n--)
-        puts_to(t, one_in(2) ? "IFT+AGW::::FR+AIX LA CHAPELLE'" : "IFT+AGW::::NL+AKEN'");
-    for (unsigned n = below(4); n; n--)
-        puts_to(t, one_in(4) ? "ASD+26++67'CON+HN:3225252989:TE'" : "ASD+26++67'");
-    for (unsigned n = one_in(3) ? 1 + below(2) : 0; n; n--)
-        puts_to(t, "PRD+:::8:11+1080*1088'SER+28'");
-    for (unsigned n = below(5); n; n--) {
-        puts_to(t, "RFR+AWN:00");
-        put_station(t);
-        end_text(t);
-        puts_to(t, one_in(2) ? "MES+10:MIN*125:MTR'" : "MES+10:MIN'");
-        if (one_in(2))
-            puts_to(t, "RLS+13+14'");
-        if (one_in(3))
-            puts_to(t, "PRD+:::8:8+0019*1080'");
-    }
-}
-
-// Whole services, or stations, while the interchange stays below a length.
-static void put_realistic(struct text *t, int skdupd, size_t longest) {
-    chance = 20000801u + longest + (unsigned)skdupd;
-    open_text(t, skdupd);
-    for (;;) {
-        size_t n = t->n;
-        skdupd ? put_service(t) : put_place(t);
-        if (t->n + 40 > longest) {
-            t->n = n;
-            break;
-        }
-    }
-    close_text(t);
-}
+// ---- Interchanges for the costs ----
 
 // Some text again and again while the interchange stays below a length.
 static void put_same(struct text *t, int skdupd, const char *first, const char *again, size_t longest) {
@@ -1022,12 +789,6 @@ static void put_same(struct text *t, int skdupd, const char *first, const char *
 
 typedef struct reply reader(const uint8_t *, size_t, uint32_t *, size_t);
 
-static double now(void) {
-    struct timespec t;
-    clock_gettime(1, &t);
-    return (double)t.seconds * 1e9 + (double)t.nanoseconds;
-}
-
 static double took(reader *read, const struct text *t, unsigned times) {
     double start = now();
     for (unsigned k = 0; k < times; k++) {
@@ -1039,20 +800,6 @@ static double took(reader *read, const struct text *t, unsigned times) {
 }
 
 enum { MOST_ROUNDS = 200 };
-
-struct times {
-    double least, median;
-};
-
-static struct times sorted(double *v, unsigned n) {
-    for (unsigned i = 1; i < n; i++)
-        for (unsigned k = i; k && v[k] < v[k - 1]; k--) {
-            double x = v[k];
-            v[k] = v[k - 1];
-            v[k - 1] = x;
-        }
-    return (struct times){v[0], v[n / 2]};
-}
 
 // Both readers in turn, many rounds; nanoseconds for one reading.
 static void measure(const struct text *t, unsigned rounds, struct times *us, struct times *them) {

@@ -1,12 +1,8 @@
 // A plain reader in C. One pass over the bytes of each segment with a table of classes, no allocation; the rows are gathered
 // on the stack, since a refusal leaves the lent buffer as it was. Quotations are from document 01.
-#include "yardstick.h"
+#include "parts.h"
 
 void *memcpy(void *to, const void *from, size_t n);
-
-enum { LONGEST = 60000, MOST_ROWS = LONGEST / 4 };
-
-#define TAG(a, b, c) ((uint32_t)(a) << 16 | (uint32_t)(b) << 8 | (uint32_t)(c))
 
 // Document 000, section 2.4.1.3: tag, greatest number, status, group, level, places held, place of the group around it.
 const struct place yardstick_skdupd[] = {
@@ -122,16 +118,6 @@ const struct place yardstick_tsdupd[] = {
 };
 const size_t yardstick_tsdupd_places = sizeof yardstick_tsdupd / sizeof yardstick_tsdupd[0];
 
-// "Permitted bytes: 32 (space, permitted) to 126 without # $ @ [ \ ] ^ and the backquote, { | } ~", and the service characters.
-enum { TEXT, BAD, ELEMENT, REPEAT, COMPONENT, RELEASE, END };
-
-static const uint8_t class_of[256] = {
-    [0 ... 31] = BAD,
-    ['#'] = BAD, ['$'] = BAD, ['@'] = BAD, ['['] = BAD, ['\\'] = BAD, [']'] = BAD, ['^'] = BAD, ['`'] = BAD,
-    [123 ... 255] = BAD,
-    ['+'] = ELEMENT, ['*'] = REPEAT, [':'] = COMPONENT, ['?'] = RELEASE, ['\''] = END,
-};
-
 static int capital(uint8_t b) { return b >= 'A' && b <= 'Z'; }
 
 // What stands in a segment, from its first byte to its terminator: number 0 and the terminator's index, or 4, 5 or 6.
@@ -189,42 +175,6 @@ static inline struct scanned scan(const uint8_t *s, size_t n, size_t from) {
     }
 }
 
-// A part of the input, as written.
-struct part {
-    const uint8_t *from, *to;
-};
-
-// Component c, counted from 1, of the first occurrence of element e of a segment; empty where absent.
-static struct part part_of(const uint8_t *g, const uint8_t *end, unsigned e, unsigned c) {
-    const uint8_t *p = g;
-    while (e > 0) {
-        if (p == end)
-            return (struct part){end, end};
-        if (*p == '?')
-            p++;
-        else if (*p == '+')
-            e--;
-        p++;
-    }
-    while (--c > 0) {
-        for (;; p++) {
-            if (p == end || *p == '+' || *p == '*')
-                return (struct part){end, end};
-            if (*p == ':')
-                break;
-            if (*p == '?')
-                p++;
-        }
-        p++;
-    }
-    const uint8_t *q = p;
-    while (q < end && *q != '+' && *q != '*' && *q != ':')
-        q += *q == '?' ? 2 : 1;
-    return (struct part){p, q};
-}
-
-static int present(struct part p) { return p.from < p.to; }
-
 // "compared after release"
 static int same(struct part p, struct part q) {
     const uint8_t *a = p.from, *b = q.from;
@@ -237,17 +187,6 @@ static int same(struct part p, struct part q) {
             return 0;
     }
     return a == p.to && b == q.to;
-}
-
-static int says(struct part p, const char *text) {
-    const uint8_t *a = p.from;
-    for (; *text; text++, a++) {
-        if (a < p.to && *a == '?')
-            a++;
-        if (a >= p.to || *a != (uint8_t)*text)
-            return 0;
-    }
-    return a == p.to;
 }
 
 // "counts are decimal with no leading zero"
@@ -318,39 +257,6 @@ found:
     }
     r->at = at;
     return 1;
-}
-
-// "Dates are yyyy-mm-dd, Gregorian, 1990-01-01 to 2099-12-31": the day's number from 1 on, 0 where it is no date.
-static unsigned day_number(const uint8_t *d) {
-    static const uint16_t before[13] = {0, 0, 31, 59, 90, 120, 151, 181, 212, 243, 273, 304, 334};
-    static const uint8_t length[13] = {0, 31, 28, 31, 30, 31, 30, 31, 31, 30, 31, 30, 31};
-    static const uint8_t digits[8] = {0, 1, 2, 3, 5, 6, 8, 9};
-    unsigned v[8];
-    for (unsigned i = 0; i < 8; i++) {
-        v[i] = (unsigned)d[digits[i]] - '0';
-        if (v[i] > 9)
-            return 0;
-    }
-    if (d[4] != '-' || d[7] != '-')
-        return 0;
-    unsigned year = v[0] * 1000 + v[1] * 100 + v[2] * 10 + v[3], month = v[4] * 10 + v[5], day = v[6] * 10 + v[7];
-    if (year < 1990 || year > 2099 || month < 1 || month > 12)
-        return 0;
-    unsigned leap = year % 4 == 0; // 2000 is a leap year, 2100 is past the last date
-    if (day < 1 || day > length[month] + (month == 2 ? leap : 0u))
-        return 0;
-    return (year - 1990) * 365 + (year - 1989) / 4 + before[month] + (month > 2 ? leap : 0u) + day;
-}
-
-// The next character of a component after release, or -1 at its end.
-static inline int next_character(const uint8_t **p, const uint8_t *end) {
-    const uint8_t *q = *p;
-    if (q == end || *q == '+' || *q == ':' || *q == '*')
-        return -1;
-    if (*q == '?')
-        q++;
-    *p = q + 1;
-    return *q;
 }
 
 // Passes what is left of an element; whether nothing in it was repeated.
