@@ -184,7 +184,7 @@ fn first_date(line: &[u8]) -> Date {
 fn open(b: &mut [u8], line: &[u8]) -> Told {
     match register::open(b, first_date(line), quotas(line)) {
         Opened::Done => done(0),
-        Opened::NotRegister => refused(1),
+        Opened::WrongLength => refused(1),
         Opened::BadOpening => refused(18),
     }
 }
@@ -226,7 +226,7 @@ fn release(b: &mut [u8], line: &[u8]) -> Told {
     match register::release(b, number(line, 1)) {
         Released::Entries(n) => done(n),
         Released::NotRegister => refused(1),
-        Released::NoAccount => refused(2),
+        Released::BadAccount => refused(2),
     }
 }
 
@@ -236,7 +236,7 @@ fn withdraw(b: &mut [u8], line: &[u8]) -> Told {
     match register::withdraw(b, number(line, 1), bytes_of(&text, Part { from: 0, to: n })) {
         Withdrawn::Done => done(0),
         Withdrawn::NotRegister => refused(1),
-        Withdrawn::NoAccount => refused(2),
+        Withdrawn::BadAccount => refused(2),
         Withdrawn::NothingPending => refused(16),
     }
 }
@@ -245,9 +245,9 @@ fn show(b: &[u8], account: usize, k: usize, out: &mut [u8]) -> Told {
     match register::show(b, account, k, out) {
         Shown::Bytes(n) => done(n),
         Shown::NotRegister => refused(1),
-        Shown::NoAccount => refused(2),
+        Shown::BadAccount => refused(2),
         Shown::NoRecord => refused(16),
-        Shown::NoRoom => refused(17),
+        Shown::TooShort => refused(17),
     }
 }
 
