@@ -9,7 +9,10 @@ struct reply drumcallisto_read(const uint8_t *s, size_t n, uint32_t *rows, size_
 
 // What document 01's calls come to, over the bytes of docs/REGISTER.md.
 _Bool drumcallisto_is_register(const uint8_t *b, size_t n);
-struct answer drumcallisto_open(uint8_t *b, size_t n, uint16_t year, uint8_t month, uint8_t day, const uint32_t *quotas);
+struct date {
+    uint32_t year, month, day;
+};
+struct answer drumcallisto_open(uint8_t *b, size_t n, struct date first, const uint32_t *quotas);
 struct answer drumcallisto_stage(uint8_t *b, size_t n, size_t account, const uint8_t *s, size_t length);
 struct answer drumcallisto_release(uint8_t *b, size_t n, size_t account);
 struct answer drumcallisto_withdraw(uint8_t *b, size_t n, size_t account, const uint8_t *number, size_t length);

@@ -406,7 +406,7 @@ static void run_ours(const struct command *c, uint8_t *b, struct outcome *o) {
     struct answer a = {0, 0, 0};
     switch (c->kind) {
     case OPEN:
-        a = drumcallisto_open(b, c->length, (uint16_t)c->year, (uint8_t)c->month, (uint8_t)c->day, c->quotas);
+        a = drumcallisto_open(b, c->length, (struct date){c->year, c->month, c->day}, c->quotas);
         break;
     case STAGE:
         a = drumcallisto_stage(b, c->length, c->account, interchange.at, interchange.n);
