@@ -75,6 +75,16 @@ read-written c g = rw (register-when c g, held-written c g)
 again : (b : List ℕ) (c : Contents) (d : ℕ × Ask) → registerIn b ≡ some c → registerIn (written (inContents c d .0)) ≡ some (inContents c d .0)
 again b c d q = read-written (inContents c d .0) (good-after c d (good-read b c q))
 
+-- a run on good contents, written, is the run on the contents
+called-written : (c : Contents) → good c ≡ true → (d : ℕ × Ask) → called (written c) d ≡ (written (inContents c d .0), inContents c d .1)
+unfolding onBuffer
+called-written c g d = called-is (written c) d ∙ rw (read-written c g)
+
+pub replies-written : (c : Contents) → good c ≡ true → (xs : List (ℕ × Ask)) → replies called (written c) xs ≡ replies inContents c xs
+unfolding replies
+replies-written c g [] = refl
+replies-written c g (d ∷ xs) = rw (called-written c g d) (ap (λ (l : List (ℕ × Reply)). (d .0, inContents c d .1) ∷ l) (replies-written (inContents c d .0) (good-after c d g) xs))
+
 pub called-apart : Apart called
 called-apart b c d n =
     let w = buffer-apart registerIn written inContents refusedAll again in-apart b c d n in
