@@ -1,15 +1,15 @@
 -- The laws of a release for the code: one slot, and one turn of the loop.
 -- Assumes nothing.
-use mathlib.Core.Path.{_≡_, refl, sym, _∙_, ap}
+use mathlib.Core.Path.{_≡_, sym, _∙_, ap}
 use mathlib.Core.List.{List, [], _∷_, _++_, append-assoc, append-nil}
-use Prim.Native.Nat.{ℕ, zero, suc, _+_, _-_, _*_, _/_, _≤_, _<_}
+use Prim.Native.Nat.{ℕ, _+_, _-_, _*_, _/_, _≤_, _<_}
 use native.Mathlib.Omega.{arith}
 use native.Mathlib.Numerals.{add-one}
 use lib.Dec.{eqb, lit≤}
 use borrow.Author.Tests.{eq-eqb, ne-eqb, eqb-false}
 use lib.ListN.{length, getD, take, drop, replicate, length-append, length-replicate, length-drop, drop-of-length-le}
 use lib.Seq.{getD-take, getD-drop, take-take, drop-drop, drop-cons, take-length, length-take-le, paste, paste-zero, take-paste, drop-paste}
-use Rattle.laws.specs.Choice.{pick, choose}
+use Rattle.laws.specs.Choice.{choose}
 use Rattle.laws.specs.Lists.{drop-take}
 use Rattle.dates.specs.Text.{putAt}
 use Rattle.dates.specs.Put.{put-room, put-front, put-put}
@@ -17,8 +17,7 @@ use Rattle.gaps.specs.Zero.{zeroFrom}
 use Rattle.slots.specs.Slots.{slotsOf, length-slots, slot-at}
 use Rattle.slots.specs.Rising.{leading}
 use Rattle.records.specs.Read.{leading-le}
-use Rattle.contents.specs.Contents.{nothing, put, removal}
-use Rattle.contents.specs.Written.{filledUp, pendingIn}
+use Rattle.contents.specs.Written.{filledUp}
 use Rattle.entries.specs.Release.{madeLive, keptSlot, settledSlot, settledSlots, pendingOne, pendingSlots, usedSlots, releasedRoom}
 
 -- a byte of the slot at an index

@@ -3,26 +3,24 @@
 use mathlib.Core.Path.{_≡_, refl, sym, _∙_, ap, subst}
 use mathlib.Core.Bool.{Bool, true, false, not}
 use mathlib.Core.Option.{Option, none, some}
-use mathlib.Core.List.{List, [], _∷_, _++_, map, append-assoc, append-nil}
-use Prim.Native.Nat.{ℕ, zero, suc, _+_, _-_, _*_, _≤_, _<_}
+use mathlib.Core.List.{List, [], _∷_, _++_, map, append-assoc}
+use Prim.Native.Nat.{ℕ, _+_, _-_, _*_, _≤_}
 use native.Mathlib.Omega.{arith}
 use lib.Dec.{eqb, lit≤}
-use borrow.Author.Tests.{eq-eqb, ne-eqb, eqb-true}
 use lib.ListN.{length, getD, take, drop, replicate, length-append, length-drop, length-replicate, length-map}
-use lib.Seq.{paste, take-at, take-add, take-take, take-length, length-take-le, take-all, drop-drop}
-use Rattle.laws.specs.Choice.{pick, choose, all, both-parts, false≢true}
+use lib.Seq.{paste, take-at, take-add, take-take, length-take-le, take-all}
+use Rattle.laws.specs.Choice.{pick, choose, all, both-parts}
 use Rattle.laws.specs.Joined.{joined, length-each}
 use Rattle.slots.specs.declared.Found.{Found}
 use Rattle.slots.specs.declared.Found.the-variants.{At, Gap}
-use Rattle.slots.specs.Find.{findOf, Within}
-use Rattle.gaps.specs.Move.{closed}
+use Rattle.slots.specs.Find.{Within}
 use Rattle.contents.specs.Contents.{Pending, nothing, put, removal, Record, isCalendar, goodEntries, goodNumber, goodRecord, goodAccount}
 use Rattle.contents.specs.Written.{filledUp, liveBytes, pendingBytes, slotOf, liveIn, pendingIn, recordIn, roomBytes}
 use Rattle.contents.specs.Calls.{lookup, listed, changed, isPending, hasPending, pendingCount, released, withdrawn, keptLive, recordAt}
 use Rattle.contents.specs.Calls as calls
 use Rattle.rooms.specs.Order.{length-filled}
-use Rattle.rooms.specs.Slots.{calendar-length, goodLive, entries-parts, record-number, record-parts, slot-number, slot-again, length-slot, slots-each, length-room, account-fits, account-records, account-order}
-use Rattle.rooms.specs.Lookup.{none≢some, some-is, lookup-bad}
+use Rattle.rooms.specs.Slots.{calendar-length, goodLive, entries-parts, record-number, record-parts, slot-number, slot-again, slots-each, length-room, account-fits, account-records, account-order}
+use Rattle.rooms.specs.Lookup.{none≢some, lookup-bad}
 use Rattle.rooms.specs.Changes.{placeIn, find-place, foundIn, changedAt, place-within, lookup-place, changed-place}
 use Rattle.rooms.specs.Places.{record-within, record-there, record-good, slot-there, slot-byte, used-slots, room-removed, room-replaced}
 use Rattle.rooms.specs.Settled.{released-good}

@@ -1,19 +1,17 @@
 -- A call on an account's room, lent and put back, is the call on the account's view.
 -- Assumes nothing.
-use mathlib.Core.Path.{_≡_, refl, sym, _∙_, ap}
+use mathlib.Core.Path.{_≡_, sym, _∙_, ap}
 use mathlib.Core.Bool.{Bool, true, false}
 use mathlib.Core.List.{List}
 use Prim.Native.Nat.{ℕ, _-_, _≤_, _<_}
-use native.Mathlib.Omega.{arith}
 use borrow.Author.Tests.{le-leb, lt-leb}
 use lib.Dec.{leb}
-use lib.ListN.{length}
 use borrow.Rule.Slice.PartMut.{midOf, putMid}
 use Rattle.laws.specs.Choice.{pick, choose}
 use Rattle.answers.specs.Answers.{Answer, done, notRegister, badAccount, nothingPending}
 use Rattle.contents.specs.Contents.{Record}
 use Rattle.contents.specs.Written.{written, held, isRegister, roomBytes}
-use Rattle.contents.specs.Calls.{View, isAccount, viewOf, withRecords, hasPending, lookup, changed, withdrawn, pendingCount, released, releaseOf, withdrawOf, recordAt, shownAnswer, shownBytes, showAnswer, showBytes, answerOn, bytesAfter, outputAfter}
+use Rattle.contents.specs.Calls.{View, isAccount, viewOf, withRecords, hasPending, lookup, changed, withdrawn, released, releaseOf, withdrawOf, recordAt, shownAnswer, shownBytes, showAnswer, showBytes, answerOn, bytesAfter, outputAfter}
 use Rattle.rooms.specs.Views.{roomStart, roomEnd, view-good, lent-is, lent-back}
 use Rattle.entries.specs.Release.{pendingSlots, usedSlots, releasedRoom}
 use Rattle.entries.specs.Withdraw.{slotFound, withdraws, withdrawnRoom}

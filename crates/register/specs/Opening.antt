@@ -2,22 +2,22 @@
 -- Assumes nothing.
 use mathlib.Core.Path.{_≡_, refl, sym, _∙_, ap}
 use mathlib.Core.Bool.{true, false}
-use mathlib.Core.List.{List, [], _∷_, _++_, map, map-append, append-assoc, append-nil}
+use mathlib.Core.List.{List, [], _∷_, _++_, map, map-append}
 use Prim.Native.Nat.{ℕ, zero, suc, _+_, _-_, _*_, _≤_, _<_}
 use native.Mathlib.Omega.{arith}
 use native.Mathlib.Numerals.{add-one}
 use borrow.Author.Tests.{eq-eqb, ne-eqb, le-leb, lt-leb}
-use lib.ListN.{length, getD, take, drop, replicate, length-append, length-map, length-replicate, replicate-append-replicate}
+use lib.ListN.{length, getD, take, drop, replicate, replicate-append-replicate}
 use lib.Seq.{paste-zero, take-suc, take-all, length-take-le}
 use Rattle.laws.specs.Lists.{drop-here, drop-past}
 use Rattle.laws.specs.Joined.{joined, total, joined-append}
-use Rattle.answers.specs.Answers.{Answer, done, notRegister, badOpening}
+use Rattle.answers.specs.Answers.{done, notRegister, badOpening}
 use Rattle.dates.specs.Dates.{valid, number}
 use Rattle.dates.specs.declared.Date.{Date}
 use Rattle.dates.specs.Text.{putAt}
 use Rattle.dates.specs.Put.{put-room, put-put, put-take, length-put}
 use Rattle.gaps.specs.Zero.{zeroFrom}
-use Rattle.contents.specs.Contents.{Record, goodQuotas}
+use Rattle.contents.specs.Contents.{goodQuotas}
 use Rattle.contents.specs.Written.{twoBytes, headOf, roomBytes, roomsBytes, written}
 use Rattle.contents.specs.Calls.{opened, mayOpen, openAnswer, openBytes}
 use Rattle.rooms.specs.Registers.{length-numbers}

@@ -135,9 +135,9 @@ pub fn release(b: &mut [u8], account: usize) -> Released
     if !is_account(account) {
         return Released::BadAccount;
     }
-    let from = rooms::room_start(b, account);
-    let to = rooms::room_end(b, account);
-    let entries = entries::release_room(&mut b[from..to]);
+    let start = rooms::room_start(b, account);
+    let end = rooms::room_end(b, account);
+    let entries = entries::release_room(&mut b[start..end]);
     Released::Entries(entries)
 }
 

@@ -1,27 +1,24 @@
 -- The laws of the lines for the code.
 -- Assumes nothing.
 use mathlib.Core.Path.{_≡_, refl, sym, _∙_, ap}
-use mathlib.Core.Bool.{true, false}
-use mathlib.Core.Option.{Option, none, some}
-use mathlib.Core.List.{List, [], _∷_, _++_, append-assoc, append-nil}
-use Prim.Native.Nat.{ℕ, suc, _+_, _-_, _*_, _/_, _≤_, _<_}
+use mathlib.Core.Option.{none, some}
+use mathlib.Core.List.{List, [], _∷_, _++_, append-assoc}
+use Prim.Native.Nat.{ℕ, _+_, _*_, _/_, _≤_, _<_}
 use native.Mathlib.Omega.{arith}
 use native.Mathlib.Nat.{add-zero}
 use lib.Dec.{eqb, leb, lit≤}
 use borrow.Author.Tests.{eq-eqb, ne-eqb, eqb-true, eqb-false, le-leb, lt-leb, lt-ltb, le-ltb}
 use lib.ListN.{length, getD, take, drop, length-append, length-take, length-drop}
 use lib.Seq.{take-take, paste-zero, length-take-le}
-use Rattle.laws.specs.Choice.{pick, choose}
+use Rattle.laws.specs.Choice.{choose}
 use Rattle.laws.specs.Lists.{drop-here, drop-past, over}
-use Rattle.answers.specs.Answers.{done, noRecord, outputTooShort}
+use Rattle.answers.specs.Answers.{done}
 use Rattle.dates.specs.Text.{putAt}
-use Rattle.dates.specs.Put.{put-room, put-front, put-put, length-put}
+use Rattle.dates.specs.Put.{put-front, put-put}
 use Rattle.calendar.specs.Written.{dayCharacters}
 use Rattle.calendar.specs.Steps.{length-characters}
-use Rattle.slots.specs.Slots.{first-byte}
-use Rattle.contents.specs.Contents.{Pending, nothing, put, removal, Record}
 use Rattle.contents.specs.Written.{upToZero, liveIn, pendingIn, recordIn}
-use Rattle.contents.specs.Calls.{lineOf, windowText, liveLine, pendingLine, recordText, shownAnswer, shownBytes}
+use Rattle.contents.specs.Calls.{liveLine, pendingLine, recordText, shownAnswer, shownBytes}
 use Rattle.shown.specs.declared.Lines.the-variants.{Bytes, NoRecord, TooShort}
 use Rattle.shown.specs.Shown.{recordOf, linesAnswer}
 

@@ -2,7 +2,6 @@
 -- Assumes nothing.
 use mathlib.Core.Path.{_≡_, sym, _∙_, ap}
 use mathlib.Core.Bool.{true}
-use mathlib.Core.Option.{some}
 use mathlib.Core.List.{List, map}
 use Prim.Native.Nat.{ℕ, _+_, _-_, _*_, _/_, _≤_, _<_}
 use native.Mathlib.Omega.{arith}
@@ -12,9 +11,8 @@ use lib.Dec.{lit≤}
 use borrow.Author.Tests.{eq-eqb, ne-eqb, lt-ltb, le-ltb}
 use lib.ListN.{length, getD, replicate, length-map, getD-replicate}
 use lib.Seq.{getD-append-add}
-use Rattle.laws.specs.Choice.{all, both-parts}
 use Rattle.laws.specs.Joined.{joined, length-each}
-use Rattle.contents.specs.Contents.{Record, goodRecord, goodAccount}
+use Rattle.contents.specs.Contents.{Record, goodAccount}
 use Rattle.contents.specs.Written.{slotOf, roomBytes}
 use Rattle.contents.specs.Calls.{recordAt}
 use Rattle.rooms.specs.Slots.{slot-again, slot-used, slots-each, length-room, account-fits, account-records}

@@ -1,14 +1,14 @@
 -- `entries::release_room` meets its contract. Invariant: what is written and what is left of the slots not yet read make up the answer; the slots not yet read are as they were.
 -- Assumes nothing.
 use mathlib.Core.Path.{_≡_, refl, _∙_}
-use mathlib.Core.List.{List, _++_}
-use Prim.Native.Nat.{ℕ, _+_, _-_, _*_, _≤_, _<_}
+use mathlib.Core.List.{_++_}
+use Prim.Native.Nat.{_+_, _-_, _*_, _≤_, _<_}
 use native.Mathlib.Nat.{zero-add}
 use native.Mathlib.Omega.{arith}
 use lib.ListN.{length, take, drop}
 use Rattle.slots.specs.Rising.{leading}
 use Rattle.slots.specs.Slots.{slotsOf}
-use Rattle.entries.specs.Release.{pendingOne, settledSlots, pendingSlots, usedSlots}
+use Rattle.entries.specs.Release.{settledSlots, pendingSlots, usedSlots}
 use Rattle.entries.specs.Released.{one-le, used-within, count-turn, to-turn, rest-turn, left-turn, count-end, left-end}
 use borrow.Author.Needs.{needs}
 use Rattle.entries.proofs.release_room.Statement.{statement}

@@ -1,7 +1,7 @@
 -- `register::put_quotas` meets its contract. Invariant: the first k quotas stand behind the first two bytes.
 -- Assumes nothing.
 use mathlib.Core.Path.{_≡_, refl, _∙_}
-use Prim.Native.Nat.{_+_, _-_, _*_, _≤_}
+use Prim.Native.Nat.{_-_, _≤_}
 use native.Mathlib.Omega.{arith}
 use lib.ListN.{length}
 use Rattle.dates.specs.Text.{putAt}

@@ -8,7 +8,7 @@ use native.Mathlib.Omega.{arith}
 use borrow.Author.Tests.{not-true, not-false}
 use lib.ListN.{length}
 use Rattle.contents.specs.Written.{isRegister}
-use Rattle.rooms.specs.Views.{roomStart, roomEnd, room-from, room-within}
+use Rattle.rooms.specs.Views.{room-from, room-within}
 use Rattle.contents.specs.Calls.{isAccount, showAnswer, showBytes}
 use Rattle.register.specs.Register.{recordAnswer}
 use Rattle.register.specs.Laws.{answer-register, answer-account, output-register, output-account, show-answer, show-output}

@@ -2,9 +2,8 @@
 -- Assumes nothing.
 use mathlib.Core.Path.{_∙_, ap}
 use mathlib.Core.List.{List}
-use Prim.Native.Nat.{ℕ, _≤_}
+use Prim.Native.Nat.{ℕ}
 use native.Mathlib.Omega.{arith}
-use lib.ListN.{length, take, length-take}
 use Rattle.dates.specs.Text.{putAt}
 use Rattle.contents.specs.Written.{pendingIn}
 use Rattle.contents.specs.Calls.{pendingLine}
