@@ -165,11 +165,12 @@ fn refused_services() {
 fn withdrawals() {
     let mut register = released(&[put("17", AUGUST)]);
     let live = register.clone();
-    assert_eq!(register.stage(3, &skdupd(&[put("a?+b", AUGUST)])), Ok(1));
-    for number in ["17", "18", "", "a?+b", "a", "a+b\0", "12345678901", "a+b "] {
+    assert_eq!(register.stage(3, &skdupd(&[put("a?+b", AUGUST), put("1234567890", AUGUST)])), Ok(2));
+    for number in ["17", "18", "", "a?+b", "a", "a+b\0", "12345678901", "1234567890\0", "a+b "] {
         refuses(&mut register, 16, 0, |r| r.withdraw(3, number.as_bytes()));
     }
     assert_eq!(register.withdraw(3, b"a+b"), Ok(()));
+    assert_eq!(register.withdraw(3, b"1234567890"), Ok(()));
     assert!(register == live);
 }
 
@@ -221,7 +222,10 @@ fn what_is_no_register() {
     none(&bytes[..REGISTER_LENGTH - 1]);
     none(&[bytes.as_slice(), &[0]].concat());
     none(&[255; REGISTER_LENGTH]);
-    let mut used = *bytes;
-    used[REGISTER_LENGTH - 1] = 1; // "unused room is zero"
-    none(&used);
+    // "unused room is zero": that of an account, and that of no account.
+    for quotas in [QUOTAS, [0, 1, 2, 3, 4, 5, 6, 7]] {
+        let mut used = *Register::open(FIRST, quotas).unwrap().as_bytes();
+        used[REGISTER_LENGTH - 1] = 1;
+        none(&used);
+    }
 }
