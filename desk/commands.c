@@ -3,7 +3,6 @@
 #include <stdio.h>
 #include <string.h>
 
-enum { MISUSED = -1 };
 static uint8_t interchange[DRUMCALLISTO_INTERCHANGE_LENGTH + 1];
 static struct store store = {.held = -1};
 
@@ -30,7 +29,7 @@ bool read_number(const char *word, uint32_t *to) {
 
 // Three numbers as yyyy-mm-dd, whether they make a date or not.
 static bool read_date(const char *word, drumcallisto_date *to) {
-    bool good = strlen(word) == 10 && strspn(word, "0123456789-") == 10;
+    bool good = strlen(word) == 10 && strspn(word, "0123456789-") == 10 && word[4] == '-' && word[7] == '-';
     return good && sscanf(word, "%4u-%2u-%2u", &to->year, &to->month, &to->day) == 3;
 }
 
@@ -90,11 +89,11 @@ static int show_command(const char *name, int count, char **words) {
 
 // Whether the file is a register; the value is how many records it has.
 static int check_command(const char *name, int count, char **words) {
+    (void)words;
     uint8_t lines[DRUMCALLISTO_RECORD_LENGTH];
     size_t records = 0;
-    int status = count == 1 && *words ? take_store(&store, name, LOOK) : MISUSED;
-    if (status)
-        return status;
+    if (count != 1 || take_store(&store, name, LOOK))
+        return count != 1 ? MISUSED : FAILED;
     if (!drumcallisto_is_register(store.bytes, store.length))
         return refuse((drumcallisto_reply){DRUMCALLISTO_NOT_A_REGISTER, 0, 0}, NULL, &store);
     for (size_t account = 1, k = 0; account <= DRUMCALLISTO_ACCOUNTS; account++, k = 0)

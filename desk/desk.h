@@ -5,8 +5,8 @@
 #include "drumcallisto.h"
 #include <sys/stat.h>
 
-// Exit statuses; the worst of several is the greatest.
-enum { DONE, REFUSED, USAGE, FAILED };
+// Exit statuses; the worst of several is the greatest. MISUSED is a wrong usage that is still to be told.
+enum { MISUSED = -1, DONE, REFUSED, USAGE, FAILED };
 
 // file.c. A register's file: its path, the names beside it, the lock while it is held (else -1), whether there is a file, what it is,
 // and its bytes; of a file that is too long, one byte too many. Each function gives a status and has said what failed.

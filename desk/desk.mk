@@ -23,8 +23,10 @@ endif
 
 .PHONY: desk desk-test example install
 desk: $(DESK_OUT)/desk
+	@:
 
 example: $(DESK_OUT)/services
+	@:
 
 desk-test: desk example
 	@desk/test.sh

@@ -24,11 +24,11 @@ int read_file(const char *name, uint8_t *to, size_t most, size_t *length) {
 }
 
 // A symbolic link is followed: the file that it leads to is replaced, the link stays, and all its names have one lock. A link that
-// leads nowhere has no path.
-static bool find_path(struct store *f, const char *name) {
+// leads nowhere has no path; nor has a file that is not there, unless it is to be made.
+static bool find_path(struct store *f, const char *name, bool make) {
     struct stat link;
     if (!realpath(name, f->path)) {
-        if (errno != ENOENT || !*name || strlen(name) >= LONGEST_PATH || !lstat(name, &link))
+        if (errno != ENOENT || !make || !*name || strlen(name) >= LONGEST_PATH || !lstat(name, &link))
             return false;
         snprintf(f->path, sizeof f->path, "%s", name);
     }
@@ -52,7 +52,7 @@ static bool take_lock(struct store *f) {
 // A register that is to be replaced must be a file that may be written: a rename alone would not ask. A plain file is read at once.
 int take_store(struct store *f, const char *name, enum purpose purpose) {
     *f = (struct store){.held = -1};
-    if (!find_path(f, name))
+    if (!find_path(f, name, purpose == MAKE))
         return failed(name, "");
     if (purpose != LOOK && !take_lock(f))
         return failed(f->lock, "; nothing was changed");
@@ -96,8 +96,9 @@ static bool write_beside(const struct store *f) {
 }
 
 int replace_store(const struct store *f) {
-    char folder[LONGEST_PATH + 8] = "./";
-    memcpy(folder, f->path, strrchr(f->path, '/') ? (size_t)(strrchr(f->path, '/') + 1 - f->path) : 0);
+    char folder[LONGEST_PATH];
+    const char *slash = strrchr(f->path, '/');
+    snprintf(folder, sizeof folder, "%.*s", slash ? (int)(slash + 1 - f->path) : 1, slash ? f->path : ".");
     if (!write_beside(f) || rename(f->beside, f->path)) {
         int status = failed(f->beside, f->there ? "; the old register stands" : "; no register was made");
         unlink(f->beside);

@@ -1,5 +1,6 @@
 // desk: the words on the command line, and a run of commands from standard input.
 #include "desk.h"
+#include <fcntl.h>
 #include <signal.h>
 #include <stdio.h>
 #include <stdlib.h>
@@ -17,11 +18,6 @@ static const char help[] =
     "desk --help [NUMBER], desk --version              this, or what a refusal's number means\n"
     "FILE may be -, standard input. Answers are done and a value, or refused, a number and a position.\n"
     "Status: 0 done, 1 refused, 2 wrong usage, 3 the system failed. More: man desk\n";
-
-// What was answered must have gone out.
-static int flushed(int status) {
-    return fflush(stdout) || ferror(stdout) ? failed("standard output", "; what was changed stands") : status;
-}
 
 static int print_help(const char *word) {
     uint32_t number;
@@ -59,7 +55,7 @@ static int run(const char *name) {
         int status = good ? perform(name, count, words) : wrong("standard input is a run of commands, and no file", "");
         if (status > REFUSED)
             printf("failed\t%d\n", status);
-        status = flushed(status);
+        fflush(stdout);
         worst = status > worst ? status : worst;
     }
     free(line);
@@ -78,9 +74,12 @@ static int command_line(int count, char **words) {
     return count < 3 || !strcmp(words[1], "read") ? wrong("desk --help says what it takes", "") : perform(words[1], count - 2, words + 2);
 }
 
-// A full disk and a reader that has gone are answers of write, not the end of the program.
+// A full disk and a reader that has gone are answers of write, not the end. No file takes the number of a standard file that is closed.
 int main(int count, char **words) {
+    for (int fd = 0; fd >= 0 && fd <= 2;)
+        fd = open("/dev/null", O_RDONLY | O_CLOEXEC);
     signal(SIGXFSZ, SIG_IGN);
     signal(SIGPIPE, SIG_IGN);
-    return flushed(command_line(count, words));
+    int status = command_line(count, words);
+    return fflush(stdout) || ferror(stdout) ? failed("standard output", "; what was changed stands") : status;
 }

@@ -55,7 +55,8 @@ int refuse(drumcallisto_reply reply, const struct text *text, const struct store
     fflush(stdout);
     fprintf(stderr, "desk: refused %u: %s", n, meaning_of(n) ? meaning_of(n) : "a number without words");
     if (n == DRUMCALLISTO_NOT_A_REGISTER && f)
-        fprintf(stderr, ": %s has %ld bytes, a register %d", f->path, (long)f->stat.st_size, DRUMCALLISTO_REGISTER_LENGTH);
+        fprintf(stderr, ": %s has %ld bytes, a register %d%s", f->path, (long)f->stat.st_size, DRUMCALLISTO_REGISTER_LENGTH,
+                f->length == DRUMCALLISTO_REGISTER_LENGTH ? ", but not these" : "");
     if (n == DRUMCALLISTO_OUTSIDE_WINDOW && f) {
         drumcallisto_date a = date_of(f, 0), b = date_of(f, DRUMCALLISTO_WINDOW_DAYS - 1);
         fprintf(stderr, ", %04u-%02u-%02u to %04u-%02u-%02u", a.year, a.month, a.day, b.year, b.month, b.day);
