@@ -97,3 +97,15 @@ expect 0 "done${tab}1" "" r stage 3 a
 same "what r.new led to" "$(cksum < a)" "$(cksum < precious)"
 same "mode and owner" "640 $(id -u | sed 's/^0$/65534/')" "$(stat -c '%a %u' r)"
 same "nothing is left beside" "a b precious r r.lock" "$(echo *)"
+
+# the order of it, by the system's own record: the lock, the file flushed, renamed, the folder flushed, and only then the answer
+if grep -qs qemu-x86_64 "$DESK"; then
+    sed 's/qemu-x86_64 /&-strace /' "$DESK" > "$work/traced"
+    sh "$work/traced" r release 3 > /dev/null 2> "$work/trace"
+elif command -v strace > /dev/null; then
+    strace -o "$work/trace" "$DESK" r release 3 > /dev/null
+else
+    echo "failures: no strace here; the order of flushing was not tried"
+fi
+[ -e "$work/trace" ] && same "the order" "flock write fsync rename fsync write " \
+    "$(grep -oE '\b(flock|write|fsync|rename)\(' "$work/trace" | sed -n '/flock/,$p' | tr -d '(' | tr '\n' ' ')"
