@@ -1,5 +1,6 @@
 # The desk program (docs/GUIDE.md), from the repository's root: make desk, desk-test, example, install PREFIX=.. (and DESTDIR=..).
-# It is compiled for x86-64. On Arm target/desk/desk is a script that starts it, desk.x86-64 beside it, under the kit's emulator.
+# It is compiled for x86-64 and needs a C library there (glibc 2.34 or later). On Arm target/desk/desk is a script that starts it,
+# desk.x86-64 beside it, under the kit's emulator.
 KIT = $(patsubst %/docs/,%,$(dir $(shell rt doc)))
 TOOLS = $(KIT)/on/$(shell uname -m)/toolchain
 EMULATOR = $(wildcard $(TOOLS)/bin/qemu-x86_64)

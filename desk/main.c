@@ -80,6 +80,7 @@ int main(int count, char **words) {
         fd = open("/dev/null", O_RDONLY | O_CLOEXEC);
     signal(SIGXFSZ, SIG_IGN);
     signal(SIGPIPE, SIG_IGN);
+    setvbuf(stderr, NULL, _IOLBF, 8192); // the words of two programs do not mix
     int status = command_line(count, words);
     return fflush(stdout) || ferror(stdout) ? failed("standard output", "; what was changed stands") : status;
 }

@@ -23,10 +23,10 @@ static void put_month(const struct store *f, const char *days, unsigned k, unsig
     drumcallisto_date d = date_of(f, k);
     unsigned weekday = (f->bytes[0] + 256u * f->bytes[1] + k) % 7;
     printf("%04u-%02u  Mo Tu We Th Fr Sa Su\n%*s", d.year, d.month, (int)(8 + weekday * 3), "");
-    for (unsigned end = k + n; k < end; k++, d.day++, weekday = (weekday + 1) % 7) {
-        if (!weekday && d.day > 1)
+    for (unsigned i = k; i < k + n; i++, d.day++, weekday = (weekday + 1) % 7) {
+        if (!weekday && i > k)
             printf("\n%8s", "");
-        if (days[k] == '1')
+        if (days[i] == '1')
             printf(isatty(1) ? " \033[1;7m%2u\033[0m" : " %2u", d.day);
         else
             printf("  .");

@@ -12,9 +12,10 @@ int fputs(const char *text, FILE *file);
 int fputc(int c, FILE *file);
 int putchar(int c);
 int fclose(FILE *file);
-size_t fwrite(const void *from, size_t size, size_t n, FILE *file);
 size_t fread(void *to, size_t size, size_t n, FILE *file);
 FILE *fopen(const char *name, const char *mode);
+int setvbuf(FILE *file, char *buffer, int mode, size_t n);
+#define _IOLBF 1
 int fflush(FILE *file);
 int ferror(FILE *file);
 ssize_t getline(char **line, size_t *room, FILE *file);

@@ -7,7 +7,5 @@ int strcmp(const char *a, const char *b);
 char *strchr(const char *a, int c);
 char *strrchr(const char *a, int c);
 char *strerror(int number);
-void *memcpy(void *to, const void *from, size_t n);
 void *memchr(const void *a, int c, size_t n);
-void *memset(void *to, int byte, size_t n);
 #endif

@@ -78,6 +78,14 @@ expect 0 "$months" "" r show 3 0 --months
 expect 0 "$months" "" r show 3 --months
 has "months on a terminal" $'\033[1;7m13\033[0m' "$(script -qec "$DESK r show 3 0 --months" /dev/null)"
 expect 0 "done${tab}1" "" r release 3
+expect 0 "done${tab}0" "" n open 2026-06-15 1 1 1 1 1 1 1 1
+sk two.edi "PRD+17'POP+273:2026-06-15/2026-06-30+12'"
+expect 0 "done${tab}1" "" n stage 3 two.edi
+expect 0 "17, put
+2026-06  Mo Tu We Th Fr Sa Su
+         15 16  .  .  .  .  .
+         22 23  .  .  .  .  .
+         29 30" "" n show 3 --months
 sk two.edi "PRD+17'MSD+AAR:56'"
 expect 0 "done${tab}1" "" r stage 3 two.edi
 has "a removal among months" "17, del" "$("$DESK" r show 3 0 --months)"

@@ -108,4 +108,4 @@ else
     echo "failures: no strace here; the order of flushing was not tried"
 fi
 [ -e "$work/trace" ] && same "the order" "flock write fsync rename fsync write " \
-    "$(grep -oE '\b(flock|write|fsync|rename)\(' "$work/trace" | sed -n '/flock/,$p' | tr -d '(' | tr '\n' ' ')"
+    "$(grep -oE '\b(flock|write|fsync|rename)(at2?)?\(' "$work/trace" | sed -n '/flock/,$p' | sed 's/at2*(\|(//' | tr '\n' ' ')"
