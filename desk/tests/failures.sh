@@ -47,21 +47,23 @@ unchanged "disks"
 # a folder that may not be written, and a register that may not be, by one who is not root
 who=
 [ "$(id -u)" == 0 ] && who="setpriv --reuid=65534 --regid=65534 --clear-groups"
-if $who "$DESK" --version > /dev/null 2>&1; then
+cp "$DESK" "$work/desk" # where anyone may start it
+[ -e "$DESK.x86-64" ] && cp "$DESK.x86-64" "$work/desk.x86-64" && sed -i "s|'.*'|'$work/desk.x86-64'|" "$work/desk"
+if $who "$work/desk" --version > /dev/null 2>&1; then
     chmod 555 .
-    $who "$DESK" r release 3 > "$work/out" 2> "$work/words"
+    $who "$work/desk" r release 3 > "$work/out" 2> "$work/words"
     same "a folder that may not be written" "3 " "$? $(cat "$work/out")"
     has "a folder that may not be written" "Permission denied" "$(cat "$work/words")"
     unchanged "a folder that may not be written"
     rm -rf "$work/open" && mkdir "$work/open" && cp -p r "$work/open" && chmod 777 "$work/open" && chmod 444 "$work/open/r"
-    (cd "$work/open" && $who "$DESK" r release 3) > "$work/out" 2> "$work/words"
+    (cd "$work/open" && $who "$work/desk" r release 3) > "$work/out" 2> "$work/words"
     same "a register that may not be written" "3 " "$? $(cat "$work/out")"
     has "a register that may not be written" "r: Permission denied" "$(cat "$work/words")"
     same "a register that may not be written" "$kept" "$(cksum < "$work/open/r")"
-    has "it may be looked at" "17${tab}put" "$(cd "$work/open" && $who "$DESK" r show 3)"
+    has "it may be looked at" "17${tab}put" "$(cd "$work/open" && $who "$work/desk" r show 3)"
     chmod 755 .
 else
-    wrong "nobody may start $DESK, so that a folder that may not be written cannot be tried"
+    wrong "$who may not start $work/desk, so that a folder that may not be written cannot be tried"
 fi
 
 # a register cut short, too long, damaged, or something else
