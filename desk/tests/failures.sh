@@ -100,6 +100,11 @@ same "what r.new led to" "$(cksum < a)" "$(cksum < precious)"
 same "mode and owner" "640 $(id -u | sed 's/^0$/65534/')" "$(stat -c '%a %u' r)"
 same "nothing is left beside" "a b precious r r.lock" "$(echo *)"
 
+# a lock is never a link to another's file
+rm r.lock && ln -s precious r.lock
+expect 3 "" "r.lock: Too many levels of symbolic links; nothing was changed" r release 3
+rm r.lock
+
 # the order of it, by the system's own record: the lock, the file flushed, renamed, the folder flushed, and only then the answer
 if grep -qs qemu-x86_64 "$DESK"; then
     sed 's/qemu-x86_64 /&-strace /' "$DESK" > "$work/traced"
