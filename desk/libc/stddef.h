@@ -1,0 +1,5 @@
+#ifndef LIBC_STDDEF_H
+#define LIBC_STDDEF_H
+typedef __SIZE_TYPE__ size_t;
+#define NULL ((void *)0)
+#endif
