@@ -5,6 +5,11 @@ help:
 	@echo 'make read FILE=samples/skdupd.edi   prints the reading of an interchange; builds the printing program if need be'
 	@echo 'make test                           the gate: proves every crate from nothing, tries each must-fail edit, runs each program'
 	@echo 'make test_read                      tries make read on good files and on files that cannot be read'
+	@echo 'make desk                           the desk program, target/desk/desk, with the library for C'
+	@echo 'make desk-test                      tests it: every command and status, a full disk, kills, two writers'
+	@echo 'make example                        the example for C: lists the services of a file with their days'
+	@echo 'make install PREFIX=..              program, library, header and man page'
+	@echo 'make rust                           builds and runs the tests of the crate for Rust (rust/README.md)'
 	@echo 'make bench                          holds the reader against a plain one in C: times, costs and answers (bench/README.md)'
 
 .PHONY: test
@@ -27,3 +32,7 @@ test_read:
 .PHONY: bench
 bench:
 	@$(MAKE) -C bench bench
+
+# The desk program: desk, desk-test, example, install PREFIX=..
+include desk/desk.mk
+include rust/rust.mk

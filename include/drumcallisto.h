@@ -80,8 +80,8 @@ drumcallisto_service drumcallisto_next_service(const uint8_t *interchange, size_
 /* What stands between two offsets of the interchange after release, to the front of `out`: a service's number. value: its length. 17. */
 drumcallisto_reply drumcallisto_number(const uint8_t *interchange, size_t length, size_t from, size_t to, uint8_t *out, size_t room);
 
-/* Selects in `days` the days of the POPs among rows `from` to before `to`; its day 0 is `first`, and it has 8 days for each byte.
- * 18 for a first date that is none, 10, 13 at the POP. value: how many POPs. */
+/* Writes to `days`, a calendar of 64 bytes, the days of the POPs among rows `from` to before `to`, over the window of 512 days from
+ * `first` on. 19 for a first date that is none or another length, 13 at the first POP that is not wholly in the window. */
 drumcallisto_reply drumcallisto_days(const uint8_t *interchange, size_t length, const uint32_t *rows, size_t room,
                                      size_t from, size_t to, drumcallisto_date first, uint8_t *days, size_t days_length);
 

@@ -19,7 +19,6 @@ use Rattle.period.specs.Period.{periodOf, periodAnswer, runsIn}
 use Rattle.period.specs.declared.Period.{Period}
 use Rattle.period.specs.declared.Period.the-variants.{Good, Wrong}
 use Rattle.values.specs.Values.{sameText}
-use Rattle.answers.specs.Answers as answer
 use Rattle.answers.specs.Answers.{Answer}
 use Rattle.contents.specs.Contents.{Contents, good}
 use Rattle.contents.specs.Written.{roomsBytes}
@@ -67,15 +66,15 @@ comesOf g (Good f m form) (period first last n days) =
 
 -- the same number, position and value
 unfoldable pub sameAnswer : Answer ℕ → Answer ℕ → Bool
-sameAnswer (answer.done x) (answer.done y) = eqb x y
-sameAnswer (answer.done x) (answer.refused m j) = false
-sameAnswer (answer.refused n i) (answer.done y) = false
-sameAnswer (answer.refused n i) (answer.refused m j) = both (eqb n m) (eqb i j)
+sameAnswer (answers.done x) (answers.done y) = eqb x y
+sameAnswer (answers.done x) (answers.refused m j) = false
+sameAnswer (answers.refused n i) (answers.done y) = false
+sameAnswer (answers.refused n i) (answers.refused m j) = both (eqb n m) (eqb i j)
 
 -- a call that is refused leaves the bytes of all rooms as they were
 unfoldable pub keeps : Contents → Contents → Answer ℕ → Bool
-keeps c d (answer.done x) = true
-keeps c d (answer.refused n i) = sameText (roomsBytes (c .quotas) (c .accounts)) (roomsBytes (d .quotas) (d .accounts))
+keeps c d (answers.done x) = true
+keeps c d (answers.refused n i) = sameText (roomsBytes (c .quotas) (c .accounts)) (roomsBytes (d .quotas) (d .accounts))
 
 unfoldable pub callHolds : Contents → Contents × Reply → Answer ℕ → Bool
 callHolds c w a = both (good c) (both (sameAnswer (w .1 .answer) a) (keeps c (w .0) a))

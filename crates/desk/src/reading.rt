@@ -1,16 +1,25 @@
 //! The services of a reading, for C.
 
 use crate::Reply;
+use crate::calendars::Day;
+use crate::calendars::date_of;
 use crate::done;
 use crate::refused;
+use dates::Number;
 use parts::Part;
 use parts::bytes_of;
 use services::Found;
+use staging::room::days_of;
+use staging::tests::Window;
+use staging::tests::test_window;
 use values::Copied;
 ghost use mathlib.Core.Path.{_≡_};
-ghost use Rattle.services.specs.Services.{nextService};
+ghost use lib.ListN.{length};
+ghost use Rattle.services.specs.Services.{nextService, periodsFrom};
+ghost use Rattle.staging.specs.Stage.{firstOutside, daysOf};
 ghost use Rattle.desk.specs.Services.{foundService, partFrom, copiedAnswer, numberAnswer, numberBytes};
-ghost use Rattle.desk.specs.Desk.{replyOf};
+ghost use Rattle.desk.specs.Days.{insideAnswer, insideDays, daysAnswer, daysBytes};
+ghost use Rattle.desk.specs.Desk.{replyOf, dateOf};
 
 /// A service as C takes it, or that there is none more; then the rest is 0.
 #[repr(C)]
@@ -76,4 +85,42 @@ pub extern "C" fn drumcallisto_number(s: &[u8], from: usize, to: usize, out: &mu
 {
     let part = Part { from, to };
     told(values::copy_plain(bytes_of(s, part), out))
+}
+
+// The days of the POPs among rows into a calendar of 64 bytes.
+fn write_days(s: &[u8], rows: &[u32], from: usize, to: usize, day: usize, days: &mut [u8]) -> Reply
+    requires { ⌜ length (now days) ≡ 64 ⌝ }
+    ensures told { λ r. ⌜ r ≡ replyOf (insideAnswer (firstOutside day (now (s .entry)) (periodsFrom (now (rows .entry)) from to))) ⌝ }
+    ensures left { λ _. ⌜ now (days .exit) ≡ insideDays (firstOutside day (now (s .entry)) (periodsFrom (now (rows .entry)) from to)) (daysOf day (now (s .entry)) (periodsFrom (now (rows .entry)) from to)) (now (days .entry)) ⌝ }
+{
+    match test_window(day, s, rows, from, to) {
+        Window::Inside => {
+            let found = days_of(day, s, rows, from, to);
+            dates::put_bytes(days, 0, &found);
+            done(0)
+        }
+        Window::Outside(at) => refused(13, at),
+    }
+}
+
+/// The days of the POPs among rows `from` to before `to`, over the window of 512 days from a first date on.
+#[no_mangle]
+pub extern "C" fn drumcallisto_days(
+    s: &[u8],
+    rows: &[u32],
+    from: usize,
+    to: usize,
+    first: Day,
+    days: &mut [u8],
+) -> Reply
+    ensures told { λ r. ⌜ r ≡ replyOf (daysAnswer (now (s .entry)) (periodsFrom (now (rows .entry)) from to) (dateOf first) (now (days .entry))) ⌝ }
+    ensures left { λ _. ⌜ now (days .exit) ≡ daysBytes (now (s .entry)) (periodsFrom (now (rows .entry)) from to) (dateOf first) (now (days .entry)) ⌝ }
+{
+    if days.len() != 64 {
+        return refused(19, 0);
+    }
+    let Number::Day(day) = date_of(first).day_number() else {
+        return refused(19, 0);
+    };
+    write_days(s, rows, from, to, day, days)
 }

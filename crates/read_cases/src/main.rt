@@ -4,7 +4,7 @@
 //! A table of more than 1,000 bytes is told by `long`, its rows, its bytes, and the remainder by 65,521 of the number that
 //! its bytes are.
 
-use interchange::reader::Answer;
+use interchange::reader::Reading;
 use interchange::reader::read;
 use libc::STDOUT_FILENO;
 use parts::Part;
@@ -228,8 +228,8 @@ fn answer_refusal(number: u8, position: usize) {
 
 fn answer_case(interchange: &[u8], rows: &mut [u32]) {
     match read(interchange, rows) {
-        Answer::Rows(n) => answer_rows(rows, n),
-        Answer::Refused(refusal) => answer_refusal(refusal.number, refusal.position),
+        Reading::Rows(n) => answer_rows(rows, n),
+        Reading::Refused(refusal) => answer_refusal(refusal.number, refusal.position),
     }
 }
 

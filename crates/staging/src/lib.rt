@@ -1,7 +1,7 @@
 //! Staging an interchange: its services enter an account's pending entries, all of them or none (document 01, "The register").
 
-mod room;
-mod tests;
+pub mod room;
+pub mod tests;
 
 use crate::room::put_all;
 use crate::room::remove_all;

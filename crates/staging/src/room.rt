@@ -75,8 +75,8 @@ fn join_periods(days: &mut [u8], first: usize, s: &[u8], rows: &[u32], from: usi
     }
 }
 
-// The days of the POPs among rows, over the window.
-fn days_of(first: usize, s: &[u8], rows: &[u32], from: usize, to: usize) -> [u8; 64]
+/// The days of the POPs among rows, over the window.
+pub fn days_of(first: usize, s: &[u8], rows: &[u32], from: usize, to: usize) -> [u8; 64]
     ensures { λ r. ⌜ r ≡ daysOf first (now (s .entry)) (periodsFrom (now (rows .entry)) from to) ⌝ }
 {
     let mut days = [0u8; 64];

@@ -27,8 +27,8 @@ ghost use Rattle.staging.specs.Stage.{numberIn, outsideBy, firstOutside}
 ghost use Rattle.staging.specs.Tests.{windowFound, testedAnswer, unknownBy, adds, drops, testKnown, testOne, testAll, noTotals};
 ghost use Rattle.staging.specs.Room.{lookAt};
 
-// Where the first period that is not wholly in the window stands.
-enum Window {
+/// Where the first period that is not wholly in the window stands.
+pub enum Window {
     Inside,
     Outside(usize),
 }
@@ -56,8 +56,8 @@ fn is_outside(first: usize, s: &[u8], at: usize) -> bool
     }
 }
 
-// 13: the first POP among rows that is not wholly in the window.
-fn test_window(first: usize, s: &[u8], rows: &[u32], from: usize, to: usize) -> Window
+/// 13: the first POP among rows that is not wholly in the window.
+pub fn test_window(first: usize, s: &[u8], rows: &[u32], from: usize, to: usize) -> Window
     ensures { λ r. ⌜ windowFound r ≡ firstOutside first (now (s .entry)) (periodsFrom (now (rows .entry)) from to) ⌝ }
 {
     let mut i = from;
