@@ -87,7 +87,7 @@ pub fn number(interchange: &[u8], from: usize, to: usize, out: &mut [u8]) -> Res
     told(unsafe { drumcallisto_number(interchange.as_ptr(), interchange.len(), from, to, out.as_mut_ptr(), out.len()) })
 }
 
-/// How many POPs it joined.
+/// The days of the POPs among the rows.
 pub fn days(interchange: &[u8], rows: &[u32], from: usize, to: usize, first: Date, days: &mut [u8]) -> Result<usize, Refusal> {
     let (s, n, r, room) = (interchange.as_ptr(), interchange.len(), rows.as_ptr(), rows.len());
     // SAFETY: three slices, and the one written is lent with `&mut`; any rows and any first date do no harm.

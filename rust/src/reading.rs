@@ -112,7 +112,7 @@ impl Service<'_> {
             .expect("a number after release is no longer than as it is written")
     }
 
-    /// Its days over the 512 days from `first` on. 18 for a first date that is none, 13 at the POP.
+    /// Its days over the 512 days from `first` on. 19 for a first date that is none, 13 at the POP.
     pub fn days(&self, first: Date) -> Result<Calendar, Refusal> {
         let mut days = Calendar::new();
         let Reading { interchange, rows } = self.reading;

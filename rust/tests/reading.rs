@@ -117,7 +117,7 @@ fn days_over_another_window() {
     assert_eq!(service.days(Date::new(1999, 3, 20)).unwrap_err(), refused(13, pop)); // its last day would be day 512
     assert_eq!(service.days(Date::new(1999, 3, 21)).unwrap().days().last(), Some(511));
     for none in [Date::new(2001, 2, 29), Date::new(1989, 12, 31), Date::new(2000, 0, 1), Date::new(u32::MAX, u32::MAX, u32::MAX)] {
-        assert_eq!(service.days(none).unwrap_err(), refused(18, 0), "{none}");
+        assert_eq!(service.days(none).unwrap_err(), refused(19, 0), "{none}");
     }
 }
 
