@@ -47,3 +47,10 @@ found-said s at =
     choose (leb (length s) at)
     (λ q. rw q)
     (λ q. rw q (told-said s at (segmentAt s at) ∙ ap (standing s at) (scan-said s at refl .1)))
+
+-- what a function promises of what it finds: the case, and the answer of the table that it is
+abbrev pub Told : List ℕ → ℕ → Found → Type 0
+Told s at r = (r ≡ foundAt s at) × (foundAnswer r ≡ standingAt s at)
+
+pub told-by : (s : List ℕ) (at : ℕ) (r : Found) → r ≡ foundAt s at → Told s at r
+told-by s at r e = (e, ap foundAnswer e ∙ found-said s at)

@@ -6,7 +6,8 @@ use syntax::segment::Scanned;
 use syntax::segment::read_segment;
 use syntax::segment::tag_at;
 ghost use mathlib.Core.Path.{_≡_};
-ghost use Rattle.lent.specs.Lent.{foundAt, offsetAfter, offsetPast};
+ghost use Rattle.lent.specs.Lent.{offsetAfter, offsetPast};
+ghost use Rattle.lent.specs.Answer.{Told};
 
 /// What stands where the reader has come to.
 pub enum Found {
@@ -26,7 +27,7 @@ pub struct Reader<'a> {
 
 /// What stands at an offset of an interchange.
 pub fn segment_at(s: &[u8], at: usize) -> Found
-    ensures { λ r. ⌜ r ≡ foundAt (now (s .entry)) at ⌝ }
+    ensures { λ r. ⌜ Told (now (s .entry)) at r ⌝ }
 {
     if s.len() <= at {
         return Found::Over;
@@ -60,7 +61,7 @@ pub fn new<'a>(src: &'a [u8]) -> Reader<'a>
 
 /// What stands next.
 pub fn next<'a>(r: Reader<'a>) -> Found
-    ensures { λ s. ⌜ s ≡ foundAt (now (r .entry .src)) (r .entry .at) ⌝ }
+    ensures { λ s. ⌜ Told (now (r .entry .src)) (r .entry .at) s ⌝ }
 {
     segment_at(r.src, r.at)
 }
@@ -77,7 +78,7 @@ pub fn passed<'a>(r: Reader<'a>) -> Reader<'a>
 
 /// What a reader finds once it has passed n segments of an interchange.
 pub fn found_past(s: &[u8], n: usize) -> Found
-    ensures { λ r. ⌜ r ≡ foundAt (now (s .entry)) (offsetPast (now (s .entry)) n) ⌝ }
+    ensures { λ r. ⌜ Told (now (s .entry)) (offsetPast (now (s .entry)) n) r ⌝ }
 {
     let mut r = new(s);
     let mut i = 0;

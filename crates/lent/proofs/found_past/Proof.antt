@@ -46,6 +46,7 @@ use denote.Triple.Walked.{says, Stays, stay-none, stay-none-slice, walkOf, goes-
 use denote.Exit.{yes}
 use denote.Triple.Clauses.{ensured, lasts}
 use Rattle.lent.specs.Lent.{foundAt, offsetAfter, offsetPast}
+use Rattle.lent.specs.Answer.{Told, told-by}
 use Rattle.lent.specs.Laws.{past-none, past-next}
 use Rattle.lent.specs.declared.Reader.{Reader}
 use Rattle.lent.specs.declared.Found.{Found}
@@ -181,10 +182,10 @@ module _ {M : Type 1} (𝓤 : URA M) (H : Heap 𝓤) (A : Atoms 𝓤) (W : Given
   goes-next : (r : Reader) (u : Val) → ent 𝓤 (⋆ 𝓤 H A (‵ (B (κ, tt) .own r (u ∷ [])) ∷ (‵ (flft κ q) ⊛ ‵ ftrue) ∷ [])) (Next 𝓤 H A mem run .pre (to-next r u))
   goes-next r u = qed W (‵ (B (κ, tt) .own r (u ∷ [])) ∷ (‵ (flft κ q) ⊛ ‵ ftrue) ∷ []) ∵ nothing ! $ move ! (1 ∷ 0 ∷ []) $ fjoin ! $ move ! (1 ∷ 0 ∷ []) $ join ! $ frame ! $ done !
 
-  next-said : (r : Reader) (t : Found) → ent 𝓤 (ensured 𝓤 H A next.ended (next.clauses 𝓤 H A mem run) (κ, tt) (r, tt) tt t) (fact 𝓤 (t ≡ foundAt (now (r .src)) (r .at)))
-  next-said r t = exE 𝓤 _ (λ ws. snd∗ 𝓤 (sem 𝓤 H A (lasts next.ended (κ, tt) (r, tt) ws)) (fact 𝓤 (t ≡ foundAt (now (r .src)) (r .at))))
+  next-said : (r : Reader) (t : Found) → ent 𝓤 (ensured 𝓤 H A next.ended (next.clauses 𝓤 H A mem run) (κ, tt) (r, tt) tt t) (fact 𝓤 (Told (now (r .src)) (r .at) t))
+  next-said r t = exE 𝓤 _ (λ ws. snd∗ 𝓤 (sem 𝓤 H A (lasts next.ended (κ, tt) (r, tt) ws)) (fact 𝓤 (Told (now (r .src)) (r .at) t)))
 
-  exits : (t : Found) (u : Val) → t ≡ found → ent 𝓤 (⋆ 𝓤 H A (‵ (S.the-row .own t (u ∷ [])) ∷ (‵ (flft κ q) ⊛ ‵ ftrue) ∷ ‵ Keep ∷ [])) (Post u)
+  exits : (t : Found) (u : Val) → Told (now s) (offsetPast (now s) n) t → ent 𝓤 (⋆ 𝓤 H A (‵ (S.the-row .own t (u ∷ [])) ∷ (‵ (flft κ q) ⊛ ‵ ftrue) ∷ ‵ Keep ∷ [])) (Post u)
   exits t u e =
       qed W (‵ (S.the-row .own t (u ∷ [])) ∷ (‵ (flft κ q) ⊛ ‵ ftrue) ∷ ‵ Keep ∷ []) ∵
       suffices ! _ (ends-at 𝓤 H A found-past.ended stayed (found-past.clauses 𝓤 H A mem run) W (((κ, tt), (q, tt), tt, (s, (n, tt)), at), tt) u t (tt, (tt, tt)) (tt, (tt, tt))) $ says ! e $
@@ -252,14 +253,14 @@ module _ {M : Type 1} (𝓤 : URA M) (H : Heap 𝓤) (A : Atoms 𝓤) (W : Given
           use2 W (raw (Next 𝓤 H A mem run .pre (to-next (t .r) (t .u)))) (goes-next (t .r) (t .u)) $
           calls-at ! (fmOf 𝓤 H (W .laws) 𝓣) (Next 𝓤 H A mem run) known-next (to-next (t .r) (t .u)) (and-then ! (load ! (from ! (stop !)) (look ! 2 refl)) (no-more !)) (λ u′.
           use1 W (later (some (λ (f : Found). ((‵ (flft κ q) ⊛ ‵ ftrue) ⊛ ‵ (S.the-row .own f (u′ ∷ []))) ⊛ raw (ensured 𝓤 H A next.ended (next.clauses 𝓤 H A mem run) (κ, tt) (t .r, tt) tt f)))) (id⊢ 𝓤 _) $ await ! tt $ pick ! (λ f.
-          split ! $ move ! (1 ∷ []) $ use1 W (raw (fact 𝓤 (f ≡ foundAt (now (t .r .src)) (t .r .at)))) (next-said (t .r) f) $ heard ! (f ≡ foundAt (now (t .r .src)) (t .r .at)) (λ e. split ! $ move ! (1 ∷ []) $
+          split ! $ move ! (1 ∷ []) $ use1 W (raw (fact 𝓤 (Told (now (t .r .src)) (t .r .at) f))) (next-said (t .r) f) $ heard ! (Told (now (t .r .src)) (t .r .at) f) (λ e. split ! $ move ! (1 ∷ []) $
           -- [the result; the token; what the parameters own; _7; …; room for _6; …; room for _5; …; _4; …; _3; …; _2; …; _1; …; room for _0; …]
           peeks ! S.the-row (Is S.the-row) (shows 𝓤 H A S.the-row) f (u′ ∷ []) (λ is′.
           land ! (from ! (stop !)) (init ! 17 refl (EL.lawful S.the-type S′.the-laws 𝓤 H A W tt .typed f _ is′ .0)) $
           returns ! (look ! 17 refl) $ forget ! 3 refl $ forget ! 9 refl $ forget ! 11 refl $ forget ! 13 refl $ forget ! 15 refl $ forget ! 17 refl $
           move ! (17 ∷ 18 ∷ []) $ free1 ! $ move ! (15 ∷ 16 ∷ []) $ free1 ! $ move ! (13 ∷ 14 ∷ []) $ free1 ! $ move ! (11 ∷ 12 ∷ []) $ free1 ! $
           move ! (9 ∷ 10 ∷ []) $ free1 ! $ move ! (7 ∷ 8 ∷ []) $ free1 ! $ move ! (5 ∷ 6 ∷ []) $ free1 ! $ move ! (3 ∷ 4 ∷ []) $ free1 ! $ free0 ! $
-          by ! (exits f u′ (e ∙ found-is t over)))))))
+          by ! (exits f u′ (told-by (now s) (offsetPast (now s) n) f (e .0 ∙ found-is t over))))))))
 
       turns : (t : Stood s n) → Sq W (At t) (runs (𝓣 .C) (𝓣 .Λ) En turn (anyQ (Turned t)))
       unfolding afterTurn

@@ -26,19 +26,19 @@ returns c =
     let f = c .before .before .before in
     let a = f .before .before .args in
     let g = c .before .after .given in
-    after-found (now (a .s)) (a .at) (Segment (g .0 .0) (g .0 .1 .0)) (sym (f .segment-at .ensures) ∙ g .1)
+    after-found (now (a .s)) (a .at) (Segment (g .0 .0) (g .0 .1 .0)) (sym (f .segment-at .ensures .0) ∙ g .1)
 
 returns-2 : tie.Need-returns-2
 returns-2 c =
     let f = c .before .before in
     let a = f .before .before .args in
-    after-found (now (a .s)) (a .at) Over (sym (f .segment-at .ensures) ∙ c .enum-told .given .1)
+    after-found (now (a .s)) (a .at) Over (sym (f .segment-at .ensures .0) ∙ c .enum-told .given .1)
 
 returns-3 : tie.Need-returns-3
 returns-3 c =
     let f = c .before .before in
     let a = f .before .before .args in
-    after-found (now (a .s)) (a .at) (Refused (c .enum-told2 .given .0 .0)) (sym (f .segment-at .ensures) ∙ c .enum-told2 .given .1)
+    after-found (now (a .s)) (a .at) (Refused (c .enum-told2 .given .0 .0)) (sym (f .segment-at .ensures .0) ∙ c .enum-told2 .given .1)
 
 pub offset-after-spec : {M : Type 1} → statement M
 offset-after-spec =

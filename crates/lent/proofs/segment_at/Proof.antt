@@ -15,11 +15,12 @@ use Rattle.syntax.specs.Segment.{refusalOf}
 use Rattle.syntax.specs.Ends.{end-within}
 use Rattle.lent.specs.declared.Found.the-variants.{Segment, Refused}
 use Rattle.lent.specs.Laws.{found-over, found-told}
+use Rattle.lent.specs.Answer.{told-by}
 
 returns : tie.Need-returns
 returns c =
     let a = c .before .before .args in
-    found-over (now (a .s)) (a .at) (omega arith)
+    told-by (now (a .s)) (a .at) _ (found-over (now (a .s)) (a .at) (omega arith))
 
 read-segment-requires : tie.Need-read-segment-requires
 read-segment-requires c κs = search needs
@@ -61,32 +62,36 @@ returns-2 c =
     let k = c .before .before in
     let r = k .before .before in
     let a = r .before .before .before .args in
-    ap (λ (t : ℕ). Segment t (k .scanned .given .0 .0 + 1)) (c .tag-at .ensures)
-    ∙ found-told (now (a .s)) (a .at) (End (k .scanned .given .0 .0)) (r .before .if1 .left) (sym (r .read-segment .ensures .0) ∙ k .scanned .given .1)
+    told-by (now (a .s)) (a .at) _
+    (ap (λ (t : ℕ). Segment t (k .scanned .given .0 .0 + 1)) (c .tag-at .ensures)
+    ∙ found-told (now (a .s)) (a .at) (End (k .scanned .given .0 .0)) (r .before .if1 .left) (sym (r .read-segment .ensures .0) ∙ k .scanned .given .1))
 
 returns-3 : tie.Need-returns-3
 returns-3 c =
     let e = c .before in
     let r = e .before .before in
     let a = r .before .before .before .args in
-    ap Refused (c .refusal .ensures ∙ ap (refusalOf (a .at)) (e .enum-told .given .1))
-    ∙ found-told (now (a .s)) (a .at) (NotPermitted (e .enum-told .given .0 .0)) (r .before .if1 .left) (sym (r .read-segment .ensures .0) ∙ e .enum-told .given .1)
+    told-by (now (a .s)) (a .at) _
+    (ap Refused (c .refusal .ensures ∙ ap (refusalOf (a .at)) (e .enum-told .given .1))
+    ∙ found-told (now (a .s)) (a .at) (NotPermitted (e .enum-told .given .0 .0)) (r .before .if1 .left) (sym (r .read-segment .ensures .0) ∙ e .enum-told .given .1))
 
 returns-4 : tie.Need-returns-4
 returns-4 c =
     let e = c .before in
     let r = e .before .before in
     let a = r .before .before .before .args in
-    ap Refused (c .refusal2 .ensures ∙ ap (refusalOf (a .at)) (e .enum-told2 .given .1))
-    ∙ found-told (now (a .s)) (a .at) Unended (r .before .if1 .left) (sym (r .read-segment .ensures .0) ∙ e .enum-told2 .given .1)
+    told-by (now (a .s)) (a .at) _
+    (ap Refused (c .refusal2 .ensures ∙ ap (refusalOf (a .at)) (e .enum-told2 .given .1))
+    ∙ found-told (now (a .s)) (a .at) Unended (r .before .if1 .left) (sym (r .read-segment .ensures .0) ∙ e .enum-told2 .given .1))
 
 returns-5 : tie.Need-returns-5
 returns-5 c =
     let e = c .before in
     let r = e .before .before in
     let a = r .before .before .before .args in
-    ap Refused (c .refusal3 .ensures ∙ ap (refusalOf (a .at)) (e .enum-told3 .given .1))
-    ∙ found-told (now (a .s)) (a .at) Malformed (r .before .if1 .left) (sym (r .read-segment .ensures .0) ∙ e .enum-told3 .given .1)
+    told-by (now (a .s)) (a .at) _
+    (ap Refused (c .refusal3 .ensures ∙ ap (refusalOf (a .at)) (e .enum-told3 .given .1))
+    ∙ found-told (now (a .s)) (a .at) Malformed (r .before .if1 .left) (sym (r .read-segment .ensures .0) ∙ e .enum-told3 .given .1))
 
 pub segment-at-spec : {M : Type 1} → statement M
 segment-at-spec =
