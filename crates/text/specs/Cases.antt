@@ -3,9 +3,8 @@
 use mathlib.Core.Path.{_≡_, refl}
 use mathlib.Core.List.{List, [], _∷_}
 use Prim.Native.Nat.{ℕ}
-use Rattle.answers.specs.Answers.{refused}
 use Rattle.envelope.specs.Decimal.{decimalOn}
-use Rattle.text.specs.Text.{rowText, rowsText, tableText, refusalText, answerOf}
+use Rattle.text.specs.Text.{rowText, rowsText, tableText, refusalText}
 
 -- the five rows: UIB at 0, UIH at 13, MSD at 36, UIT at 47, UIZ at 55, each in no group
 abbrev printedRows : List ℕ
@@ -27,8 +26,3 @@ printed-whole = refl
 pub printed-refusal : refusalText 7 47 ≡ 114 ∷ 101 ∷ 102 ∷ 117 ∷ 115 ∷ 101 ∷ 100 ∷ 9 ∷ 55 ∷ 9 ∷ 52 ∷ 55 ∷ 10 ∷ []
 unfolding refusalText decimalOn
 printed-refusal = refl
-
--- with no byte lent it is 17
-pub printed-short : answerOf (refusalText 7 47) [] ≡ refused 17 0
-unfolding answerOf refusalText decimalOn
-printed-short = refl
