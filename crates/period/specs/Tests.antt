@@ -118,19 +118,6 @@ no-weekdays w p = rw p
 
 -- the whole segment
 module _ (g : List ℕ) where
-  pub other-qualifier : sameText (qualifier g) (50 ∷ 55 ∷ 51 ∷ []) ≡ false → false ≡ restGood g
-  unfolding restGood
-  other-qualifier p = rw p
-
-  module _ (p : sameText (qualifier g) (50 ∷ 55 ∷ 51 ∷ []) ≡ true) where
-    pub first-repeated : repeats g 1 ≡ true → false ≡ restGood g
-    unfolding restGood
-    first-repeated q = rw (p, q)
-
-    pub second-repeated : repeats g 1 ≡ false → not (repeats g 2) ≡ restGood g
-    unfolding restGood
-    second-repeated q = rw (p, q)
-
   pub wrong-dates : spanIn (firstLast g) ≡ NoSpan → Wrong BadDates ≡ periodOf g
   unfolding periodOf
   wrong-dates p = rw p

@@ -7,7 +7,6 @@ use dates::Made;
 use dates::Number;
 use parts::Part;
 use parts::bytes_of;
-use parts::is_repeated;
 use parts::part_at;
 use values::Copied;
 use values::Next;
@@ -20,7 +19,8 @@ ghost use Rattle.laws.specs.Choice.{both, all};
 ghost use Rattle.syntax.specs.Bytes.{plain};
 ghost use Rattle.syntax.specs.Pieces.{partOf};
 ghost use Rattle.parts.specs.Places.{bytesOf};
-ghost use Rattle.period.specs.Period.{present, spanBetween, spanIn, zeroOrOne, dayString, fitsDays, rising, formWithout, formedOf, restGood, periodOf, periodAnswer, popAnswer, faultNumber, runsBy, runsIn};
+ghost use Rattle.period.specs.Period.{present, spanBetween, spanIn, zeroOrOne, dayString, fitsDays, rising, formWithout, formedOf, periodOf, periodAnswer, popAnswer, faultNumber, runsBy, runsIn};
+ghost use Rattle.period.specs.Elements.{elementOf, textIn, againIn, restIn};
 ghost use Rattle.period.specs.Written.{Begins, spanTold, periodTold, Word};
 
 /// What tells the days of a period.
@@ -77,6 +77,12 @@ enum Span {
 enum Formed {
     Told(Form),
     Faulty(Fault),
+}
+
+// Where an element of a POP stands, and its first occurrence.
+struct Element {
+    whole: Part,
+    once: Part,
 }
 
 // Whether a part says anything.
@@ -239,33 +245,62 @@ fn read_form(days: &[u8], weekdays: &[u8], n: usize) -> Formed
     Formed::Told(Form::ByString)
 }
 
-// The qualifier, and no repetition.
-fn is_rest_good(s: &[u8], segment: Part) -> bool
-    ensures { λ r. ⌜ r ≡ restGood (bytesOf (now (s .entry)) segment) ⌝ }
+// An element of the segment and its first occurrence, found once: an element may be long, and most of it not read.
+fn find_element(s: &[u8], segment: Part, e: usize) -> Element
+    ensures { λ r. ⌜ r ≡ elementOf (now (s .entry)) segment e ⌝ }
 {
-    if !values::equals(part_of(s, segment, 1, 1), b"273") {
+    let whole = parts::element(s, segment, e);
+    let once = parts::occurrence(s, whole, 1);
+    Element { whole, once }
+}
+
+// Component c of the first occurrence as written.
+fn text_in(s: &[u8], found: Element, c: usize) -> &[u8]
+    ensures { λ r. ⌜ now r ≡ textIn (now (s .entry)) found c ⌝ }
+{
+    bytes_of(s, parts::component(s, found.once, c))
+}
+
+// Whether the element goes on behind its first occurrence.
+fn is_repeated(s: &[u8], found: Element) -> bool
+    ensures { λ r. ⌜ r ≡ againIn (now (s .entry)) found ⌝ }
+{
+    let end = found.once.to;
+    if found.whole.to <= end {
         return false;
     }
-    if is_repeated(s, segment, 1) {
+    end < s.len()
+}
+
+// The qualifier, and no repetition.
+fn is_rest_good(s: &[u8], first: Element, second: Element) -> bool
+    ensures { λ r. ⌜ r ≡ restIn (now (s .entry)) first second ⌝ }
+{
+    if !values::equals(text_in(s, first, 1), b"273") {
         return false;
     }
-    !is_repeated(s, segment, 2)
+    if is_repeated(s, first) {
+        return false;
+    }
+    !is_repeated(s, second)
 }
 
 // The period of a POP written in any way, part by part.
 fn read_any(s: &[u8], segment: Part) -> Period
     ensures { λ r. ⌜ r ≡ periodOf (bytesOf (now (s .entry)) segment) ⌝ }
 {
-    let Span::Days(first, count) = read_dates(part_of(s, segment, 1, 2)) else {
+    let first = find_element(s, segment, 1);
+    let Span::Days(from, count) = read_dates(text_in(s, first, 2)) else {
         return Period::Wrong(Fault::BadDates);
     };
-    let days = part_of(s, segment, 1, 4);
-    let weekdays = part_of(s, segment, 2, 1);
+    let second = find_element(s, segment, 2);
+    let days = text_in(s, first, 4);
+    let weekdays = text_in(s, second, 1);
     match read_form(days, weekdays, count) {
         Formed::Faulty(fault) => Period::Wrong(fault),
         Formed::Told(form) => {
-            if is_rest_good(s, segment) {
-                Period::Good(first, count, form)
+            if is_rest_good(s, first, second) {
+                Period::Good(from, count, form)
             } else {
                 Period::Wrong(Fault::BadRest)
             }
