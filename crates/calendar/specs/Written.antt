@@ -39,8 +39,8 @@ goodPeriod first last =
     both (valid first) (both (valid last) (both (leb (number first) (number last)) (leb (dayCount first last) 512)))
 
 -- the number of the first day and how many days there are, where the period is good
-unfoldable pub spanOf : Date → Date → Span
-spanOf first last = pick (goodPeriod first last) (Days (number first) (dayCount first last)) Bad
+unfoldable pub daysSpan : Date → Date → Span
+daysSpan first last = pick (goodPeriod first last) (Days (number first) (dayCount first last)) Bad
 
 -- what can be written: 64 bytes, a good period, no day past the last. Anything else is 19, "calendar to write has bad dates, bad length
 -- or a bit past its last day"

@@ -3,12 +3,12 @@ use dates::Date;
 use dates::Number;
 ghost use mathlib.Core.Path.{_≡_};
 ghost use mathlib.Core.Bool.{not};
-ghost use Prim.Native.Nat.{_+_, _-_, _≤_, _%_, min};
+ghost use Prim.Native.Nat.{_+_, _-_, _≤_, _%_};
 ghost use lib.ListN.{take, length};
 ghost use Rattle.laws.specs.Choice.{pick, either};
 ghost use Rattle.dates.specs.Text.{putAt};
-ghost use Rattle.calendar.specs.Days.{hasBit, withBit, day, withDay, join};
-ghost use Rattle.calendar.specs.Written.{writtenAnswer, anyDay, spanOf, checkedOf, start, dayCharacter, dayCharacters, dayStringText, textAnswer, dayStringAnswer, dayStringBytes, allOn, digitsFrom, namedText, weekdayAnswer, weekdayBytes};
+ghost use Rattle.calendar.specs.Days.{hasBit, withBit, day, withDay};
+ghost use Rattle.calendar.specs.Written.{writtenAnswer, anyDay, daysSpan, checkedOf, start, dayCharacter, dayCharacters, dayStringText, textAnswer, dayStringAnswer, dayStringBytes, allOn, digitsFrom, namedText, weekdayAnswer, weekdayBytes};
 ghost use Rattle.calendar.specs.Week.{mark, weekOf};
 
 /// What came of writing a calendar.
@@ -23,7 +23,7 @@ pub enum Written {
     NoRoom,
 }
 
-// A period: the number of its first day, and how many days it has; or none.
+/// A period: the number of its first day, and how many days it has; or none.
 pub enum Span {
     Days(usize, usize),
     Bad,
@@ -70,24 +70,6 @@ pub fn set_day(days: &mut [u8], k: usize)
     days[at] = with_bit(days[at], k);
 }
 
-fn shorter(a: usize, b: usize) -> usize
-    ensures { λ r. ⌜ r ≡ min a b ⌝ }
-{
-    if a < b { a } else { b }
-}
-
-// Selects in the one calendar what is selected in the other, as far as both reach.
-pub fn join_days(into: &mut [u8], from: &[u8])
-    ensures { λ _. ⌜ now (into .exit) ≡ join (now (into .entry)) (now (from .entry)) ⌝ }
-{
-    let n = shorter(into.len(), from.len());
-    let mut i = 0;
-    while i < n {
-        into[i] = into[i] | from[i];
-        i += 1;
-    }
-}
-
 // Whether one of the days from one to before another is selected.
 fn any_day(days: &[u8], from: usize, to: usize) -> bool
     ensures { λ r. ⌜ r ≡ anyDay (now (days .entry)) from (to - from) ⌝ }
@@ -102,9 +84,9 @@ fn any_day(days: &[u8], from: usize, to: usize) -> bool
     false
 }
 
-// The period from a first to a last date, both counted: 1 to 512 days.
-fn days_between(first: Date, last: Date) -> Span
-    ensures { λ r. ⌜ r ≡ spanOf first last ⌝ }
+/// The period from a first to a last date, both counted: 1 to 512 days.
+pub fn days_between(first: Date, last: Date) -> Span
+    ensures { λ r. ⌜ r ≡ daysSpan first last ⌝ }
 {
     let Number::Day(from) = first.day_number() else {
         return Span::Bad;

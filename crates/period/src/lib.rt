@@ -1,10 +1,10 @@
 //! A POP of SKDUPD's group 4: the days on which a service runs, read from the segment's parts.
 
+use calendar::Span;
+use calendar::days_between;
 use characters::character_at;
 use characters::has_character;
-use dates::Date;
 use dates::Made;
-use dates::Number;
 use parts::Part;
 use parts::bytes_of;
 use parts::part_at;
@@ -18,8 +18,8 @@ ghost use lib.ListN.{length, getD, drop};
 ghost use Rattle.laws.specs.Choice.{both, all};
 ghost use Rattle.syntax.specs.Bytes.{plain};
 ghost use Rattle.syntax.specs.Pieces.{partOf};
-ghost use Rattle.parts.specs.Places.{bytesOf};
-ghost use Rattle.period.specs.Period.{present, spanBetween, spanIn, zeroOrOne, dayString, fitsDays, rising, formWithout, formedOf, periodOf, periodAnswer, popAnswer, faultNumber, runsBy, runsIn};
+ghost use Rattle.parts.specs.Places.{bytesOf, present};
+ghost use Rattle.period.specs.Period.{spanIn, zeroOrOne, dayString, fitsDays, rising, formWithout, formedOf, periodOf, periodAnswer, popAnswer, faultNumber, runsBy, runsIn};
 ghost use Rattle.period.specs.Elements.{elementOf, textIn, againIn, restIn};
 ghost use Rattle.period.specs.Written.{Begins, spanTold, periodTold, Word};
 
@@ -67,12 +67,6 @@ pub enum Period {
     Wrong(Fault),
 }
 
-// The number of the first of some days, and how many they are.
-enum Span {
-    Days(usize, usize),
-    NoSpan,
-}
-
 // The form in which the days are told, or what is wrong with it.
 enum Formed {
     Told(Form),
@@ -102,42 +96,23 @@ pub fn part_of(s: &[u8], segment: Part, e: usize, c: usize) -> &[u8]
     bytes_of(s, part_at(s, segment, e, 1, c))
 }
 
-// The days from one date to another, both counted.
-fn span_between(first: Date, last: Date) -> Span
-    ensures { λ r. ⌜ r ≡ spanBetween first last ⌝ }
-{
-    let Number::Day(from) = first.day_number() else {
-        return Span::NoSpan;
-    };
-    let Number::Day(to) = last.day_number() else {
-        return Span::NoSpan;
-    };
-    if to < from {
-        return Span::NoSpan;
-    }
-    if 512 <= to - from {
-        return Span::NoSpan;
-    }
-    Span::Days(from, to - from + 1)
-}
-
 // The days of a text `first/last`.
 fn read_span(text: &[u8]) -> Span
     ensures { λ r. ⌜ r ≡ spanIn (now (text .entry)) ⌝ }
 {
     if text.len() != 21 {
-        return Span::NoSpan;
+        return Span::Bad;
     }
     if text[10] != b'/' {
-        return Span::NoSpan;
+        return Span::Bad;
     }
     let Made::Valid(first) = dates::read_date(text, 0) else {
-        return Span::NoSpan;
+        return Span::Bad;
     };
     let Made::Valid(last) = dates::read_date(text, 11) else {
-        return Span::NoSpan;
+        return Span::Bad;
     };
-    span_between(first, last)
+    days_between(first, last)
 }
 
 // The days of a part that says `first/last`.
@@ -146,7 +121,7 @@ fn read_dates(part: &[u8]) -> Span
 {
     let mut text = [0u8; 21];
     let Copied::Bytes(n) = values::copy_plain(part, &mut text) else {
-        return Span::NoSpan;
+        return Span::Bad;
     };
     read_span(&text[..n])
 }
@@ -320,24 +295,24 @@ fn written_span(g: &[u8]) -> Span
     ensures { λ r. ⌜ spanTold (now (g .entry)) r ⌝ }
 {
     if g.len() < 29 {
-        return Span::NoSpan;
+        return Span::Bad;
     }
     if word(g[0], g[1], g[2], g[3]) != word(b'P', b'O', b'P', b'+') {
-        return Span::NoSpan;
+        return Span::Bad;
     }
     if word(g[4], g[5], g[6], g[7]) != word(b'2', b'7', b'3', b':') {
-        return Span::NoSpan;
+        return Span::Bad;
     }
     if g[18] != b'/' {
-        return Span::NoSpan;
+        return Span::Bad;
     }
     let Made::Valid(first) = dates::read_date(g, 8) else {
-        return Span::NoSpan;
+        return Span::Bad;
     };
     let Made::Valid(last) = dates::read_date(g, 19) else {
-        return Span::NoSpan;
+        return Span::Bad;
     };
-    span_between(first, last)
+    days_between(first, last)
 }
 
 // A test that held so far, and that a byte is the character of a day.
@@ -435,7 +410,7 @@ fn read_written(g: &[u8]) -> Period
 {
     match written_span(g) {
         Span::Days(first, count) => read_behind(g, first, count),
-        Span::NoSpan => Period::Wrong(Fault::BadDates),
+        Span::Bad => Period::Wrong(Fault::BadDates),
     }
 }
 

@@ -10,6 +10,7 @@ use lib.ListN.{length}
 use borrow.Author.Tests.{eq-eqb, ne-eqb, le-leb, lt-ltb}
 use Rattle.laws.specs.Choice.{pick, all, among, choose, false≢true}
 use Rattle.syntax.specs.Segment.{bodyAt, segmentAt}
+use Rattle.parts.specs.Places.{present}
 use Rattle.dates.specs.Days.{weekdayOf}
 use Rattle.dates.specs.Dates.{number}
 use Rattle.dates.specs.Laws.{weekday-range}
@@ -19,7 +20,7 @@ use Rattle.calendar.specs.Days.{day}
 use Rattle.calendar.specs.Form.{HasForm, named-some, some-named, form-told}
 use Rattle.calendar.specs.Good.{good-facts}
 use Rattle.calendar.specs.Written.{dayCount, goodCalendar, start, named, weekdayForm, digitsFrom, namedText, weekdayText}
-use Rattle.period.specs.Period.{present, rising, runsBy, runsIn}
+use Rattle.period.specs.Period.{rising, runsBy, runsIn}
 use Rattle.period.specs.declared.Form.the-variants.{Every, ByWeekdays}
 use Rattle.period.specs.declared.Period.the-variants.{Good}
 use Rattle.free_texts.specs.Free.{numeric}

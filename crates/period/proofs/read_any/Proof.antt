@@ -8,7 +8,7 @@ use denote.Ref.{now}
 use Rattle.syntax.specs.Bytes.{plain}
 use Rattle.parts.specs.declared.Part.{Part}
 use Rattle.parts.specs.Places.{bytesOf}
-use Rattle.period.specs.declared.Span.the-variants.{Days}
+use Rattle.calendar.specs.declared.Span.the-variants.{Days}
 use Rattle.period.specs.Period.{firstLast, dayText, weekText, spanIn, formedOf, restGood}
 use Rattle.period.specs.Elements.{text-in, rest-in}
 use Rattle.period.specs.Tests.{wrong-dates, wrong-form, wrong-rest, good-period}

@@ -42,12 +42,12 @@ returns-4 : tie.Need-returns-4
 returns-4 c =
     no-last (now (c .before .before .before .before .before .before .before .before .before .before .before .args .text)) (c .before .before .before .before .before .before .before .before .before .if1 .left) (c .before .before .before .before .before .before .before .if2 .left) (sym (c .before .before .before .before .before .before .read-date .ensures) ∙ c .before .before .before .before .first .given .1) (sym (c .before .before .read-date2 .ensures) ∙ c .enum-told2 .given .1)
 
-span-between-requires : tie.Need-span-between-requires
-span-between-requires c κs = search needs
+days-between-requires : tie.Need-days-between-requires
+days-between-requires c κs = search needs
 
 returns-5 : tie.Need-returns-5
 returns-5 c =
-    c .span-between .ensures ∙ two-dates (now (c .before .before .before .before .before .before .before .before .before .before .before .before .before .args .text)) (c .before .before .before .before .before .before .before .before .before .before .before .if1 .left) (c .before .before .before .before .before .before .before .before .before .if2 .left) (sym (c .before .before .before .before .before .before .before .before .read-date .ensures) ∙ c .before .before .before .before .before .before .first .given .1) (sym (c .before .before .before .before .read-date2 .ensures) ∙ c .before .before .last .given .1)
+    c .days-between .ensures ∙ two-dates (now (c .before .before .before .before .before .before .before .before .before .before .before .before .before .args .text)) (c .before .before .before .before .before .before .before .before .before .before .before .if1 .left) (c .before .before .before .before .before .before .before .before .before .if2 .left) (sym (c .before .before .before .before .before .before .before .before .read-date .ensures) ∙ c .before .before .before .before .before .before .first .given .1) (sym (c .before .before .before .before .read-date2 .ensures) ∙ c .before .before .last .given .1)
 
 pub read-span-spec : {M : Type 1} → statement M
-read-span-spec = tie.close (tie.spec returns shared-slice-read-if2 returns-2 read-date-requires enum-known-first enum-told returns-3 read-date-requires-2 enum-known-last enum-told-2 returns-4 span-between-requires returns-5)
+read-span-spec = tie.close (tie.spec returns shared-slice-read-if2 returns-2 read-date-requires enum-known-first enum-told returns-3 read-date-requires-2 enum-known-last enum-told-2 returns-4 days-between-requires returns-5)

@@ -82,8 +82,8 @@ enum-told-2 c = search needs
 returns-6 : tie.Need-returns-6
 returns-6 c = tt
 
-span-between-requires : tie.Need-span-between-requires
-span-between-requires c κs = search needs
+days-between-requires : tie.Need-days-between-requires
+days-between-requires c κs = search needs
 
 returns-7 : tie.Need-returns-7
 returns-7 c =
@@ -105,7 +105,7 @@ returns-7 c =
     let e1 = k2 .before in
     begins-told (now (e1 .before .before .args .g)) (e1 .if1 .left) (sym (r1 .read-date .ensures) ∙ f .first .given .1) (sym (r2 .read-date2 .ensures) ∙ m .before .last .given .1) (e4 .if4 .left)
     (word-same (w1 .word .ensures) (w2 .word2 .ensures) (e2 .if2 .left)) (word-same (w3 .word3 .ensures) (w4 .word4 .ensures) (e3 .if3 .left))
-    (c .span-between .result) (c .span-between .ensures)
+    (c .days-between .result) (c .days-between .ensures)
 
 pub written-span-spec : {M : Type 1} → statement M
 written-span-spec =
@@ -136,5 +136,5 @@ written-span-spec =
     enum-known-last
     enum-told-2
     returns-6
-    span-between-requires
+    days-between-requires
     returns-7)
