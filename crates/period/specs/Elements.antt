@@ -2,18 +2,19 @@
 -- Assumes nothing.
 use mathlib.Core.Path.{_≡_, refl, sym, ap, _∙_}
 use mathlib.Core.Bool.{Bool, true, false, not}
-use mathlib.Core.List.{List, [], _∷_}
+use mathlib.Core.List.{List}
 use Prim.Native.Nat.{ℕ}
 use lib.Dec.{ltb}
 use lib.ListN.{length}
 use Rattle.laws.specs.Choice.{both}
+use Rattle.laws.specs.Text.{bytes}
 use Rattle.syntax.specs.Bytes.{plain}
 use Rattle.syntax.specs.Pieces.{partOf}
 use Rattle.parts.specs.declared.Part.{Part}
 use Rattle.parts.specs.Places.{bytesOf, spanOf, countedAt, elementAt, occurrenceAt, componentAt, repeats}
 use Rattle.parts.specs.Located.{part-bytes, repeats-at}
 use Rattle.values.specs.Values.{sameText}
-use Rattle.period.specs.declared.Element.{Element}
+use Rattle.period.specs.declared.elements.Element.{Element}
 use Rattle.period.specs.Period.{restGood}
 
 abbrev pub elementOf : List ℕ → Part → ℕ → Element
@@ -30,7 +31,7 @@ againIn s x = both (ltb (x .once .to) (x .whole .to)) (ltb (x .once .to) (length
 
 -- the qualifier, and no repetition
 abbrev pub restIn : List ℕ → Element → Element → Bool
-restIn s x y = both (sameText (plain (textIn s x 1)) (50 ∷ 55 ∷ 51 ∷ [])) (both (not (againIn s x)) (not (againIn s y)))
+restIn s x y = both (sameText (plain (textIn s x 1)) (bytes "273")) (both (not (againIn s x)) (not (againIn s y)))
 
 module _ (s : List ℕ) (g : Part) where
   pub element-found : (e : ℕ) {w o : Part} → w ≡ elementAt s g e → o ≡ occurrenceAt s w 1 → record { whole = w; once = o } ≡ elementOf s g e
@@ -54,10 +55,10 @@ module _ (s : List ℕ) (g : Part) where
 
 -- the tests in the order of the code
 module _ (s : List ℕ) (x y : Element) where
-  pub other-qualifier : sameText (plain (textIn s x 1)) (50 ∷ 55 ∷ 51 ∷ []) ≡ false → false ≡ restIn s x y
+  pub other-qualifier : sameText (plain (textIn s x 1)) (bytes "273") ≡ false → false ≡ restIn s x y
   other-qualifier p = rw p
 
-  module _ (p : sameText (plain (textIn s x 1)) (50 ∷ 55 ∷ 51 ∷ []) ≡ true) where
+  module _ (p : sameText (plain (textIn s x 1)) (bytes "273") ≡ true) where
     pub first-repeated : againIn s x ≡ true → false ≡ restIn s x y
     first-repeated q = rw (p, q)
 

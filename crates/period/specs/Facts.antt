@@ -22,8 +22,8 @@ use Rattle.period.specs.declared.Fault.the-variants.{BadDayString, BadWe
 use Rattle.period.specs.declared.Period.the-variants.{Good}
 use Rattle.calendar.specs.declared.Span.{Span}
 use Rattle.calendar.specs.declared.Span.the-variants.{Days, Bad}
-use Rattle.period.specs.declared.Formed.{Formed}
-use Rattle.period.specs.declared.Formed.the-variants.{Told, Faulty}
+use Rattle.period.specs.declared.forms.Formed.{Formed}
+use Rattle.period.specs.declared.forms.Formed.the-variants.{Told, Faulty}
 use Rattle.period.specs.Period.{firstLast, dayText, weekText, madeSpan, spanIn, fitsDays, rising, formOf, formedOf, restGood, periodBy, periodOn, periodOf}
 
 -- two dates give the numbers

@@ -7,6 +7,7 @@ use mathlib.Core.List.{List, [], _∷_}
 use lib.Dec.{eqb, leb, ltb}
 use lib.ListN.{length, getD}
 use Rattle.laws.specs.Choice.{pick, both, either, all, among}
+use Rattle.laws.specs.Text.{bytes}
 use Rattle.answers.specs.Answers.{Answer, done, wrongPeriod}
 use Rattle.syntax.specs.Bytes.{plain}
 use Rattle.syntax.specs.Pieces.{partOf}
@@ -25,8 +26,8 @@ use Rattle.period.specs.declared.Period.{Period}
 use Rattle.period.specs.declared.Period.the-variants.{Good, Wrong}
 use Rattle.calendar.specs.declared.Span.{Span}
 use Rattle.calendar.specs.declared.Span.the-variants.{Days, Bad}
-use Rattle.period.specs.declared.Formed.{Formed}
-use Rattle.period.specs.declared.Formed.the-variants.{Told, Faulty}
+use Rattle.period.specs.declared.forms.Formed.{Formed}
+use Rattle.period.specs.declared.forms.Formed.the-variants.{Told, Faulty}
 
 -- The parts that are read, each the first occurrence and after release: the qualifier, `first/last`, 4440 and 2160.
 abbrev pub qualifier : List ℕ → List ℕ
@@ -84,7 +85,7 @@ formedOf n days weekdays =
 
 -- "qualifier 273", and no element repetition in the two elements
 unfoldable pub restGood : List ℕ → Bool
-restGood g = both (sameText (qualifier g) (50 ∷ 55 ∷ 51 ∷ [])) (both (not (repeats g 1)) (not (repeats g 2)))
+restGood g = both (sameText (qualifier g) (bytes "273")) (both (not (repeats g 1)) (not (repeats g 2)))
 
 -- each part is judged by itself, and the lowest fault named
 abbrev pub periodBy : Formed → Bool → ℕ → ℕ → Period

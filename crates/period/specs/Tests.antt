@@ -24,7 +24,7 @@ use Rattle.period.specs.declared.Form.{Form}
 use Rattle.period.specs.declared.Form.the-variants.{Every, ByString, ByWeekdays}
 use Rattle.period.specs.declared.Fault.the-variants.{BadDates, BadDayString, BadWeekdays, BothForms, BadRest}
 use Rattle.calendar.specs.declared.Span.the-variants.{Days, Bad}
-use Rattle.period.specs.declared.Formed.the-variants.{Told, Faulty}
+use Rattle.period.specs.declared.forms.Formed.the-variants.{Told, Faulty}
 use Rattle.period.specs.declared.Fault.{Fault}
 use Rattle.period.specs.declared.Period.{Period}
 use Rattle.period.specs.declared.Period.the-variants.{Good, Wrong}

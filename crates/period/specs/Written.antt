@@ -10,6 +10,7 @@ use lib.ListN.{length, getD, drop, length-drop}
 use borrow.Author.Tests.{eq-eqb, le-leb, leb-true, ltb-true, eqb-true}
 use Rattle.laws.specs.Choice.{both, all, both-parts, choose}
 use Rattle.laws.specs.Lists.{drop-here, drop-past}
+use Rattle.laws.specs.Text.{bytes}
 use Rattle.syntax.specs.Bytes.{plain, plainOn}
 use Rattle.parts.specs.Places.{present}
 use Rattle.values.specs.Values.{sameText}
@@ -25,7 +26,7 @@ use Rattle.period.specs.declared.Period.{Period}
 use Rattle.period.specs.declared.Period.the-variants.{Good, Wrong}
 use Rattle.calendar.specs.declared.Span.{Span}
 use Rattle.calendar.specs.declared.Span.the-variants.{Days, Bad}
-use Rattle.period.specs.declared.Formed.the-variants.{Told}
+use Rattle.period.specs.declared.forms.Formed.the-variants.{Told}
 use Rattle.period.specs.Period.{firstLast, dayText, weekText, spanIn, zeroOrOne, dayString, rising, formedOf, restGood, periodOf}
 use Rattle.period.specs.Facts.{span-told}
 use Rattle.period.specs.Tests.{two-dates, good-period}
@@ -42,10 +43,10 @@ module _ (g d s w : List ℕ) (p : Cut g d s w) (pd : all numeric d ≡ true) (p
   weekdays-plain = ap plain (p .weekdays-are) ∙ plain-all w (no-release w pw)
 
   rest-read : restGood g ≡ true
-  unfolding restGood sameText plainOn
+  unfolding restGood sameText plainOn bytes
   rest-read =
       rw (p .first-once, p .second-once)
-      (ap (λ (x : List ℕ). both (sameText (plain x) (50 ∷ 55 ∷ 51 ∷ [])) true) (p .qualifier-is))
+      (ap (λ (x : List ℕ). both (sameText (plain x) (bytes "273")) true) (p .qualifier-is))
 
   pub cut-good : {f n : ℕ} {form : Form} → spanIn d ≡ Days f n → formedOf n s w ≡ Told form → Good f n form ≡ periodOf g
   cut-good {f} {n} {form} a b =

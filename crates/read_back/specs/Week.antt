@@ -9,6 +9,7 @@ use native.Mathlib.Decide.{ℕ-discrete}
 use lib.ListN.{length}
 use borrow.Author.Tests.{eq-eqb, ne-eqb, le-leb, lt-ltb}
 use Rattle.laws.specs.Choice.{pick, all, among, choose, false≢true}
+use Rattle.laws.specs.Text.{bytes}
 use Rattle.syntax.specs.Segment.{bodyAt, segmentAt}
 use Rattle.parts.specs.Places.{present}
 use Rattle.dates.specs.Days.{weekdayOf}
@@ -126,7 +127,7 @@ module _ (c : List ℕ) (first last : Date) (good : goodCalendar c first last �
   weekBody = twoElements (withoutString (dates first last)) names
 
   week-text : weekdayText c first last ≡ weekBody ++ (39 ∷ [])
-  unfolding namedText start dateText
+  unfolding namedText start dateText bytes
   week-text =
       sym (ap (λ (l : List ℕ). 80 ∷ 79 ∷ 80 ∷ 43 ∷ 50 ∷ 55 ∷ 51 ∷ 58 ∷ l) (append-assoc (dates first last) (43 ∷ names) (39 ∷ [])))
 

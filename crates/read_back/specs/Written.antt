@@ -9,6 +9,7 @@ use lib.Dec.{eqb}
 use lib.ListN.{length, getD, take, drop}
 use borrow.Author.Tests.{eq-eqb, le-leb, lt-ltb}
 use Rattle.laws.specs.Choice.{pick, both, either, all}
+use Rattle.laws.specs.Text.{bytes}
 use Rattle.syntax.specs.Segment.{bodyAt, segmentAt}
 use Rattle.syntax.specs.declared.segment.Scanned.the-variants.{End}
 use Rattle.parts.specs.Places.{present}
@@ -143,7 +144,7 @@ module _ (c : List ℕ) (first last : Date) (good : goodCalendar c first last �
   stringBody = oneElement (withString (dates first last) string)
 
   string-text : dayStringText c first last (dayCount first last) ≡ stringBody ++ (39 ∷ [])
-  unfolding dayStringText start dateText dayCharacters
+  unfolding dayStringText start dateText dayCharacters bytes
   string-text =
       sym (ap (λ (l : List ℕ). 80 ∷ 79 ∷ 80 ∷ 43 ∷ 50 ∷ 55 ∷ 51 ∷ 58 ∷ l) (append-assoc (dates first last) (58 ∷ 58 ∷ string) (39 ∷ [])))
 
