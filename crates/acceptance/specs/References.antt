@@ -10,11 +10,11 @@ use lib.Seq.{take-append-le, drop-append-le}
 use Rattle.laws.specs.Choice.{both, choose}
 use Rattle.syntax.specs.Pieces.{partOf}
 use Rattle.parts.specs.declared.Part.{Part}
-use Rattle.parts.specs.Places.{bytesOf}
+use Rattle.parts.specs.Places.{bytesOf, present}
 use Rattle.parts.specs.Located.{Inside, part-bytes, part-inside}
 use Rattle.envelope.specs.declared.Opened.the-variants.{Dialogue, Wrong}
 use Rattle.envelope.specs.declared.Headed.the-variants.{Message, Missing, Unknown}
-use Rattle.envelope.specs.Envelope.{present, says, valueOf, placeOf, UNOB, version4, SKDUPD, TSDUPD, uibOf, typeOf, versionOf, releaseOf, subFunctionOf, agencyOf, referenceOf, complete, directory, typed, uihOf}
+use Rattle.envelope.specs.Envelope.{says, valueOf, placeOf, UNOB, version4, SKDUPD, TSDUPD, uibOf, typeOf, versionOf, releaseOf, subFunctionOf, agencyOf, referenceOf, complete, directory, typed, uihOf}
 use Rattle.steps.specs.Ways.{whole}
 use Rattle.acceptance.specs.Interchange.{referenceIn}
 

@@ -10,29 +10,29 @@ use borrow.Author.Tests.{eq-eqb, ne-eqb, le-leb, lt-leb}
 use Rattle.laws.specs.Choice.{pick}
 use Rattle.dates.specs.Dates.{valid, number}
 use Rattle.dates.specs.declared.Date.{Date}
-use Rattle.calendar.specs.Written.{anyDay, dayCount, goodPeriod, spanOf, goodCalendar, checkedOf}
+use Rattle.calendar.specs.Written.{anyDay, dayCount, goodPeriod, daysSpan, goodCalendar, checkedOf}
 use Rattle.calendar.specs.declared.Span.the-variants.{Days, Bad}
 
 module _ (first last : Date) where
-  pub bad-first : valid first ≡ false → Bad ≡ spanOf first last
-  unfolding spanOf goodPeriod
+  pub bad-first : valid first ≡ false → Bad ≡ daysSpan first last
+  unfolding daysSpan goodPeriod
   bad-first v = rw v
 
-  pub bad-last : valid first ≡ true → valid last ≡ false → Bad ≡ spanOf first last
-  unfolding spanOf goodPeriod
+  pub bad-last : valid first ≡ true → valid last ≡ false → Bad ≡ daysSpan first last
+  unfolding daysSpan goodPeriod
   bad-last v w = rw (v, w)
 
   module _ {f t : ℕ} (p : (valid first ≡ true) × (number first ≡ f)) (q : (valid last ≡ true) × (number last ≡ t)) where
-    pub bad-order : t < f → Bad ≡ spanOf first last
-    unfolding spanOf goodPeriod
+    pub bad-order : t < f → Bad ≡ daysSpan first last
+    unfolding daysSpan goodPeriod
     bad-order l = rw (p .0, q .0, p .1, q .1, lt-leb f t l)
 
-    pub bad-many : f ≤ t → 512 ≤ t - f → Bad ≡ spanOf first last
-    unfolding spanOf goodPeriod
+    pub bad-many : f ≤ t → 512 ≤ t - f → Bad ≡ daysSpan first last
+    unfolding daysSpan goodPeriod
     bad-many l m = rw (p .0, q .0, p .1, q .1, le-leb f t l, lt-leb (t - f + 1) 512 (omega arith))
 
-    pub good-span : f ≤ t → t - f < 512 → Days f (t - f + 1) ≡ spanOf first last
-    unfolding spanOf goodPeriod
+    pub good-span : f ≤ t → t - f < 512 → Days f (t - f + 1) ≡ daysSpan first last
+    unfolding daysSpan goodPeriod
     good-span l m = rw (p .0, q .0, p .1, q .1, le-leb f t l, le-leb (t - f + 1) 512 (omega arith))
 
 -- what an answer tells
@@ -44,13 +44,13 @@ none : (p : Bool) (f n : ℕ) → pick p (Days f n) Bad ≡ Bad → p ≡ false
 none true f n e = let z : _≡_ {A = ℕ} 0 1 = cc in absurd (omega arith)
 none false f n e = refl
 
-pub span-good : (first last : Date) {f n : ℕ} → spanOf first last ≡ Days f n
+pub span-good : (first last : Date) {f n : ℕ} → daysSpan first last ≡ Days f n
     → (goodPeriod first last ≡ true) × (number first ≡ f) × (dayCount first last ≡ n)
-unfolding spanOf
+unfolding daysSpan
 span-good first last e = days (goodPeriod first last) (number first) (dayCount first last) e
 
-pub span-bad : (first last : Date) → spanOf first last ≡ Bad → goodPeriod first last ≡ false
-unfolding spanOf
+pub span-bad : (first last : Date) → daysSpan first last ≡ Bad → goodPeriod first last ≡ false
+unfolding daysSpan
 span-bad first last e = none (goodPeriod first last) (number first) (dayCount first last) e
 
 pub checked-good : (c : List ℕ) (first last : Date) {f n : ℕ} → checkedOf c first last ≡ Days f n
@@ -68,11 +68,11 @@ module _ (c : List ℕ) (first last : Date) where
   bad-length h = rw (ne-eqb (length c) 64 h)
 
   module _ (h : length c ≡ 64) where
-    pub bad-span : spanOf first last ≡ Bad → Bad ≡ checkedOf c first last
+    pub bad-span : daysSpan first last ≡ Bad → Bad ≡ checkedOf c first last
     unfolding checkedOf goodCalendar
     bad-span e = rw (eq-eqb (length c) 64 h, span-bad first last e)
 
-    module _ {f n : ℕ} (e : spanOf first last ≡ Days f n) where
+    module _ {f n : ℕ} (e : daysSpan first last ≡ Days f n) where
       pub bad-past : anyDay c n (512 - n) ≡ true → Bad ≡ checkedOf c first last
       unfolding checkedOf goodCalendar
       bad-past d =

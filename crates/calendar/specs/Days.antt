@@ -2,7 +2,7 @@
 -- Document 01, "Calendars". Assumes nothing.
 use Prim.Native.Nat.{ℕ, _/_, _%_, _^_}
 use mathlib.Core.Bool.{Bool}
-use mathlib.Core.List.{List, [], _∷_}
+use mathlib.Core.List.{List}
 use lib.Dec.{eqb}
 use lib.Bits.{bitOr}
 use lib.ListN.{getD, set}
@@ -24,9 +24,3 @@ day c k = hasBit (getD c (k / 8) 0) (k % 8)
 -- the calendar with day k selected too; past the end there is none to select
 unfoldable pub withDay : List ℕ → ℕ → List ℕ
 withDay c k = set c (k / 8) (withBit (getD c (k / 8) 0) (k % 8))
-
--- the first calendar with the days of the second, as far as both reach
-unfoldable pub join : List ℕ → List ℕ → List ℕ
-join [] b = []
-join (x ∷ a) [] = x ∷ a
-join (x ∷ a) (y ∷ b) = bitOr x y ∷ join a b

@@ -6,6 +6,7 @@ use mathlib.Core.List.{List, [], _∷_, _++_}
 use lib.Dec.{eqb, leb}
 use lib.ListN.{length}
 use Rattle.laws.specs.Choice.{pick, both, either}
+use Rattle.laws.specs.Text.{bytes}
 use Rattle.answers.specs.Answers.{Answer, done, outputTooShort, badCalendar, noWeekdayForm}
 use Rattle.dates.specs.Days.{weekdayOf}
 use Rattle.dates.specs.Dates.{valid, number}
@@ -39,8 +40,8 @@ goodPeriod first last =
     both (valid first) (both (valid last) (both (leb (number first) (number last)) (leb (dayCount first last) 512)))
 
 -- the number of the first day and how many days there are, where the period is good
-unfoldable pub spanOf : Date → Date → Span
-spanOf first last = pick (goodPeriod first last) (Days (number first) (dayCount first last)) Bad
+unfoldable pub daysSpan : Date → Date → Span
+daysSpan first last = pick (goodPeriod first last) (Days (number first) (dayCount first last)) Bad
 
 -- what can be written: 64 bytes, a good period, no day past the last. Anything else is 19, "calendar to write has bad dates, bad length
 -- or a bit past its last day"
@@ -56,7 +57,7 @@ checkedOf c first last = pick (goodCalendar c first last) (Days (number first) (
 -- POP+273:first/last, which both forms begin with
 unfoldable pub start : Date → Date → List ℕ
 start first last =
-    (80 ∷ 79 ∷ 80 ∷ 43 ∷ 50 ∷ 55 ∷ 51 ∷ 58 ∷ []) ++ dateText first ++ (47 ∷ []) ++ dateText last
+    bytes "POP+273:" ++ dateText first ++ bytes "/" ++ dateText last
 
 -- "a string of `0` and `1`, exactly one character for each day": that of day k, and those of the n days from day k on
 unfoldable pub dayCharacter : List ℕ → ℕ → ℕ
@@ -68,7 +69,7 @@ dayCharacters c k (suc n) = dayCharacter c k ∷ dayCharacters c (k + 1) n
 
 -- the day string of n characters is component 4440, the fourth of the first element; the third is empty
 unfoldable pub dayStringText : List ℕ → Date → Date → ℕ → List ℕ
-dayStringText c first last n = start first last ++ (58 ∷ 58 ∷ []) ++ dayCharacters c 0 n ++ (39 ∷ [])
+dayStringText c first last n = start first last ++ bytes "::" ++ dayCharacters c 0 n ++ bytes "'"
 
 -- 17, "lent output too short", else the bytes written
 unfoldable pub textAnswer : List ℕ → List ℕ → Answer ℕ
@@ -106,7 +107,7 @@ digitsFrom t w (suc m) = pick (t w) ((48 + w) ∷ []) [] ++ digitsFrom t (w + 1)
 
 -- a weekday string is element 2160, the second
 unfoldable pub namedText : Date → Date → List ℕ → List ℕ
-namedText first last digits = start first last ++ (43 ∷ []) ++ digits ++ (39 ∷ [])
+namedText first last digits = start first last ++ bytes "+" ++ digits ++ bytes "'"
 
 -- "it names those weekdays"
 abbrev pub weekdayText : List ℕ → Date → Date → List ℕ

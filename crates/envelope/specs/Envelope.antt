@@ -10,18 +10,13 @@ use Rattle.answers.specs.Answers.{Answer, done, wrongEnvelope, unknownType}
 use Rattle.syntax.specs.Bytes.{plain}
 use Rattle.syntax.specs.Pieces.{partOf}
 use Rattle.parts.specs.declared.Part.{Part}
-use Rattle.parts.specs.Places.{partAt}
+use Rattle.parts.specs.Places.{partAt, present}
 use Rattle.values.specs.Values.{sameText}
 use Rattle.envelope.specs.declared.Opened.{Opened}
 use Rattle.envelope.specs.declared.Opened.the-variants.{Dialogue, Wrong}
 use Rattle.envelope.specs.declared.Headed.{Headed}
 use Rattle.envelope.specs.declared.Headed.the-variants.{Message, Missing, Unknown}
 use Rattle.envelope.specs.Decimal.{decimalOf}
-
--- "An empty part is read as absent."
-abbrev pub present : List ℕ → Bool
-present [] = false
-present (b ∷ l) = true
 
 -- ".. compared after release": whether a part as written says the text
 abbrev pub says : List ℕ → List ℕ → Bool

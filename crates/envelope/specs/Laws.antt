@@ -15,11 +15,11 @@ use Rattle.laws.specs.Choice.{both, choose, both-parts}
 use Rattle.laws.specs.Lists.{between}
 use Rattle.syntax.specs.Pieces.{partOf}
 use Rattle.parts.specs.declared.Part.{Part}
-use Rattle.parts.specs.Places.{bytesOf}
+use Rattle.parts.specs.Places.{present, bytesOf, elementAt, occurrenceAt}
 use Rattle.parts.specs.Located.{Inside, part-bytes, part-inside, absent-bytes, bytes-present}
 use Rattle.envelope.specs.declared.Opened.the-variants.{Dialogue, Wrong}
 use Rattle.envelope.specs.declared.Headed.the-variants.{Message, Missing, Unknown}
-use Rattle.envelope.specs.Envelope.{present, says, valueOf, placeOf, complete, directory, typed, typeOf, versionOf, releaseOf, agencyOf, subFunctionOf, referenceOf, UNOB, version4, SKDUPD, TSDUPD, uibOf, uihOf}
+use Rattle.envelope.specs.Envelope.{says, valueOf, placeOf, complete, directory, typed, typeOf, versionOf, releaseOf, agencyOf, subFunctionOf, referenceOf, UNOB, version4, SKDUPD, TSDUPD, uibOf, uihOf}
 
 -- what stands up to a list's end; the parts of the whole segment are the segment's
 pub between-end : (g : List ℕ) (a : ℕ) → between g a (length g) ≡ drop a g
@@ -32,6 +32,10 @@ whole-bytes g = between-end g 0
 
 pub value-at : (g : List ℕ) (e c : ℕ) → bytesOf g (placeOf g e c) ≡ valueOf g e c
 value-at g e c = part-bytes g (record { from = 0; to = length g }) e 1 c ∙ ap (λ (x : List ℕ). partOf x e 1 c) (whole-bytes g)
+
+-- where the first occurrence of an element stands
+abbrev pub occurrenceOf : List ℕ → ℕ → Part
+occurrenceOf g e = occurrenceAt g (elementAt g (record { from = 0; to = length g }) e) 1
 
 -- a part that is present has a byte, and the other way round
 pub present-length : (l : List ℕ) → present l ≡ ltb 0 (length l)

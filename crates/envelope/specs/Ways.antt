@@ -5,9 +5,10 @@ use mathlib.Core.Path.{_≡_}
 use mathlib.Core.Bool.{Bool, true, false}
 use mathlib.Core.List.{List, [], _∷_}
 use Rattle.laws.specs.Choice.{all, both-false}
+use Rattle.parts.specs.Places.{present}
 use Rattle.envelope.specs.declared.Opened.the-variants.{Dialogue, Wrong}
 use Rattle.envelope.specs.declared.Headed.the-variants.{Missing, Unknown}
-use Rattle.envelope.specs.Envelope.{present, says, valueOf, placeOf, directory, typed, typeOf, versionOf, releaseOf, agencyOf, subFunctionOf, referenceOf, UNOB, version4, versionD, release04A, agencyUN, uibOf, uihOf}
+use Rattle.envelope.specs.Envelope.{says, valueOf, placeOf, directory, typed, typeOf, versionOf, releaseOf, agencyOf, subFunctionOf, referenceOf, UNOB, version4, versionD, release04A, agencyUN, uibOf, uihOf}
 
 -- a test of four values, each known under another name
 pub of-four : (f : List ℕ → List ℕ → List ℕ → List ℕ → Bool) {a b d e a′ b′ d′ e′ : List ℕ} → a ≡ a′ → b ≡ b′ → d ≡ d′ → e ≡ e′ → f a b d e ≡ f a′ b′ d′ e′

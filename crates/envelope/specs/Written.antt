@@ -14,11 +14,11 @@ use Rattle.syntax.specs.Bytes.{plainOn}
 use Rattle.syntax.specs.Pieces.{first, later, partOf}
 use Rattle.values.specs.Values.{sameText}
 use Rattle.parts.specs.declared.Part.{Part}
-use Rattle.parts.specs.Places.{partAt, elementAt, occurrenceAt, componentAt, spanOf}
+use Rattle.parts.specs.Places.{partAt, elementAt, occurrenceAt, componentAt, spanOf, present}
 use Rattle.envelope.specs.declared.Headed.{Headed}
 use Rattle.envelope.specs.Laws.{whole-bytes, between-end, present-place}
 use Rattle.envelope.specs.declared.Headed.the-variants.{Message, Missing}
-use Rattle.envelope.specs.Envelope.{present, placeOf, referenceOf, uihOf}
+use Rattle.envelope.specs.Envelope.{placeOf, referenceOf, uihOf}
 
 -- whether a text begins with another
 unfoldable pub beginsWith : List ℕ → List ℕ → Bool

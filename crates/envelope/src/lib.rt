@@ -8,9 +8,11 @@ ghost use lib.ListN.{length, drop};
 ghost use mathlib.Core.List.{[], _∷_};
 ghost use Rattle.laws.specs.Choice.{all};
 ghost use Rattle.syntax.specs.Bytes.{plain};
+ghost use Rattle.parts.specs.Places.{present};
 ghost use Rattle.values.specs.Values.{sameText};
 ghost use Rattle.envelope.specs.Decimal.{decimalOf, digitOf};
-ghost use Rattle.envelope.specs.Envelope.{present, valueOf, placeOf, directory, typed, uibOf, uihOf, trailerOf, uitOf, uizOf, openedAnswer, headedAnswer, trailerAnswer, uibAnswer, uihAnswer, uitAnswer, uizAnswer};
+ghost use Rattle.envelope.specs.Envelope.{valueOf, placeOf, directory, typed, uibOf, uihOf, trailerOf, uitOf, uizOf, openedAnswer, headedAnswer, trailerAnswer, uibAnswer, uihAnswer, uitAnswer, uizAnswer};
+ghost use Rattle.envelope.specs.Laws.{occurrenceOf};
 ghost use Rattle.envelope.specs.Written.{beginsWith, writtenOf};
 
 /// What a UIB says.
@@ -80,6 +82,25 @@ fn value(segment: &[u8], e: usize, c: usize) -> &[u8]
     ensures { λ r. ⌜ now r ≡ valueOf (now (segment .entry)) e c ⌝ }
 {
     parts::bytes_of(segment, place(segment, e, c))
+}
+
+// Where the first occurrence of element e stands.
+fn occurrence(segment: &[u8], e: usize) -> Part
+    ensures { λ r. ⌜ r ≡ occurrenceOf (now (segment .entry)) e ⌝ }
+{
+    let whole = Part {
+        from: 0,
+        to: segment.len(),
+    };
+    parts::occurrence(segment, parts::element(segment, whole, e), 1)
+}
+
+// Component c of the first element as written, its first occurrence found: an element may be long, and most of it not read.
+fn value_in(segment: &[u8], found: Part, c: usize) -> &[u8]
+    requires { ⌜ found ≡ occurrenceOf (now segment) 1 ⌝ }
+    ensures { λ r. ⌜ now r ≡ valueOf (now (segment .entry)) 1 c ⌝ }
+{
+    parts::bytes_of(segment, parts::component(segment, found, c))
 }
 
 /// Whether a UIB begins `UNOB:4` and where its dialogue reference stands.
@@ -192,14 +213,15 @@ fn read_any(segment: &[u8]) -> Headed
     if reference.is_absent() {
         return Headed::Missing;
     }
-    let message_type = value(segment, 1, 1);
-    let version = value(segment, 1, 2);
-    let release = value(segment, 1, 3);
-    let agency = value(segment, 1, 5);
+    let identifier = occurrence(segment, 1);
+    let message_type = value_in(segment, identifier, 1);
+    let version = value_in(segment, identifier, 2);
+    let release = value_in(segment, identifier, 3);
+    let agency = value_in(segment, identifier, 5);
     if !is_complete(message_type, version, release, agency) {
         return Headed::Missing;
     }
-    if !is_directory(version, release, value(segment, 1, 4), agency) {
+    if !is_directory(version, release, value_in(segment, identifier, 4), agency) {
         return Headed::Unknown;
     }
     message(message_type, reference)

@@ -1,7 +1,7 @@
 -- Where the parts of a segment stand in the input (document 01, "Bytes and segments").
 -- Assumes nothing.
 use Prim.Native.Nat.{ℕ, zero, suc, _+_}
-use mathlib.Core.Bool.{Bool}
+use mathlib.Core.Bool.{Bool, true, false}
 use mathlib.Core.List.{List, [], _∷_}
 use lib.Dec.{ltb}
 use lib.ListN.{length}
@@ -13,6 +13,11 @@ use Rattle.parts.specs.declared.Part.{Part}
 -- Where a part stands: from one index up to and without another. Absent where there is none.
 abbrev pub absent : Part
 absent = record { from = 0; to = 0 }
+
+-- "An empty part is read as absent."
+abbrev pub present : List ℕ → Bool
+present [] = false
+present (b ∷ l) = true
 
 abbrev pub bytesOf : List ℕ → Part → List ℕ
 bytesOf s p = between s (p .from) (p .to)

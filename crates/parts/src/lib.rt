@@ -76,7 +76,7 @@ fn piece(s: &[u8], part: Part, mark: u8, n: usize) -> Part
 }
 
 /// Element e of a segment, counted from 1.
-fn element(s: &[u8], segment: Part, e: usize) -> Part
+pub fn element(s: &[u8], segment: Part, e: usize) -> Part
     ensures { λ r. ⌜ r ≡ elementAt (now (s .entry)) segment e ⌝ }
 {
     if e == 0 {
@@ -97,14 +97,14 @@ fn counted(s: &[u8], part: Part, mark: u8, n: usize) -> Part
 }
 
 /// Occurrence o of an element, counted from 1.
-fn occurrence(s: &[u8], element: Part, o: usize) -> Part
+pub fn occurrence(s: &[u8], element: Part, o: usize) -> Part
     ensures { λ r. ⌜ r ≡ occurrenceAt (now (s .entry)) element o ⌝ }
 {
     counted(s, element, b'*', o)
 }
 
 /// Component c of an occurrence, counted from 1.
-fn component(s: &[u8], occurrence: Part, c: usize) -> Part
+pub fn component(s: &[u8], occurrence: Part, c: usize) -> Part
     ensures { λ r. ⌜ r ≡ componentAt (now (s .entry)) occurrence c ⌝ }
 {
     counted(s, occurrence, b':', c)

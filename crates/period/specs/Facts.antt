@@ -9,21 +9,22 @@ use lib.Dec.{eqb, leb}
 use lib.ListN.{length, getD}
 use borrow.Author.Tests.{leb-true}
 use Rattle.laws.specs.Choice.{pick, both, both-parts}
+use Rattle.parts.specs.Places.{present}
 use Rattle.dates.specs.Dates.{valid, number}
 use Rattle.dates.specs.Laws.{number-below}
 use Rattle.dates.specs.Text.{dateAt}
 use Rattle.dates.specs.declared.Date.{Date}
 use Rattle.dates.specs.declared.Made.{Made}
 use Rattle.dates.specs.declared.Made.the-variants.{Valid, NoDate}
-use Rattle.calendar.specs.Written.{dayCount, goodPeriod}
+use Rattle.calendar.specs.Written.{dayCount, goodPeriod, daysSpan}
 use Rattle.period.specs.declared.Form.{Form}
 use Rattle.period.specs.declared.Fault.the-variants.{BadDayString, BadWeekdays, BothForms}
 use Rattle.period.specs.declared.Period.the-variants.{Good}
-use Rattle.period.specs.declared.Span.{Span}
-use Rattle.period.specs.declared.Span.the-variants.{Days, NoSpan}
-use Rattle.period.specs.declared.Formed.{Formed}
-use Rattle.period.specs.declared.Formed.the-variants.{Told, Faulty}
-use Rattle.period.specs.Period.{firstLast, dayText, weekText, present, spanBetween, spanOf, spanIn, fitsDays, rising, formOf, formedOf, restGood, periodBy, periodOn, periodOf}
+use Rattle.calendar.specs.declared.Span.{Span}
+use Rattle.calendar.specs.declared.Span.the-variants.{Days, Bad}
+use Rattle.period.specs.declared.forms.Formed.{Formed}
+use Rattle.period.specs.declared.forms.Formed.the-variants.{Told, Faulty}
+use Rattle.period.specs.Period.{firstLast, dayText, weekText, madeSpan, spanIn, fitsDays, rising, formOf, formedOf, restGood, periodBy, periodOn, periodOf}
 
 -- two dates give the numbers
 pub record Spans (f n : ℕ) : Type 0 where
@@ -36,7 +37,7 @@ pub record Spans (f n : ℕ) : Type 0 where
   pub count : dayCount first last ≡ n
   pub not-long : n ≤ 512
 
-between-told : (p : Bool) (a b : Date) (f n : ℕ) → goodPeriod a b ≡ p → pick p (Days (number a) (dayCount a b)) NoSpan ≡ Days f n → Spans f n
+between-told : (p : Bool) (a b : Date) (f n : ℕ) → goodPeriod a b ≡ p → pick p (Days (number a) (dayCount a b)) Bad ≡ Days f n → Spans f n
 unfolding goodPeriod
 between-told false a b f n e q = let z : _≡_ {A = ℕ} 0 1 = cc in absurd (omega arith)
 between-told true a b f n e q =
@@ -48,13 +49,13 @@ between-told true a b f n e q =
     let l = leb-true (dayCount a b) 512 (w .1) in
     record { first = a; last = b; first-date = u .0; last-date = v .0; in-order = leb-true (number a) (number b) (w .0); first-number = k; count = m; not-long = omega arith }
 
-of-told : (a b : Made) (f n : ℕ) → spanOf a b ≡ Days f n → Spans f n
-unfolding spanBetween
+of-told : (a b : Made) (f n : ℕ) → madeSpan a b ≡ Days f n → Spans f n
+unfolding daysSpan
 of-told (Valid a) (Valid b) f n q = between-told (goodPeriod a b) a b f n refl q
 of-told (Valid a) NoDate f n q = let z : _≡_ {A = ℕ} 0 1 = cc in absurd (omega arith)
 of-told NoDate b f n q = let z : _≡_ {A = ℕ} 0 1 = cc in absurd (omega arith)
 
-picked : (p : Bool) (x : Span) (f n : ℕ) → pick p x NoSpan ≡ Days f n → x ≡ Days f n
+picked : (p : Bool) (x : Span) (f n : ℕ) → pick p x Bad ≡ Days f n → x ≡ Days f n
 picked true x f n q = q
 picked false x f n q = let z : _≡_ {A = ℕ} 0 1 = cc in absurd (omega arith)
 
@@ -62,7 +63,7 @@ pub span-told : (t : List ℕ) (f n : ℕ) → spanIn t ≡ Days f n → Spans f
 unfolding spanIn
 span-told t f n q =
     of-told (dateAt t 0) (dateAt t 11) f n
-    (picked (both (eqb (length t) 21) (eqb (getD t 10 0) 47)) (spanOf (dateAt t 0) (dateAt t 11)) f n q)
+    (picked (both (eqb (length t) 21) (eqb (getD t 10 0) 47)) (madeSpan (dateAt t 0) (dateAt t 11)) f n q)
 
 -- a form that is told
 pub record Forms (n : ℕ) (d w : List ℕ) (form : Form) : Type 0 where
@@ -93,7 +94,7 @@ by-told (Told y) false a b f n form e = let z : _≡_ {A = ℕ} 0 1 = cc in absu
 by-told (Told y) true a b f n form e = (cc, cc, cc, refl)
 
 on-told : (s : Span) (g : List ℕ) (f n : ℕ) (form : Form) → spanIn (firstLast g) ≡ s → periodOn s g ≡ Good f n form → Goods g f n form
-on-told NoSpan g f n form q e = let z : _≡_ {A = ℕ} 0 1 = cc in absurd (omega arith)
+on-told Bad g f n form q e = let z : _≡_ {A = ℕ} 0 1 = cc in absurd (omega arith)
 on-told (Days a b) g f n form q e =
     let r = by-told (formedOf b (dayText g) (weekText g)) (restGood g) a b f n form e in
     record { span = q ∙ ap (λ (x : ℕ). Days x b) (r .0) ∙ ap (Days f) (r .1); told = ap (λ (x : ℕ). formedOf x (dayText g) (weekText g)) (sym (r .1)) ∙ r .2; rest = r .3 }

@@ -2,5 +2,6 @@ pub mod Period
 pub mod Said
 pub mod Tests
 pub mod Steps
+pub mod Elements
 pub mod Facts
 pub mod Written

@@ -7,28 +7,27 @@ use mathlib.Core.List.{List, [], _∷_}
 use lib.Dec.{eqb, leb, ltb}
 use lib.ListN.{length, getD}
 use Rattle.laws.specs.Choice.{pick, both, either, all, among}
+use Rattle.laws.specs.Text.{bytes}
 use Rattle.answers.specs.Answers.{Answer, done, wrongPeriod}
 use Rattle.syntax.specs.Bytes.{plain}
 use Rattle.syntax.specs.Pieces.{partOf}
-use Rattle.parts.specs.Places.{repeats}
+use Rattle.parts.specs.Places.{repeats, present}
 use Rattle.values.specs.Values.{sameText}
 use Rattle.dates.specs.Days.{weekdayOf}
-use Rattle.dates.specs.Dates.{number}
 use Rattle.dates.specs.Text.{dateAt}
-use Rattle.dates.specs.declared.Date.{Date}
 use Rattle.dates.specs.declared.Made.{Made}
 use Rattle.dates.specs.declared.Made.the-variants.{Valid, NoDate}
-use Rattle.calendar.specs.Written.{dayCount, goodPeriod}
+use Rattle.calendar.specs.Written.{daysSpan}
 use Rattle.period.specs.declared.Form.{Form}
 use Rattle.period.specs.declared.Form.the-variants.{Every, ByString, ByWeekdays}
 use Rattle.period.specs.declared.Fault.{Fault}
 use Rattle.period.specs.declared.Fault.the-variants.{BadDates, BadDayString, BadWeekdays, BothForms, NeitherForm, BadRest}
 use Rattle.period.specs.declared.Period.{Period}
 use Rattle.period.specs.declared.Period.the-variants.{Good, Wrong}
-use Rattle.period.specs.declared.Span.{Span}
-use Rattle.period.specs.declared.Span.the-variants.{Days, NoSpan}
-use Rattle.period.specs.declared.Formed.{Formed}
-use Rattle.period.specs.declared.Formed.the-variants.{Told, Faulty}
+use Rattle.calendar.specs.declared.Span.{Span}
+use Rattle.calendar.specs.declared.Span.the-variants.{Days, Bad}
+use Rattle.period.specs.declared.forms.Formed.{Formed}
+use Rattle.period.specs.declared.forms.Formed.the-variants.{Told, Faulty}
 
 -- The parts that are read, each the first occurrence and after release: the qualifier, `first/last`, 4440 and 2160.
 abbrev pub qualifier : List ℕ → List ℕ
@@ -43,23 +42,15 @@ dayText g = plain (partOf g 1 1 4)
 abbrev pub weekText : List ℕ → List ℕ
 weekText g = plain (partOf g 2 1 1)
 
--- "An empty part is read as absent."
-abbrev pub present : List ℕ → Bool
-present [] = false
-present (b ∷ l) = true
-
--- "`first/last`, both counted, 1 to 512 days": the number of the first day, and how many days there are
-unfoldable pub spanBetween : Date → Date → Span
-spanBetween first last = pick (goodPeriod first last) (Days (number first) (dayCount first last)) NoSpan
-
-abbrev pub spanOf : Made → Made → Span
-spanOf (Valid first) (Valid last) = spanBetween first last
-spanOf (Valid first) NoDate = NoSpan
-spanOf NoDate last = NoSpan
+-- "`first/last`, both counted, 1 to 512 days"
+abbrev pub madeSpan : Made → Made → Span
+madeSpan (Valid first) (Valid last) = daysSpan first last
+madeSpan (Valid first) NoDate = Bad
+madeSpan NoDate last = Bad
 
 -- ten bytes, a `/`, ten bytes
 unfoldable pub spanIn : List ℕ → Span
-spanIn t = pick (both (eqb (length t) 21) (eqb (getD t 10 0) 47)) (spanOf (dateAt t 0) (dateAt t 11)) NoSpan
+spanIn t = pick (both (eqb (length t) 21) (eqb (getD t 10 0) 47)) (madeSpan (dateAt t 0) (dateAt t 11)) Bad
 
 -- "a string of `0` and `1`, exactly one character for each day"
 abbrev pub zeroOrOne : ℕ → Bool
@@ -94,7 +85,7 @@ formedOf n days weekdays =
 
 -- "qualifier 273", and no element repetition in the two elements
 unfoldable pub restGood : List ℕ → Bool
-restGood g = both (sameText (qualifier g) (50 ∷ 55 ∷ 51 ∷ [])) (both (not (repeats g 1)) (not (repeats g 2)))
+restGood g = both (sameText (qualifier g) (bytes "273")) (both (not (repeats g 1)) (not (repeats g 2)))
 
 -- each part is judged by itself, and the lowest fault named
 abbrev pub periodBy : Formed → Bool → ℕ → ℕ → Period
@@ -102,7 +93,7 @@ periodBy (Faulty x) rest f n = Wrong x
 periodBy (Told form) rest f n = pick rest (Good f n form) (Wrong BadRest)
 
 abbrev pub periodOn : Span → List ℕ → Period
-periodOn NoSpan g = Wrong BadDates
+periodOn Bad g = Wrong BadDates
 periodOn (Days f n) g = periodBy (formedOf n (dayText g) (weekText g)) (restGood g) f n
 
 unfoldable pub periodOf : List ℕ → Period
@@ -134,7 +125,7 @@ popBy at (Faulty x) rest f n = wrongPeriod at
 popBy at (Told form) rest f n = pick rest (done (record { first = f; count = n; form = form })) (wrongPeriod at)
 
 abbrev pub popOn : ℕ → Span → List ℕ → Answer Given
-popOn at NoSpan g = wrongPeriod at
+popOn at Bad g = wrongPeriod at
 popOn at (Days f n) g = popBy at (formedOf n (dayText g) (weekText g)) (restGood g) f n
 
 unfoldable pub popAnswer : ℕ → List ℕ → Answer Given

@@ -6,10 +6,10 @@ use mathlib.Core.List.{List}
 use Prim.Native.Nat.{ℕ}
 use Rattle.laws.specs.Choice.{choose}
 use Rattle.period.specs.declared.Period.{Period}
-use Rattle.period.specs.declared.Span.{Span}
-use Rattle.period.specs.declared.Span.the-variants.{Days, NoSpan}
-use Rattle.period.specs.declared.Formed.{Formed}
-use Rattle.period.specs.declared.Formed.the-variants.{Told, Faulty}
+use Rattle.calendar.specs.declared.Span.{Span}
+use Rattle.calendar.specs.declared.Span.the-variants.{Days, Bad}
+use Rattle.period.specs.declared.forms.Formed.{Formed}
+use Rattle.period.specs.declared.forms.Formed.the-variants.{Told, Faulty}
 use Rattle.period.specs.Period.{firstLast, dayText, weekText, spanIn, formedOf, restGood, periodBy, periodOn, periodOf, periodAnswer, popBy, popOn, popAnswer}
 
 module _ (at : ℕ) where
@@ -18,7 +18,7 @@ module _ (at : ℕ) where
   by-said (Told form) rest f n = choose rest (λ q. rw q) (λ q. rw q)
 
   on-said : (x : Span) (g : List ℕ) → periodAnswer at (periodOn x g) ≡ popOn at x g
-  on-said NoSpan g = refl
+  on-said Bad g = refl
   on-said (Days f n) g = by-said (formedOf n (dayText g) (weekText g)) (restGood g) f n
 
   pub pop-said : (g : List ℕ) → periodAnswer at (periodOf g) ≡ popAnswer at g

@@ -11,7 +11,8 @@ use lib.ListN.{length, getD, drop}
 use borrow.Author.Tests.{eq-eqb, ne-eqb, lt-ltb, le-ltb, le-leb, lt-leb}
 use Rattle.laws.specs.Choice.{both, all, both-true, both-false, both-assoc}
 use Rattle.laws.specs.Lists.{drop-here, drop-past}
-use Rattle.period.specs.Period.{present, zeroOrOne, dayString, rising}
+use Rattle.parts.specs.Places.{present}
+use Rattle.period.specs.Period.{zeroOrOne, dayString, rising}
 
 eqb-next : (a b : ℕ) → eqb (suc a) (suc b) ≡ eqb a b
 eqb-next a b =

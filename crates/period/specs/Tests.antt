@@ -3,7 +3,7 @@
 use mathlib.Core.Path.{_≡_, ap, _∙_}
 use mathlib.Core.Bool.{Bool, true, false, not}
 use mathlib.Core.List.{List, [], _∷_}
-use Prim.Native.Nat.{ℕ, _+_, _-_, _%_, _<_, _≤_}
+use Prim.Native.Nat.{ℕ, _+_, _%_, _<_, _≤_}
 use native.Mathlib.Omega.{arith}
 use lib.Dec.{eqb, ltb}
 use lib.ListN.{length, getD, take, drop, length-append}
@@ -11,71 +11,46 @@ use lib.Seq.{take-at}
 use native.Mathlib.Decide.{decLt}
 use Rattle.laws.specs.Lists.{over}
 use Rattle.values.specs.declared.Copied.the-variants.{Bytes, NoRoom}
-use borrow.Author.Tests.{eq-eqb, ne-eqb, le-leb, lt-leb, lt-ltb, le-ltb}
+use borrow.Author.Tests.{eq-eqb, ne-eqb, lt-ltb, le-ltb}
 use Rattle.laws.specs.Choice.{pick, among}
-use Rattle.parts.specs.Places.{repeats}
+use Rattle.parts.specs.Places.{repeats, present}
 use Rattle.dates.specs.Days.{weekdayOf}
-use Rattle.dates.specs.Dates.{valid, number}
 use Rattle.dates.specs.Text.{dateAt}
 use Rattle.dates.specs.declared.Date.{Date}
 use Rattle.dates.specs.declared.Made.the-variants.{Valid, NoDate}
-use Rattle.calendar.specs.Written.{goodPeriod}
+use Rattle.calendar.specs.Written.{daysSpan}
 use Rattle.values.specs.Values.{sameText, copiedOf}
 use Rattle.period.specs.declared.Form.{Form}
 use Rattle.period.specs.declared.Form.the-variants.{Every, ByString, ByWeekdays}
 use Rattle.period.specs.declared.Fault.the-variants.{BadDates, BadDayString, BadWeekdays, BothForms, BadRest}
-use Rattle.period.specs.declared.Span.the-variants.{Days, NoSpan}
-use Rattle.period.specs.declared.Formed.the-variants.{Told, Faulty}
+use Rattle.calendar.specs.declared.Span.the-variants.{Days, Bad}
+use Rattle.period.specs.declared.forms.Formed.the-variants.{Told, Faulty}
 use Rattle.period.specs.declared.Fault.{Fault}
 use Rattle.period.specs.declared.Period.{Period}
 use Rattle.period.specs.declared.Period.the-variants.{Good, Wrong}
-use Rattle.period.specs.Period.{qualifier, firstLast, dayText, weekText, present, spanBetween, spanIn, dayString, fitsDays, rising, formWithout, formedOf, restGood, periodOf, runsBy, runsIn}
-
--- the two dates
-module _ (first last : Date) where
-  pub first-not : valid first ≡ false → NoSpan ≡ spanBetween first last
-  unfolding spanBetween goodPeriod
-  first-not v = rw v
-
-  pub last-not : valid first ≡ true → valid last ≡ false → NoSpan ≡ spanBetween first last
-  unfolding spanBetween goodPeriod
-  last-not v w = rw (v, w)
-
-  module _ {f t : ℕ} (p : (valid first ≡ true) × (number first ≡ f)) (q : (valid last ≡ true) × (number last ≡ t)) where
-    pub out-of-order : t < f → NoSpan ≡ spanBetween first last
-    unfolding spanBetween goodPeriod
-    out-of-order l = rw (p .0, q .0, p .1, q .1, lt-leb f t l)
-
-    module _ (l : f ≤ t) where
-      pub too-many : 512 ≤ t - f → NoSpan ≡ spanBetween first last
-      unfolding spanBetween goodPeriod
-      too-many m = rw (p .0, q .0, p .1, q .1, le-leb f t l, lt-leb (t - f + 1) 512 (omega arith))
-
-      pub some-days : t - f < 512 → Days f (t - f + 1) ≡ spanBetween first last
-      unfolding spanBetween goodPeriod
-      some-days m = rw (p .0, q .0, p .1, q .1, le-leb f t l, le-leb (t - f + 1) 512 (omega arith))
+use Rattle.period.specs.Period.{qualifier, firstLast, dayText, weekText, spanIn, dayString, fitsDays, rising, formWithout, formedOf, restGood, periodOf, runsBy, runsIn}
 
 -- the text of the two dates
 module _ (t : List ℕ) where
-  pub not-long : (length t ≡ 21 → ⊥) → NoSpan ≡ spanIn t
+  pub not-long : (length t ≡ 21 → ⊥) → Bad ≡ spanIn t
   unfolding spanIn
   not-long h = rw (ne-eqb (length t) 21 h)
 
   module _ (h : length t ≡ 21) where
-    pub no-stroke : (getD t 10 0 ≡ 47 → ⊥) → NoSpan ≡ spanIn t
+    pub no-stroke : (getD t 10 0 ≡ 47 → ⊥) → Bad ≡ spanIn t
     unfolding spanIn
     no-stroke e = rw (eq-eqb (length t) 21 h, ne-eqb (getD t 10 0) 47 e)
 
     module _ (e : getD t 10 0 ≡ 47) where
-      pub no-first : dateAt t 0 ≡ NoDate → NoSpan ≡ spanIn t
+      pub no-first : dateAt t 0 ≡ NoDate → Bad ≡ spanIn t
       unfolding spanIn
       no-first a = rw (eq-eqb (length t) 21 h, eq-eqb (getD t 10 0) 47 e, a)
 
-      pub no-last : {a : Date} → dateAt t 0 ≡ Valid a → dateAt t 11 ≡ NoDate → NoSpan ≡ spanIn t
+      pub no-last : {a : Date} → dateAt t 0 ≡ Valid a → dateAt t 11 ≡ NoDate → Bad ≡ spanIn t
       unfolding spanIn
       no-last p q = rw (eq-eqb (length t) 21 h, eq-eqb (getD t 10 0) 47 e, p, q)
 
-      pub two-dates : {a b : Date} → dateAt t 0 ≡ Valid a → dateAt t 11 ≡ Valid b → spanBetween a b ≡ spanIn t
+      pub two-dates : {a b : Date} → dateAt t 0 ≡ Valid a → dateAt t 11 ≡ Valid b → daysSpan a b ≡ spanIn t
       unfolding spanIn
       two-dates p q = rw (eq-eqb (length t) 21 h, eq-eqb (getD t 10 0) 47 e, p, q)
 
@@ -118,20 +93,7 @@ no-weekdays w p = rw p
 
 -- the whole segment
 module _ (g : List ℕ) where
-  pub other-qualifier : sameText (qualifier g) (50 ∷ 55 ∷ 51 ∷ []) ≡ false → false ≡ restGood g
-  unfolding restGood
-  other-qualifier p = rw p
-
-  module _ (p : sameText (qualifier g) (50 ∷ 55 ∷ 51 ∷ []) ≡ true) where
-    pub first-repeated : repeats g 1 ≡ true → false ≡ restGood g
-    unfolding restGood
-    first-repeated q = rw (p, q)
-
-    pub second-repeated : repeats g 1 ≡ false → not (repeats g 2) ≡ restGood g
-    unfolding restGood
-    second-repeated q = rw (p, q)
-
-  pub wrong-dates : spanIn (firstLast g) ≡ NoSpan → Wrong BadDates ≡ periodOf g
+  pub wrong-dates : spanIn (firstLast g) ≡ Bad → Wrong BadDates ≡ periodOf g
   unfolding periodOf
   wrong-dates p = rw p
 
@@ -192,7 +154,7 @@ copied-all n m e =
       | no l ↦ (omega arith, cc (rw (le-ltb 21 n (omega arith)) at e))
     ]
 
-pub dates-too-long : (t : List ℕ) {n : ℕ} → n ≡ 21 → copiedOf (length t) n ≡ NoRoom → NoSpan ≡ spanIn t
+pub dates-too-long : (t : List ℕ) {n : ℕ} → n ≡ 21 → copiedOf (length t) n ≡ NoRoom → Bad ≡ spanIn t
 dates-too-long t h e =
     let l = copied-not (length t) (rw h at e) in
     not-long t (λ q. omega arith)

@@ -10,21 +10,24 @@ use lib.ListN.{length, getD, drop, length-drop}
 use borrow.Author.Tests.{eq-eqb, le-leb, leb-true, ltb-true, eqb-true}
 use Rattle.laws.specs.Choice.{both, all, both-parts, choose}
 use Rattle.laws.specs.Lists.{drop-here, drop-past}
+use Rattle.laws.specs.Text.{bytes}
 use Rattle.syntax.specs.Bytes.{plain, plainOn}
+use Rattle.parts.specs.Places.{present}
 use Rattle.values.specs.Values.{sameText}
 use Rattle.dates.specs.Text.{isDigit, twoDigits, digitsAt, dateAt}
 use Rattle.dates.specs.declared.Date.{Date}
 use Rattle.dates.specs.declared.Made.the-variants.{Valid, NoDate}
+use Rattle.calendar.specs.Written.{daysSpan}
 use Rattle.free_texts.specs.Free.{all-append, all-weaker, numeric, plain-all, no-release}
 use Rattle.free_texts.specs.Parts.{Cut, oneElement, twoElements, withString, withoutString, string-cut, week-cut, passed-cut, alone-cut}
 use Rattle.period.specs.declared.Form.{Form}
 use Rattle.period.specs.declared.Form.the-variants.{Every, ByString, ByWeekdays}
 use Rattle.period.specs.declared.Period.{Period}
 use Rattle.period.specs.declared.Period.the-variants.{Good, Wrong}
-use Rattle.period.specs.declared.Span.{Span}
-use Rattle.period.specs.declared.Span.the-variants.{Days, NoSpan}
-use Rattle.period.specs.declared.Formed.the-variants.{Told}
-use Rattle.period.specs.Period.{firstLast, dayText, weekText, present, spanBetween, spanIn, zeroOrOne, dayString, rising, formedOf, restGood, periodOf}
+use Rattle.calendar.specs.declared.Span.{Span}
+use Rattle.calendar.specs.declared.Span.the-variants.{Days, Bad}
+use Rattle.period.specs.declared.forms.Formed.the-variants.{Told}
+use Rattle.period.specs.Period.{firstLast, dayText, weekText, spanIn, zeroOrOne, dayString, rising, formedOf, restGood, periodOf}
 use Rattle.period.specs.Facts.{span-told}
 use Rattle.period.specs.Tests.{two-dates, good-period}
 
@@ -40,10 +43,10 @@ module _ (g d s w : List ℕ) (p : Cut g d s w) (pd : all numeric d ≡ true) (p
   weekdays-plain = ap plain (p .weekdays-are) ∙ plain-all w (no-release w pw)
 
   rest-read : restGood g ≡ true
-  unfolding restGood sameText plainOn
+  unfolding restGood sameText plainOn bytes
   rest-read =
       rw (p .first-once, p .second-once)
-      (ap (λ (x : List ℕ). both (sameText (plain x) (50 ∷ 55 ∷ 51 ∷ [])) true) (p .qualifier-is))
+      (ap (λ (x : List ℕ). both (sameText (plain x) (bytes "273")) true) (p .qualifier-is))
 
   pub cut-good : {f n : ℕ} {form : Form} → spanIn d ≡ Days f n → formedOf n s w ≡ Told form → Good f n form ≡ periodOf g
   cut-good {f} {n} {form} a b =
@@ -112,7 +115,7 @@ pub record Begins (g : List ℕ) (f n : ℕ) : Type 0 where
 -- days that were found are those of such a POP; where none were found nothing is said
 abbrev pub spanTold : List ℕ → Span → Type 0
 spanTold g (Days f n) = Begins g f n
-spanTold g NoSpan = Unit
+spanTold g Bad = Unit
 
 -- a good period that was found is the POP's; where none was found nothing is said
 abbrev pub periodTold : List ℕ → Period → Type 0
@@ -177,7 +180,7 @@ module _ (g : List ℕ) (h : 29 ≤ length g) {a b : Date} (p : dateAt g 8 ≡ V
   unfolding firsts
   dates-numeric = all-append numeric (firsts g 8 10) (firsts g 18 11) first-numeric (all-append numeric (getD g 18 0 ∷ []) (firsts g 19 10) (rw stroke) last-numeric)
 
-  dates-span : spanBetween a b ≡ spanIn (firsts g 8 21)
+  dates-span : daysSpan a b ≡ spanIn (firsts g 8 21)
   unfolding firsts dateAt digitsAt
   dates-span = two-dates (firsts g 8 21) refl stroke (rw (le-leb 18 (length g) (omega arith)) at p) (rw (le-leb 29 (length g) (omega arith)) at q)
 
@@ -190,8 +193,8 @@ module _ (g : List ℕ) (h : 29 ≤ length g) {a b : Date} (p : dateAt g 8 ≡ V
         ∙ ap oneElement (four-same t (drop 8 g))
         ∙ ap (λ (x : List ℕ). oneElement (withoutString x)) (drop-firsts g 21 8 (omega arith))
 
-    pub begins-told : (r : Span) → r ≡ spanBetween a b → spanTold g r
-    begins-told NoSpan e = tt
+    pub begins-told : (r : Span) → r ≡ daysSpan a b → spanTold g r
+    begins-told Bad e = tt
     begins-told (Days f n) e =
         record { dates = firsts g 8 21; long = h; split = begins-split; numerics = dates-numeric; span = sym (e ∙ dates-span) }
 

@@ -9,7 +9,9 @@ use native.Mathlib.Decide.{ℕ-discrete}
 use lib.ListN.{length}
 use borrow.Author.Tests.{eq-eqb, ne-eqb, le-leb, lt-ltb}
 use Rattle.laws.specs.Choice.{pick, all, among, choose, false≢true}
+use Rattle.laws.specs.Text.{bytes}
 use Rattle.syntax.specs.Segment.{bodyAt, segmentAt}
+use Rattle.parts.specs.Places.{present}
 use Rattle.dates.specs.Days.{weekdayOf}
 use Rattle.dates.specs.Dates.{number}
 use Rattle.dates.specs.Laws.{weekday-range}
@@ -19,7 +21,7 @@ use Rattle.calendar.specs.Days.{day}
 use Rattle.calendar.specs.Form.{HasForm, named-some, some-named, form-told}
 use Rattle.calendar.specs.Good.{good-facts}
 use Rattle.calendar.specs.Written.{dayCount, goodCalendar, start, named, weekdayForm, digitsFrom, namedText, weekdayText}
-use Rattle.period.specs.Period.{present, rising, runsBy, runsIn}
+use Rattle.period.specs.Period.{rising, runsBy, runsIn}
 use Rattle.period.specs.declared.Form.the-variants.{Every, ByWeekdays}
 use Rattle.period.specs.declared.Period.the-variants.{Good}
 use Rattle.free_texts.specs.Free.{numeric}
@@ -125,7 +127,7 @@ module _ (c : List ℕ) (first last : Date) (good : goodCalendar c first last �
   weekBody = twoElements (withoutString (dates first last)) names
 
   week-text : weekdayText c first last ≡ weekBody ++ (39 ∷ [])
-  unfolding namedText start dateText
+  unfolding namedText start dateText bytes
   week-text =
       sym (ap (λ (l : List ℕ). 80 ∷ 79 ∷ 80 ∷ 43 ∷ 50 ∷ 55 ∷ 51 ∷ 58 ∷ l) (append-assoc (dates first last) (43 ∷ names) (39 ∷ [])))
 

@@ -9,8 +9,10 @@ use lib.Dec.{eqb}
 use lib.ListN.{length, getD, take, drop}
 use borrow.Author.Tests.{eq-eqb, le-leb, lt-ltb}
 use Rattle.laws.specs.Choice.{pick, both, either, all}
+use Rattle.laws.specs.Text.{bytes}
 use Rattle.syntax.specs.Segment.{bodyAt, segmentAt}
 use Rattle.syntax.specs.declared.segment.Scanned.the-variants.{End}
+use Rattle.parts.specs.Places.{present}
 use Rattle.dates.specs.Dates.{number}
 use Rattle.dates.specs.Text.{digit, dateText}
 use Rattle.dates.specs.Again.{read-text}
@@ -18,8 +20,8 @@ use Rattle.dates.specs.declared.Date.{Date}
 use Rattle.calendar.specs.Days.{day}
 use Rattle.calendar.specs.Steps.{length-characters, character-at}
 use Rattle.calendar.specs.Good.{GoodCalendar, good-facts}
-use Rattle.calendar.specs.Written.{dayCount, goodPeriod, goodCalendar, start, dayCharacter, dayCharacters, dayStringText}
-use Rattle.period.specs.Period.{present, spanBetween, zeroOrOne, dayString, fitsDays, rising, formOf, formedOf, periodOf, runsBy, runsIn, runs}
+use Rattle.calendar.specs.Written.{dayCount, goodPeriod, daysSpan, goodCalendar, start, dayCharacter, dayCharacters, dayStringText}
+use Rattle.period.specs.Period.{zeroOrOne, dayString, fitsDays, rising, formOf, formedOf, periodOf, runsBy, runsIn, runs}
 use Rattle.period.specs.Tests.{two-dates}
 use Rattle.period.specs.Written.{string-plain, cut-good}
 use Rattle.period.specs.declared.Form.{Form}
@@ -75,7 +77,7 @@ module _ (c : List ℕ) (a b : Date) (good : GoodCalendar c a b) where
   module _ (g s w : List ℕ) (p : Parts g (dates a b) s w) (ns : all numeric s ≡ true) (nw : all numeric w ≡ true) where
     pub period-read : fitsDays (dayCount a b) s ≡ true → rising 48 w ≡ true → both (present s) (present w) ≡ false
         → periodOf g ≡ Good (number a) (dayCount a b) (formOf s w)
-    unfolding spanBetween formedOf
+    unfolding daysSpan formedOf
     period-read f r n =
         sym (cut-good g (dates a b) s w (p .cut) (numeric-dates a b) ns nw
         (sym (two-dates (dates a b) (length-dates a b) (stroke-in a b) (read-text a (good .first-date) (dates a b) 0 (first-in a b)) (read-text b (good .last-date) (dates a b) 11 (last-in a b))) ∙ rw good-span)
@@ -142,7 +144,7 @@ module _ (c : List ℕ) (first last : Date) (good : goodCalendar c first last �
   stringBody = oneElement (withString (dates first last) string)
 
   string-text : dayStringText c first last (dayCount first last) ≡ stringBody ++ (39 ∷ [])
-  unfolding dayStringText start dateText dayCharacters
+  unfolding dayStringText start dateText dayCharacters bytes
   string-text =
       sym (ap (λ (l : List ℕ). 80 ∷ 79 ∷ 80 ∷ 43 ∷ 50 ∷ 55 ∷ 51 ∷ 58 ∷ l) (append-assoc (dates first last) (58 ∷ 58 ∷ string) (39 ∷ [])))
 

@@ -4,7 +4,7 @@ use mathlib.Core.Path.{sym, _∙_}
 use borrow.Author.Tests.{not-true, not-false}
 use denote.Ref.{now}
 use Rattle.laws.specs.Choice.{both-true}
-use Rattle.envelope.specs.Envelope.{present}
+use Rattle.parts.specs.Places.{present}
 use borrow.Author.Needs.{needs}
 use Rattle.envelope.proofs.is_complete.Statement.{statement}
 use Rattle.envelope.proofs.is_complete.Tie as tie

@@ -9,7 +9,8 @@ use denote.Ref.{now}
 use lib.Dec.{leb}
 use Rattle.laws.specs.Choice.{all}
 use Rattle.parts.specs.declared.Part.{Part}
-use Rattle.envelope.specs.Envelope.{present, placeOf, directory, typed, typeOf, versionOf, releaseOf, subFunctionOf, agencyOf, referenceOf}
+use Rattle.parts.specs.Places.{present}
+use Rattle.envelope.specs.Envelope.{placeOf, directory, typed, typeOf, versionOf, releaseOf, subFunctionOf, agencyOf, referenceOf}
 use Rattle.envelope.specs.Laws.{place-absent, place-present}
 use Rattle.envelope.specs.Ways.{of-four, uih-absent, uih-missing, uih-unknown, uih-typed}
 use borrow.Author.Needs.{needs}
@@ -27,7 +28,7 @@ module _ (d : tie.After-is-absent) where
 -- what the tests of S306 say of it
 module _ (k : tie.After-is-complete) where
   abbrev start : tie.Else1
-  start = k .before .before .before .before .before
+  start = k .before .before .before .before .before .before
 
   abbrev own : List ℕ
   own = segment (start .before)
@@ -38,7 +39,7 @@ module _ (k : tie.After-is-complete) where
   identifier : all present (typeOf own ∷ versionOf own ∷ releaseOf own ∷ agencyOf own ∷ []) ≡ k .is-complete .result
   identifier =
       let v = k .before in
-      sym (k .is-complete .ensures ∙ of-four (λ a b d e. all present (a ∷ b ∷ d ∷ e ∷ [])) (v .before .before .before .value .ensures) (v .before .before .value2 .ensures) (v .before .value3 .ensures) (v .value4 .ensures))
+      sym (k .is-complete .ensures ∙ of-four (λ a b d e. all present (a ∷ b ∷ d ∷ e ∷ [])) (v .before .before .before .value-in .ensures) (v .before .before .value-in2 .ensures) (v .before .value-in3 .ensures) (v .value-in4 .ensures))
 
 module _ (t : tie.After-is-directory) where
   abbrev whole : List ℕ
@@ -47,7 +48,7 @@ module _ (t : tie.After-is-directory) where
   codes : directory (versionOf whole) (releaseOf whole) (subFunctionOf whole) (agencyOf whole) ≡ t .is-directory .result
   codes =
       let v = t .before .before .before .before in
-      sym (t .is-directory .ensures ∙ of-four directory (v .before .before .value2 .ensures) (v .before .value3 .ensures) (t .before .value5 .ensures) (v .value4 .ensures))
+      sym (t .is-directory .ensures ∙ of-four directory (v .before .before .value-in2 .ensures) (v .before .value-in3 .ensures) (t .before .value-in5 .ensures) (v .value-in4 .ensures))
 
 place-requires : tie.Need-place-requires
 place-requires c κs = search needs
@@ -60,17 +61,20 @@ returns c =
     let d = c .before in
     uih-absent (segment d) (place-absent (segment d) 2 1 (found d ∙ c .if1 .taken))
 
-value-requires : tie.Need-value-requires
-value-requires c κs = search needs
+occurrence-requires : tie.Need-occurrence-requires
+occurrence-requires c κs = search needs
 
-value-requires-2 : tie.Need-value-requires-2
-value-requires-2 c κs = search needs
+value-in-requires : tie.Need-value-in-requires
+value-in-requires c κs = c .occurrence .ensures
 
-value-requires-3 : tie.Need-value-requires-3
-value-requires-3 c κs = search needs
+value-in-requires-2 : tie.Need-value-in-requires-2
+value-in-requires-2 c κs = c .before .occurrence .ensures
 
-value-requires-4 : tie.Need-value-requires-4
-value-requires-4 c κs = search needs
+value-in-requires-3 : tie.Need-value-in-requires-3
+value-in-requires-3 c κs = c .before .before .occurrence .ensures
+
+value-in-requires-4 : tie.Need-value-in-requires-4
+value-in-requires-4 c κs = c .before .before .before .occurrence .ensures
 
 is-complete-requires : tie.Need-is-complete-requires
 is-complete-requires c κs = search needs
@@ -80,8 +84,8 @@ returns-2 c =
     let k = c .before in
     uih-missing (own k) (reference k) (identifier k ∙ not-true (k .is-complete .result) (c .if2 .taken))
 
-value-requires-5 : tie.Need-value-requires-5
-value-requires-5 c κs = search needs
+value-in-requires-5 : tie.Need-value-in-requires-5
+value-in-requires-5 c κs = c .before .before .before .before .before .before .occurrence .ensures
 
 is-directory-requires : tie.Need-is-directory-requires
 is-directory-requires c κs = search needs
@@ -100,7 +104,7 @@ returns-4 c =
     let t = c .before .before in
     let k = t .before .before .before in
     c .message .ensures
-    ∙ ap (λ (x : List ℕ). typed x (start k .before .before .place .result)) (k .before .before .before .before .value .ensures)
+    ∙ ap (λ (x : List ℕ). typed x (start k .before .before .place .result)) (k .before .before .before .before .value-in .ensures)
     ∙ ap (typed (typeOf (own k))) (start k .before .before .place .ensures)
     ∙ uih-typed (own k) (reference k) (identifier k ∙ not-false (k .is-complete .result) (t .before .before .if2 .left)) (codes t ∙ not-false (t .is-directory .result) (c .before .if3 .left))
 
@@ -111,13 +115,14 @@ read-any-spec =
     place-requires
     is-absent-requires
     returns
-    value-requires
-    value-requires-2
-    value-requires-3
-    value-requires-4
+    occurrence-requires
+    value-in-requires
+    value-in-requires-2
+    value-in-requires-3
+    value-in-requires-4
     is-complete-requires
     returns-2
-    value-requires-5
+    value-in-requires-5
     is-directory-requires
     returns-3
     message-requires

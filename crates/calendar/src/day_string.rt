@@ -1,0 +1,62 @@
+//! The calendar written with a day string.
+
+use crate::Span;
+use crate::Written;
+use crate::days::test_day;
+use crate::spans::check;
+use crate::start::put_start;
+use dates::Date;
+ghost use mathlib.Core.Path.{_≡_};
+ghost use Rattle.dates.specs.Text.{putAt};
+ghost use Rattle.calendar.specs.Written.{writtenAnswer, dayCharacter, dayCharacters, dayStringText, textAnswer, dayStringAnswer, dayStringBytes};
+
+// The character of day k.
+fn day_character(days: &[u8], k: usize) -> u8
+    ensures { λ r. ⌜ r ≡ dayCharacter (now (days .entry)) k ⌝ }
+{
+    if test_day(days, k) { b'1' } else { b'0' }
+}
+
+/// The first n days as characters, put at an offset where there is room for all of them.
+pub fn put_days(days: &[u8], n: usize, out: &mut [u8], at: usize)
+    ensures { λ _. ⌜ now (out .exit) ≡ putAt (now (out .entry)) at (dayCharacters (now (days .entry)) 0 n) ⌝ }
+{
+    if out.len() < n {
+        return;
+    }
+    if out.len() - n < at {
+        return;
+    }
+    let mut i = 0;
+    while i < n {
+        out[at + i] = day_character(days, i);
+        i += 1;
+    }
+}
+
+// The segment with the first n characters of the day string.
+fn write_characters(days: &[u8], first: Date, last: Date, n: usize, out: &mut [u8]) -> Written
+    ensures { λ r. ⌜ (writtenAnswer r ≡ textAnswer (dayStringText (now (days .entry)) first last n) (now (out .entry))) × (now (out .exit) ≡ putAt (now (out .entry)) 0 (dayStringText (now (days .entry)) first last n)) ⌝ }
+{
+    if out.len() < 32 {
+        return Written::NoRoom;
+    }
+    if out.len() - 32 < n {
+        return Written::NoRoom;
+    }
+    put_start(first, last, out);
+    dates::put_bytes(out, 29, b"::");
+    put_days(days, n, out, 31);
+    dates::put_bytes(out, 31 + n, b"'");
+    Written::Bytes(32 + n)
+}
+
+/// The calendar as a POP with a day string, one character for each day.
+pub fn write_day_string(days: &[u8], first: Date, last: Date, out: &mut [u8]) -> Written
+    ensures { λ r. ⌜ (writtenAnswer r ≡ dayStringAnswer (now (days .entry)) first last (now (out .entry))) × (now (out .exit) ≡ dayStringBytes (now (days .entry)) first last (now (out .entry))) ⌝ }
+{
+    let Span::Days(_, n) = check(days, first, last) else {
+        return Written::BadCalendar;
+    };
+    write_characters(days, first, last, n, out)
+}

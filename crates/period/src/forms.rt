@@ -1,0 +1,120 @@
+//! The two forms of days: the day string, 4440, and the weekdays, 2160.
+
+use crate::Fault;
+use crate::Form;
+use values::Next;
+use values::next_byte;
+ghost use mathlib.Core.Path.{_≡_};
+ghost use Rattle.syntax.specs.Bytes.{plain};
+ghost use Rattle.parts.specs.Places.{present};
+ghost use Rattle.period.specs.Period.{dayString, fitsDays, rising, formWithout, formedOf};
+
+// The form in which the days are told, or what is wrong with it.
+pub(crate) enum Formed {
+    Told(Form),
+    Faulty(Fault),
+}
+
+// Whether a part says anything.
+fn is_present(part: &[u8]) -> bool
+    ensures { λ r. ⌜ r ≡ present (plain (now (part .entry))) ⌝ }
+{
+    match next_byte(part, 0) {
+        Next::Byte(_, _) => true,
+        Next::Done => false,
+    }
+}
+
+// Whether a part is one `0` or `1` for each of n days.
+fn is_day_string(part: &[u8], n: usize) -> bool
+    ensures { λ r. ⌜ r ≡ dayString n (plain (now (part .entry))) ⌝ }
+{
+    let mut i = 0;
+    let mut left = n;
+    while i < part.len() {
+        match next_byte(part, i) {
+            Next::Byte(b, k) => {
+                if left == 0 {
+                    return false;
+                }
+                if b < b'0' {
+                    return false;
+                }
+                if b'1' < b {
+                    return false;
+                }
+                i = k;
+                left -= 1;
+            }
+            Next::Done => {
+                return left == 0;
+            }
+        }
+    }
+    left == 0
+}
+
+// A day string that is absent is right too.
+fn fits_days(part: &[u8], n: usize) -> bool
+    ensures { λ r. ⌜ r ≡ fitsDays n (plain (now (part .entry))) ⌝ }
+{
+    if is_present(part) {
+        return is_day_string(part, n);
+    }
+    true
+}
+
+// Whether the weekdays rise from each to the next.
+fn is_rising(part: &[u8]) -> bool
+    ensures { λ r. ⌜ r ≡ rising 48 (plain (now (part .entry))) ⌝ }
+{
+    let mut i = 0;
+    let mut low = b'0';
+    while i < part.len() {
+        match next_byte(part, i) {
+            Next::Byte(b, k) => {
+                if b <= low {
+                    return false;
+                }
+                if b'7' < b {
+                    return false;
+                }
+                low = b;
+                i = k;
+            }
+            Next::Done => {
+                return true;
+            }
+        }
+    }
+    true
+}
+
+// The form of a period that has no day string.
+fn form_without(weekdays: &[u8]) -> Form
+    ensures { λ r. ⌜ r ≡ formWithout (plain (now (weekdays .entry))) ⌝ }
+{
+    if is_present(weekdays) {
+        return Form::ByWeekdays;
+    }
+    Form::Every
+}
+
+// What tells the days of a period of n days.
+pub(crate) fn read_form(days: &[u8], weekdays: &[u8], n: usize) -> Formed
+    ensures { λ r. ⌜ r ≡ formedOf n (plain (now (days .entry))) (plain (now (weekdays .entry))) ⌝ }
+{
+    if !fits_days(days, n) {
+        return Formed::Faulty(Fault::BadDayString);
+    }
+    if !is_rising(weekdays) {
+        return Formed::Faulty(Fault::BadWeekdays);
+    }
+    if !is_present(days) {
+        return Formed::Told(form_without(weekdays));
+    }
+    if is_present(weekdays) {
+        return Formed::Faulty(Fault::BothForms);
+    }
+    Formed::Told(Form::ByString)
+}

@@ -1,0 +1,145 @@
+//! A POP in one of the usual forms, as most are written, read straight through.
+
+use crate::Fault;
+use crate::Form;
+use crate::Period;
+use calendar::Span;
+use calendar::days_between;
+use dates::Made;
+ghost use mathlib.Core.Path.{_≡_};
+ghost use Prim.Native.Nat.{_≤_};
+ghost use lib.ListN.{length, getD, drop};
+ghost use Rattle.laws.specs.Choice.{both, all};
+ghost use Rattle.period.specs.Period.{zeroOrOne, rising};
+ghost use Rattle.period.specs.Written.{Begins, spanTold, periodTold, Word};
+
+// Four bytes as one number.
+fn word(a: u8, b: u8, c: u8, d: u8) -> u32
+    ensures { λ r. ⌜ Word r a b c d ⌝ }
+{
+    a as u32 + b as u32 * 256 + c as u32 * 65536 + d as u32 * 16777216
+}
+
+// The days of a POP that begins as most are written, `POP+273:first/last`.
+fn written_span(g: &[u8]) -> Span
+    ensures { λ r. ⌜ spanTold (now (g .entry)) r ⌝ }
+{
+    if g.len() < 29 {
+        return Span::Bad;
+    }
+    if word(g[0], g[1], g[2], g[3]) != word(b'P', b'O', b'P', b'+') {
+        return Span::Bad;
+    }
+    if word(g[4], g[5], g[6], g[7]) != word(b'2', b'7', b'3', b':') {
+        return Span::Bad;
+    }
+    if g[18] != b'/' {
+        return Span::Bad;
+    }
+    let Made::Valid(first) = dates::read_date(g, 8) else {
+        return Span::Bad;
+    };
+    let Made::Valid(last) = dates::read_date(g, 19) else {
+        return Span::Bad;
+    };
+    days_between(first, last)
+}
+
+// A test that held so far, and that a byte is the character of a day.
+fn still_days(good: bool, b: u8) -> bool
+    ensures { λ r. ⌜ r ≡ both good (zeroOrOne b) ⌝ }
+{
+    if b == b'0' {
+        return good;
+    }
+    if b == b'1' {
+        return good;
+    }
+    false
+}
+
+// Whether the bytes from an index on are `0` and `1`. Each is passed, whatever came before it, so that many can be taken at once.
+fn are_days(g: &[u8], from: usize) -> bool
+    ensures { λ r. ⌜ r ≡ all zeroOrOne (drop from (now (g .entry))) ⌝ }
+{
+    let mut i = from;
+    let mut good = true;
+    while i < g.len() {
+        good = still_days(good, g[i]);
+        i += 1;
+    }
+    good
+}
+
+// Whether the bytes from an index on are weekdays that rise.
+fn are_rising(g: &[u8], from: usize) -> bool
+    ensures { λ r. ⌜ r ≡ rising 48 (drop from (now (g .entry))) ⌝ }
+{
+    let mut i = from;
+    let mut last = b'0';
+    while i < g.len() {
+        let b = g[i];
+        if b <= last {
+            return false;
+        }
+        if b'7' < b {
+            return false;
+        }
+        last = b;
+        i += 1;
+    }
+    true
+}
+
+// The period of a POP that goes on with a `+` behind its dates: where the second element is empty, "Giving neither means every day."
+fn read_weekdays(g: &[u8], first: usize, count: usize) -> Period
+    requires { ⌜ Begins (now g) first count × (31 ≤ length (now g)) × (getD (now g) 29 0 ≡ 43) ⌝ }
+    ensures { λ r. ⌜ periodTold (now (g .entry)) r ⌝ }
+{
+    if g[30] == b'+' {
+        return Period::Good(first, count, Form::Every);
+    }
+    if are_rising(g, 30) {
+        return Period::Good(first, count, Form::ByWeekdays);
+    }
+    Period::Wrong(Fault::BadWeekdays)
+}
+
+// The period of a POP whose dates are known, by what stands behind them.
+fn read_behind(g: &[u8], first: usize, count: usize) -> Period
+    requires { ⌜ Begins (now g) first count ⌝ }
+    ensures { λ r. ⌜ periodTold (now (g .entry)) r ⌝ }
+{
+    if g.len() == 29 {
+        return Period::Good(first, count, Form::Every);
+    }
+    if g.len() < 31 {
+        return Period::Wrong(Fault::BadRest);
+    }
+    if g[29] == b'+' {
+        return read_weekdays(g, first, count);
+    }
+    if g[29] != b':' {
+        return Period::Wrong(Fault::BadRest);
+    }
+    if g[30] != b':' {
+        return Period::Wrong(Fault::BadRest);
+    }
+    if g.len() - 31 != count {
+        return Period::Wrong(Fault::BadDayString);
+    }
+    if are_days(g, 31) {
+        return Period::Good(first, count, Form::ByString);
+    }
+    Period::Wrong(Fault::BadDayString)
+}
+
+// The period of a POP in one of the usual forms. What is wrong here may only be written in another way, so no caller names the fault.
+pub(crate) fn read_written(g: &[u8]) -> Period
+    ensures { λ r. ⌜ periodTold (now (g .entry)) r ⌝ }
+{
+    match written_span(g) {
+        Span::Days(first, count) => read_behind(g, first, count),
+        Span::Bad => Period::Wrong(Fault::BadDates),
+    }
+}
