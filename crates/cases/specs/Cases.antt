@@ -40,7 +40,7 @@ use Rattle.services.specs.Services.{numberOf, saysRemoval, removes, serviceAt, 
 use Rattle.contents.specs.Contents as contents
 use Rattle.contents.specs.Written as written
 use Rattle.contents.specs.Calls.{lookup, changed, withdrawOf, viewOf, withRecords}
-use Rattle.staging.specs.Stage.{firstOutside, daysOf, entry, enterKnown, enter, enterAll, stageOf}
+use Rattle.stages.specs.Stage.{firstOutside, daysOf, entry, enterKnown, enter, enterAll, stageOf}
 use Rattle.shuffle.specs.InContents.{inContents}
 
 abbrev august : ℕ → Date

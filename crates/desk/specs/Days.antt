@@ -18,7 +18,7 @@ use Rattle.dates.specs.Laws.{number-known, number-unknown}
 use Rattle.dates.specs.Text.{putAt}
 use Rattle.dates.specs.Put.{put-front}
 use Rattle.dates.specs.declared.Date.{Date}
-use Rattle.staging.specs.Stage.{firstOutside, daysOf}
+use Rattle.stages.specs.Stage.{firstOutside, daysOf}
 
 -- 13 at the first POP that is not wholly in the window
 abbrev pub insideAnswer : Option ℕ → Answer ℕ

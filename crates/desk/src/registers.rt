@@ -14,8 +14,8 @@ ghost use mathlib.Core.Path.{_≡_};
 ghost use Rattle.contents.specs.Written.{isRegister};
 ghost use Rattle.contents.specs.Calls.{releaseOf, withdrawOf, showAnswer, showBytes, answerOn, bytesAfter, outputAfter, openAnswer, openBytes};
 ghost use Rattle.register.specs.Register.{openedAnswer, releasedAnswer, withdrawnAnswer, recordAnswer};
-ghost use Rattle.staging.specs.Stage.{stageOf};
-ghost use Rattle.staging.specs.Tests.{stagedAnswer};
+ghost use Rattle.stages.specs.Stage.{stageOf};
+ghost use Rattle.staging.specs.Room.{stagedAnswer};
 ghost use Rattle.desk.specs.Desk.{replyOf, dateOf};
 
 /// Whether a buffer is a register.

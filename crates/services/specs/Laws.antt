@@ -15,6 +15,7 @@ use Rattle.answers.specs.Laws.{refused≢done, one-case}
 use Rattle.syntax.specs.Bytes.{plain}
 use Rattle.syntax.specs.Pieces.{partOf}
 use Rattle.syntax.specs.Segment.{bodyAt}
+use Rattle.parts.specs.declared.Part.{Part}
 use Rattle.parts.specs.Places.{bytesOf}
 use Rattle.parts.specs.Located.{part-bytes}
 use Rattle.services.specs.declared.Service.{Service}
@@ -32,6 +33,10 @@ pub number-part : (s : List ℕ) (at : ℕ) → bytesOf s (numberOf s at) ≡ pa
 unfolding numberOf
 number-part s at =
     part-bytes s (segmentOf s at) 1 1 1 ∙ ap (λ (y : List ℕ). partOf y 1 1 1) (segment-bytes s at (at + length (bodyAt s at)) (body-end s at))
+
+-- the bytes of a segment that was found
+pub segment-body : (s : List ℕ) (at : ℕ) (p : Part) → p ≡ segmentOf s at → bytesOf s p ≡ bodyAt s at
+segment-body s at p q = ap (bytesOf s) q ∙ segment-bytes s at (at + length (bodyAt s at)) (body-end s at)
 
 -- a service has its PRD's row at least, and its rows are among the n
 pub service-rows : (rows : List ℕ) (n k : ℕ) → k < n → (k < serviceEnd rows n k) × (serviceEnd rows n k ≤ n)

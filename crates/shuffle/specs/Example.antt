@@ -36,7 +36,7 @@ use Rattle.contents.specs.Contents as contents
 use Rattle.contents.specs.Contents.{Contents, good}
 use Rattle.contents.specs.Written.{written}
 use Rattle.contents.specs.Calls.{lookup, changed, pendingCount, released, releaseOf, withdrawOf, viewOf, withRecords}
-use Rattle.staging.specs.Stage.{firstOutside, daysOf, entry, enterKnown, enter, enterAll, stageOf}
+use Rattle.stages.specs.Stage.{firstOutside, daysOf, entry, enterKnown, enter, enterAll, stageOf}
 use Rattle.shuffle.specs.Calls.{replies}
 use Rattle.shuffle.specs.Register.{Ask, stage, release, withdraw, Reply, called}
 use Rattle.shuffle.specs.InContents.{inContents}

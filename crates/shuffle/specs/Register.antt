@@ -8,7 +8,7 @@ use mathlib.Core.List.{List, []}
 use Rattle.answers.specs.Answers.{Answer}
 use Rattle.contents.specs.Contents.{Record}
 use Rattle.contents.specs.Calls.{View, releaseOf, withdrawOf, showAnswer, showBytes, answerOn, bytesAfter, outputAfter}
-use Rattle.staging.specs.Stage.{stageOf}
+use Rattle.stages.specs.Stage.{stageOf}
 
 -- which of the four, with its arguments: an interchange; a number; the number of a record and the output as it is lent
 pub data Ask : Type 0 where

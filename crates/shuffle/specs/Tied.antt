@@ -1,21 +1,16 @@
--- The calls of a run are the public functions: the answer and the bytes that a function's contract permits are those of the call.
+-- The calls of a run are the public functions: the answer and the bytes that a function's contract permits are those of the call. `a` is
+-- what its contract answers: `stagedAnswer`, `releasedAnswer`, `withdrawnAnswer` or `recordAnswer` of its result.
 -- Assumes nothing.
-use mathlib.Core.Path.{_≡_, refl, sym, _∙_}
-use mathlib.Core.Bool.{true, false}
+use mathlib.Core.Path.{_≡_}
 use mathlib.Core.List.{List, []}
 use Prim.Native.Nat.{ℕ}
-use Rattle.laws.specs.Choice.{pick, both, choose}
+use Rattle.laws.specs.Choice.{both, choose}
+use Rattle.answers.specs.Answers.{Answer}
 use Rattle.contents.specs.Written.{isRegister}
-use Rattle.contents.specs.Calls.{View, releaseOf, withdrawOf, showAnswer, showBytes, isAccount, answerOn, bytesAfter, outputAfter}
+use Rattle.contents.specs.Calls.{releaseOf, withdrawOf, showAnswer, showBytes, isAccount, answerOn, bytesAfter, outputAfter}
 use Rattle.rooms.specs.Views.{written-back}
-use Rattle.register.specs.declared.Released.{Released}
-use Rattle.register.specs.declared.Withdrawn.{Withdrawn}
-use Rattle.register.specs.declared.Shown.{Shown}
-use Rattle.register.specs.Register.{releasedAnswer, withdrawnAnswer, recordAnswer}
-use Rattle.staging.specs.declared.Staged.{Staged}
-use Rattle.staging.specs.Stage.{stageOf}
-use Rattle.staging.specs.Tests.{stagedAnswer}
-use Rattle.shuffle.specs.Register.{Ask, stage, release, withdraw, show, called}
+use Rattle.stages.specs.Stage.{stageOf}
+use Rattle.shuffle.specs.Register.{stage, release, withdraw, show, called}
 
 -- a call that lends no output has none afterwards
 no-output : (b : List ℕ) (account : ℕ) → outputAfter b account [] (λ v. []) ≡ []
@@ -31,22 +26,22 @@ same-register b account =
     (λ p. rw p)
 
 module _ (b : List ℕ) (account : ℕ) where
-  pub stage-is : (s after : List ℕ) (r : Staged) → stagedAnswer r ≡ answerOn b account (λ v. stageOf s v .answer) → after ≡ bytesAfter b account (λ v. stageOf s v .records)
-      → called b (account, stage s) ≡ (after, record { answer = stagedAnswer r; output = [] })
+  pub stage-is : (s after : List ℕ) (a : Answer ℕ) → a ≡ answerOn b account (λ v. stageOf s v .answer) → after ≡ bytesAfter b account (λ v. stageOf s v .records)
+      → called b (account, stage s) ≡ (after, record { answer = a; output = [] })
   unfolding called
-  stage-is s after r p q = rw (called, p, q, no-output b account)
+  stage-is s after a p q = rw (called, p, q, no-output b account)
 
-  pub release-is : (after : List ℕ) (r : Released) → releasedAnswer r ≡ answerOn b account (λ v. releaseOf v .answer) → after ≡ bytesAfter b account (λ v. releaseOf v .records)
-      → called b (account, release) ≡ (after, record { answer = releasedAnswer r; output = [] })
+  pub release-is : (after : List ℕ) (a : Answer ℕ) → a ≡ answerOn b account (λ v. releaseOf v .answer) → after ≡ bytesAfter b account (λ v. releaseOf v .records)
+      → called b (account, release) ≡ (after, record { answer = a; output = [] })
   unfolding called
-  release-is after r p q = rw (called, p, q, no-output b account)
+  release-is after a p q = rw (called, p, q, no-output b account)
 
-  pub withdraw-is : (x after : List ℕ) (r : Withdrawn) → withdrawnAnswer r ≡ answerOn b account (λ v. withdrawOf x v .answer) → after ≡ bytesAfter b account (λ v. withdrawOf x v .records)
-      → called b (account, withdraw x) ≡ (after, record { answer = withdrawnAnswer r; output = [] })
+  pub withdraw-is : (x after : List ℕ) (a : Answer ℕ) → a ≡ answerOn b account (λ v. withdrawOf x v .answer) → after ≡ bytesAfter b account (λ v. withdrawOf x v .records)
+      → called b (account, withdraw x) ≡ (after, record { answer = a; output = [] })
   unfolding called
-  withdraw-is x after r p q = rw (called, p, q, no-output b account)
+  withdraw-is x after a p q = rw (called, p, q, no-output b account)
 
-  pub show-is : (k : ℕ) (out after : List ℕ) (r : Shown) → recordAnswer r ≡ answerOn b account (showAnswer k out) → after ≡ outputAfter b account out (showBytes k out)
-      → called b (account, show k out) ≡ (b, record { answer = recordAnswer r; output = after })
+  pub show-is : (k : ℕ) (out after : List ℕ) (a : Answer ℕ) → a ≡ answerOn b account (showAnswer k out) → after ≡ outputAfter b account out (showBytes k out)
+      → called b (account, show k out) ≡ (b, record { answer = a; output = after })
   unfolding called
-  show-is k out after r p q = rw (called, p, q, same-register b account)
+  show-is k out after a p q = rw (called, p, q, same-register b account)

@@ -9,20 +9,22 @@ use lib.Dec.{eqb, leb}
 use borrow.Author.Tests.{le-leb, lt-leb, leb-true, leb-false}
 use borrow.Rule.Slice.PartMut.{midOf, putMid}
 use lib.ListN.{length, getD}
-use Rattle.laws.specs.Choice.{pick, both, choose}
+use Rattle.laws.specs.Choice.{choose}
 use Rattle.answers.specs.Answers.{Answer, done, refused, notRegister, badAccount}
 use Rattle.slots.specs.Slots.{slotsOf, length-slots}
 use Rattle.slots.specs.Rising.{leading}
 use Rattle.interchange.specs.Reader.{Verdict, accepted, readingOf, numbers}
 use Rattle.services.specs.Services.{servicesOf}
-use Rattle.contents.specs.Contents.{Record, goodAccount}
+use Rattle.contents.specs.Contents.{Record}
 use Rattle.contents.specs.Written.{roomBytes, written, held, isRegister}
 use Rattle.contents.specs.Calls.{View, Called, refusal, isAccount, viewOf, withRecords, answerOn, bytesAfter}
 use Rattle.rooms.specs.Views.{roomStart, roomEnd, view-good, written-back, lent-is, lent-back}
-use Rattle.staging.specs.declared.Totals.{Totals}
-use Rattle.staging.specs.Stage.{stageServices, stageBy, stageOf}
-use Rattle.staging.specs.Room.{removesIn, putsIn, roomTests, roomFits, roomAnswer, roomAfter}
-use Rattle.staging.specs.Staged.{reading-named, staged-room}
+use Rattle.service_tests.specs.declared.Totals.{Totals}
+use Rattle.stages.specs.Stage.{stageServices, stageBy, stageOf}
+use Rattle.service_entries.specs.Room.{removesIn, putsIn}
+use Rattle.staging.specs.Room.{roomTests, roomFits, roomAnswer, roomAfter}
+use Rattle.staging.specs.Staged.{staged-room}
+use Rattle.stages.specs.Kept.{reading-named}
 
 -- ---- 15
 

@@ -1,15 +1,14 @@
 -- A reading has few rows, since each segment takes four bytes: 45,000 numbers hold the rows of any interchange, and 17 cannot come.
 -- Assumes nothing.
-use Prim.Native.Nat.{ℕ, zero, suc, _+_, _*_, _≤_, _<_}
+use Prim.Native.Nat.{ℕ, zero, suc, _+_, _*_, _≤_}
 use mathlib.Core.Path.{_≡_, refl, sym, ap, _∙_}
-use mathlib.Core.Bool.{true, false}
-use mathlib.Core.List.{List, [], _∷_, _++_}
+use mathlib.Core.List.{List}
 use native.Mathlib.Omega.{arith}
 use lib.Dec.{eqb, ltb}
-use borrow.Author.Tests.{ltb-true, ltb-false, le-ltb}
+use borrow.Author.Tests.{ltb-false, le-ltb}
 use lib.ListN.{length, take, drop}
 use lib.Seq.{take-at}
-use Rattle.laws.specs.Choice.{pick, either, choose, either-parts}
+use Rattle.laws.specs.Choice.{choose, either-parts}
 use Rattle.laws.specs.Lists.{over}
 use Rattle.answers.specs.Answers.{Answer, done, refused}
 use Rattle.answers.specs.Laws.{refused≢done, done≢refused, done-is}
@@ -26,6 +25,7 @@ use Rattle.interchange.specs.Reader.{Outcome, Verdict, accepted, isClosed, dial
 use Rattle.interchange.specs.Offsets.{turn-on}
 use Rattle.interchange.specs.Turns.{turn-is}
 use Rattle.interchange.specs.Laws.{length-numbers}
+use Rattle.service_tests.specs.Passed.{refused-again}
 
 module _ (s : List ℕ) where
   -- the rows from an offset on, at four bytes each
@@ -80,13 +80,6 @@ pub record Rows (s : List ℕ) (n : ℕ) (after : List ℕ) : Type 0 where
   pub accepts : readingOf s .verdict ≡ accepted
   pub count : length (readingOf s .rows) ≡ n
   pub front : take (3 * n) after ≡ numbers (readingOf s .rows)
-
--- a refusal is the same whatever would have been done
-pub refused-again : (A : Type 0) (B : Type 0) (m at k to : ℕ) → _≡_ {A = Answer A} (refused m at) (refused k to) → _≡_ {A = Answer B} (refused m at) (refused k to)
-refused-again A B m at k to q =
-    let e : m ≡ k = cc in
-    let f : at ≡ to = cc in
-    rw (e, f)
 
 module _ (rows : List Row) (lent : List ℕ) (enough : 3 * length rows ≤ length lent) where
   refused-by : (m at : ℕ) (v : Verdict) → answerBy rows (length lent) v ≡ refused m at → v ≡ refused m at

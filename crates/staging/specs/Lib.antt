@@ -1,13 +1,7 @@
-pub mod Stage
-pub mod Changing
-pub mod Tests
 pub mod Passes
 pub mod Together
-pub mod Passed
-pub mod Permitted
+pub mod Ends
 pub mod Few
 pub mod Room
-pub mod Ways
-pub mod Rooms
 pub mod Staged
 pub mod Closing

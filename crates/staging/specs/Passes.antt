@@ -1,14 +1,13 @@
 -- What the services make of the records: in order, and all removals before all puts.
 -- Assumes nothing.
 use Prim.Native.Nat.{ℕ}
-use mathlib.Core.Bool.{Bool, true, false}
 use mathlib.Core.List.{List, [], _∷_}
 use Rattle.laws.specs.Choice.{pick}
 use Rattle.services.specs.declared.Service.{Service}
 use Rattle.services.specs.Services.{periodsOf}
 use Rattle.contents.specs.Contents.{Record}
 use Rattle.contents.specs.Calls.{changed}
-use Rattle.staging.specs.Stage.{numberIn, daysOf, removed, putOver, entry}
+use Rattle.stages.specs.Stage.{numberIn, daysOf, removed, putOver, entry}
 
 -- the services in order
 unfoldable pub entered : ℕ → List ℕ → List ℕ → List Service → List Record → List Record

@@ -1,90 +1,27 @@
--- What the code finds in a room and makes of it, on any bytes. docs/REGISTER.md has the offsets in a slot.
+-- Staging in a room, on any bytes: the tests, 15, then all removals and all puts.
 -- Assumes nothing.
-use Prim.Native.Nat.{ℕ, _+_, _*_, _/_}
-use mathlib.Core.Bool.{Bool, not}
-use mathlib.Core.List.{List, [], _∷_}
-use lib.Dec.{eqb, leb, ltb}
-use lib.ListN.{length, getD, replicate}
+use Prim.Native.Nat.{ℕ, _+_, _/_}
+use mathlib.Core.Bool.{Bool}
+use mathlib.Core.List.{List}
+use lib.Dec.{leb}
+use lib.ListN.{length}
 use Rattle.laws.specs.Choice.{pick}
-use Rattle.laws.specs.Lists.{over}
-use Rattle.answers.specs.Answers.{Answer, done, refused, overQuota}
-use Rattle.dates.specs.Text.{putAt}
-use Rattle.slots.specs.declared.Found.{Found}
-use Rattle.slots.specs.declared.Found.the-variants.{At, Gap}
+use Rattle.answers.specs.Answers.{Answer, done, refused, notRegister, badAccount, overQuota}
 use Rattle.slots.specs.Slots.{slotsOf}
 use Rattle.slots.specs.Rising.{leading}
-use Rattle.slots.specs.Find.{findOf}
-use Rattle.gaps.specs.Move.{closedIn, insertedIn}
-use Rattle.services.specs.declared.Service.{Service}
-use Rattle.services.specs.Services.{periodsOf, servicesOf}
-use Rattle.staging.specs.declared.Totals.{Totals}
-use Rattle.staging.specs.declared.Known.{Known}
-use Rattle.staging.specs.declared.Known.the-variants as known
-use Rattle.staging.specs.Stage.{numberIn, daysOf}
-use Rattle.staging.specs.Tests.{testAll, noTotals}
+use Rattle.services.specs.Services.{servicesOf}
+use Rattle.service_entries.specs.Room.{lookAt, removesIn, putsIn}
+use Rattle.service_tests.specs.declared.Totals.{Totals}
+use Rattle.service_tests.specs.Tests.{testAll, noTotals}
+use Rattle.staging.specs.declared.Staged.{Staged}
+use Rattle.staging.specs.declared.Staged.the-variants as staged
 
--- a number as it stands in a slot: ten bytes; one that is longer has none there
-unfoldable pub numberBytes : List ℕ → List ℕ
-numberBytes x = pick (ltb 10 (length x)) (replicate 10 0) (over x (replicate 10 0))
-
--- the flags of the slot at an index
-unfoldable pub knownAt : List ℕ → ℕ → Known
-knownAt room at = known.Record (not (eqb (getD room (at + 10) 0) 0)) (eqb (getD room (at + 75) 0) 2)
-
-abbrev pub knownBy : List ℕ → Found → Known
-knownBy room (At k) = knownAt room (k * 140)
-knownBy room (Gap k) = known.Nothing
-
--- what a room holds of a number
-unfoldable pub lookAt : List ℕ → List ℕ → Known
-lookAt room x = knownBy room (findOf room (numberBytes x))
-
--- a pending put: its flag, and its calendar
-abbrev pub putEntry : List ℕ → List ℕ
-putEntry days = 1 ∷ days
-
-abbrev pub removalEntry : List ℕ
-removalEntry = 2 ∷ replicate 64 0
-
--- the slot of a number with no live calendar
-unfoldable pub newSlot : List ℕ → List ℕ → List ℕ
-newSlot x entry = putAt (putAt (replicate 140 0) 0 x) 75 entry
-
--- a put: the pending entry of the number's slot, or a new slot in its place
-abbrev pub putBy : List ℕ → List ℕ → List ℕ → Found → List ℕ
-putBy room x entry (At k) = putAt room (k * 140 + 75) entry
-putBy room x entry (Gap k) = insertedIn room (k * 140) (newSlot x entry)
-
-unfoldable pub putIn : List ℕ → List ℕ → List ℕ → List ℕ
-putIn room x entry = putBy room x entry (findOf room x)
-
--- a removal: pending where there is a live calendar; else the slot goes
-unfoldable pub removeAt : List ℕ → ℕ → List ℕ
-removeAt room at = pick (eqb (getD room (at + 10) 0) 0) (closedIn room at 140) (putAt room (at + 75) removalEntry)
-
-abbrev pub removeBy : List ℕ → Found → List ℕ
-removeBy room (At k) = removeAt room (k * 140)
-removeBy room (Gap k) = room
-
-unfoldable pub removeIn : List ℕ → List ℕ → List ℕ
-removeIn room x = removeBy room (findOf room x)
-
--- one service after the other
-abbrev pub removeBytes : List ℕ → Service → List ℕ → List ℕ
-removeBytes s v room = pick (v .removal) (removeIn room (numberBytes (numberIn s v))) room
-
-abbrev pub putBytes : ℕ → List ℕ → List ℕ → Service → List ℕ → List ℕ
-putBytes first s rows v room = pick (v .removal) room (putIn room (numberBytes (numberIn s v)) (putEntry (daysOf first s (periodsOf rows v))))
-
-unfoldable pub removesIn : List ℕ → List Service → List ℕ → List ℕ
-removesIn s [] room = room
-removesIn s (v ∷ vs) room = removesIn s vs (removeBytes s v room)
-
-unfoldable pub putsIn : ℕ → List ℕ → List ℕ → List Service → List ℕ → List ℕ
-putsIn first s rows [] room = room
-putsIn first s rows (v ∷ vs) room = putsIn first s rows vs (putBytes first s rows v room)
-
--- ---- staging on a room: the tests, 15, then all removals and all puts
+-- "What each number means"
+abbrev pub stagedAnswer : Staged → Answer ℕ
+stagedAnswer (staged.Done n) = done n
+stagedAnswer staged.NotRegister = notRegister
+stagedAnswer staged.NoAccount = badAccount
+stagedAnswer (staged.Refused x) = refused (x .number) (x .position)
 
 abbrev pub roomTests : List ℕ → ℕ → List ℕ → List ℕ → ℕ → Answer Totals
 roomTests room first s rows n = testAll first s rows (lookAt room) (servicesOf s rows n) noTotals

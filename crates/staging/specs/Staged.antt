@@ -1,72 +1,38 @@
 -- Staging on a room of good records is staging on the records, and what it leaves is good.
 -- Assumes nothing.
-use Prim.Native.Nat.{ℕ, zero, suc, _+_, _-_, _*_, _/_, _≤_, _<_}
-use mathlib.Core.Path.{_≡_, refl, sym, ap, _∙_}
-use mathlib.Core.Bool.{Bool, true, false, not}
+use Prim.Native.Nat.{ℕ, _+_, _-_, _/_, _≤_}
+use mathlib.Core.Path.{_≡_, refl, ap, _∙_}
+use mathlib.Core.Bool.{true, false}
 use mathlib.Core.List.{List, [], _∷_}
 use native.Mathlib.Omega.{arith}
 use lib.Dec.{leb}
-use borrow.Author.Tests.{not-false, leb-true}
+use borrow.Author.Tests.{leb-true}
 use lib.ListN.{length}
-use Rattle.laws.specs.Choice.{pick, both, all, choose, both-parts}
+use Rattle.laws.specs.Choice.{choose}
 use Rattle.answers.specs.Answers.{Answer, done, refused}
-use Rattle.syntax.specs.Bytes.{permittedOf, plain}
-use Rattle.parts.specs.Places.{bytesOf}
 use Rattle.slots.specs.Slots.{slotsOf}
 use Rattle.slots.specs.Rising.{leading}
-use Rattle.interchange.specs.Reader.{readingOf, numbers}
-use Rattle.interchange.specs.Laws.{length-numbers}
 use Rattle.services.specs.declared.Service.{Service}
-use Rattle.services.specs.Rows.{rowCount, listOf}
-use Rattle.services.specs.Services.{isService, serviceAt, periodsOf, numberFits, periodsFit, hasPeriod, isWrong, isTwice, servicesOf}
+use Rattle.services.specs.Services.{periodsOf, isWrong, servicesOf}
 use Rattle.contents.specs.Contents.{Record, goodNumber, inOrder, goodAccount}
 use Rattle.contents.specs.Written.{roomBytes}
 use Rattle.contents.specs.Calls.{View, Called, lookup, changed}
 use Rattle.rooms.specs.Slots.{length-room, account-fits, account-records, account-order}
 use Rattle.rooms.specs.Changed.{changed-length}
 use Rattle.rooms.specs.Places.{used-in-room}
-use Rattle.staging.specs.declared.Totals.{Totals}
-use Rattle.staging.specs.declared.Known.{Known}
-use Rattle.staging.specs.Stage.{numberIn, firstOutside, daysOf, removed, putOver, stageServices}
-use Rattle.staging.specs.Changing.{order}
-use Rattle.staging.specs.Tests.{testKnown, testInside, testOne, thenTest, testAll, noTotals}
-use Rattle.staging.specs.Passes.{removeOne, putOne, removeAll, putAll}
-use Rattle.staging.specs.Together.{put-keeps, lookIn}
-use Rattle.staging.specs.Passed.{Pass, passed-first, passed-size, closeTotals, stage-totals}
-use Rattle.staging.specs.Permitted.{number-permitted, days-calendar}
-use Rattle.staging.specs.Room.{lookAt, removeBytes, putBytes, removesIn, putsIn, roomTests, roomFits, roomAnswer, roomAfter}
-use Rattle.staging.specs.Rooms.{put-count, look-room, remove-room, removed-account, put-room-of, put-account}
-
--- ---- the numbers of services that pass 11 are good numbers
-
-abbrev pub Named : List ℕ → List ℕ → List Service → Type 0
-Named s rows [] = Unit {0}
-Named s rows (v ∷ vs) = (isWrong s rows v ≡ false → goodNumber (numberIn s v) ≡ true) × Named s rows vs
-
-right-number : (s rows : List ℕ) (v : Service) → all permittedOf (numberIn s v) ≡ true → isWrong s rows v ≡ false → goodNumber (numberIn s v) ≡ true
-unfolding isWrong goodNumber
-right-number s rows v p q =
-    let n : ℕ = length (plain (bytesOf s (v .number))) in
-    let f : Bool = periodsFit (v .removal) (hasPeriod rows (v .from) (v .to)) in
-    let w = both-parts (numberFits n) f (not-false (both (numberFits n) f) q) in
-    rw (w .0, p)
-
-module _ (s : List ℕ) (n : ℕ) where
-  abbrev rows : List ℕ
-  rows = numbers (readingOf s .rows)
-
-  named-from : (k i : ℕ) → i + k ≤ length (readingOf s .rows) → Named s (numbers (readingOf s .rows)) (listOf (isService (numbers (readingOf s .rows))) (serviceAt s (numbers (readingOf s .rows)) n) k i)
-  unfolding listOf
-  named-from zero i h = tt
-  named-from (suc k) i h =
-      choose (isService rows i)
-      (λ q. rw q (right-number s rows (serviceAt s rows n i) (number-permitted s n i (omega arith)), named-from k (i + 1) (omega arith)))
-      (λ q. rw q (named-from k (i + 1) (omega arith)))
-
-pub reading-named : (s : List ℕ) (m : ℕ) → Named s (numbers (readingOf s .rows)) (servicesOf s (numbers (readingOf s .rows)) m)
-reading-named s m =
-    let l = length-numbers (readingOf s .rows) in
-    named-from s (rowCount (numbers (readingOf s .rows)) m) (rowCount (numbers (readingOf s .rows)) m - 0) 0 (omega arith)
+use Rattle.service_tests.specs.declared.Totals.{Totals}
+use Rattle.service_entries.specs.declared.Known.{Known}
+use Rattle.stages.specs.Stage.{numberIn, daysOf, removed, putOver, stageServices}
+use Rattle.stages.specs.Changing.{order, put-keeps}
+use Rattle.service_tests.specs.Tests.{testOne, thenTest, testAll, noTotals}
+use Rattle.staging.specs.Passes.{removeAll, putAll}
+use Rattle.service_tests.specs.Passed.{passed-first}
+use Rattle.staging.specs.Ends.{passed-size, closeTotals, stage-totals}
+use Rattle.stages.specs.Permitted.{days-calendar}
+use Rattle.stages.specs.Kept.{Named}
+use Rattle.service_entries.specs.Room.{lookIn, lookAt, removesIn, putsIn}
+use Rattle.staging.specs.Room.{roomTests, roomFits, roomAnswer, roomAfter}
+use Rattle.service_entries.specs.Rooms.{put-count, look-room, remove-room, removed-account, put-room-of, put-account}
 
 -- ---- the tests on the room are those on the records
 

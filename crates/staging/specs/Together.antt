@@ -2,50 +2,28 @@
 -- are tests of the start, and removals may all come before puts.
 -- Assumes nothing.
 use Prim.Native.Nat.{ℕ, zero, suc, _+_, _-_, _/_, _≤_, _<_}
-use mathlib.Core.Path.{_≡_, refl, sym, ap, _∙_}
-use mathlib.Core.Bool.{Bool, true, false}
-use mathlib.Core.List.{List, [], _∷_}
+use mathlib.Core.Path.{_≡_, refl, _∙_}
+use mathlib.Core.Bool.{true, false}
+use mathlib.Core.List.{List}
 use mathlib.Core.Option.{Option, none, some}
 use native.Mathlib.Omega.{arith}
 use lib.ListN.{length}
-use Rattle.laws.specs.Choice.{pick, both, choose, false≢true}
+use Rattle.laws.specs.Choice.{both, choose}
 use Rattle.answers.specs.Answers.{Answer, done, refused}
 use Rattle.syntax.specs.Bytes.{plain}
 use Rattle.parts.specs.Places.{bytesOf}
 use Rattle.values.specs.Values.{sameText}
 use Rattle.services.specs.declared.Service.{Service}
-use Rattle.services.specs.Rows.{offsetAt, rowCount, listOf, some-none}
-use Rattle.services.specs.Services.{isService, numberOf, serviceAt, periodsOf, isWrong, isSame, saysNumber, isTwice}
+use Rattle.services.specs.Rows.{rowCount, listOf, some-none}
+use Rattle.services.specs.Services.{isService, serviceAt, periodsOf, isWrong, isSame, saysNumber, isTwice}
 use Rattle.contents.specs.Contents.{Record, inOrder}
 use Rattle.contents.specs.Calls.{lookup, changed}
-use Rattle.staging.specs.declared.Totals.{Totals}
-use Rattle.staging.specs.declared.Known.{Known}
-use Rattle.staging.specs.Stage.{numberIn, firstOutside, isUnknown, daysOf, removedBy, removed, putOver, entry, enterKnown, enterInside, enter, andThen, enterAll}
-use Rattle.rooms.specs.Listed.{Keeps}
-use Rattle.staging.specs.Changing.{KeepsNumber, other, order}
-use Rattle.staging.specs.Tests.{knownOf, unknownBy, counted, testKnown, testInside, testOne, thenTest, testAll}
+use Rattle.service_tests.specs.declared.Totals.{Totals}
+use Rattle.stages.specs.Stage.{numberIn, firstOutside, isUnknown, entry, enterKnown, enterInside, enter, andThen, enterAll}
+use Rattle.stages.specs.Changing.{other, order, entry-keeps}
+use Rattle.service_entries.specs.Room.{knownOf, lookIn}
+use Rattle.service_tests.specs.Tests.{unknownBy, testKnown, testInside, testOne, thenTest, testAll}
 use Rattle.staging.specs.Passes.{entered}
-
--- each change keeps the number
-pub removed-keeps : (x : List ℕ) → KeepsNumber x removed
-removed-keeps x none h = tt
-removed-keeps x (some r) h = by-live (r .live)
-  where
-    by-live : (l : Option (List ℕ)) → Keeps x (removedBy r l)
-    by-live none = tt
-    by-live (some c) = h
-
-pub put-keeps : (x c : List ℕ) → KeepsNumber x (putOver x c)
-put-keeps x c none h = refl
-put-keeps x c (some r) h = h
-
-pub entry-keeps : (first : ℕ) (s rows : List ℕ) (v : Service) → KeepsNumber (numberIn s v) (entry first s rows v)
-unfolding entry
-entry-keeps first s rows v = by-kind (v .removal)
-  where
-    by-kind : (b : Bool) → KeepsNumber (numberIn s v) (pick b removed (putOver (numberIn s v) (daysOf first s (periodsOf rows v))))
-    by-kind true = removed-keeps (numberIn s v)
-    by-kind false = put-keeps (numberIn s v) (daysOf first s (periodsOf rows v))
 
 unknown-same : (o : Option Record) → isUnknown o ≡ unknownBy (knownOf o)
 unfolding knownOf
@@ -73,10 +51,6 @@ Unsaid s rows x i = (j : ℕ) → j < i → isSame s rows x j ≡ false
 -- of the numbers that no service before row i has, the records say what they said at the start
 abbrev pub Alike : List ℕ → List ℕ → List Record → ℕ → List Record → Type 0
 Alike s rows start i rs = (x : List ℕ) → Unsaid s rows x i → lookup (plain x) rs ≡ lookup (plain x) start
-
--- what an account with these records holds of a number
-abbrev pub lookIn : List Record → List ℕ → Known
-lookIn rs x = knownOf (lookup x rs)
 
 -- the services of k rows from row i on, of n rows
 abbrev pub servicesIn : List ℕ → List ℕ → ℕ → ℕ → ℕ → List Service

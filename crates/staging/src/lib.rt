@@ -1,27 +1,25 @@
 //! Staging an interchange: its services enter an account's pending entries, all of them or none (document 01, "The register").
 
-pub mod room;
-pub mod tests;
-
-use crate::room::put_all;
-use crate::room::remove_all;
-use crate::tests::test_all;
 use checking::is_register;
 use interchange::reader::Reading;
 use interchange::reader::read;
 use rooms::first_day;
 use rooms::room_end;
 use rooms::room_start;
+use service_entries::put_all;
+use service_entries::remove_all;
+use service_tests::Tested;
+use service_tests::Totals;
+use service_tests::test_all;
 use syntax::segment::Refusal;
 ghost use mathlib.Core.Path.{_≡_};
 ghost use mathlib.Core.Bool.{true};
 ghost use lib.ListN.{length};
 ghost use Rattle.contents.specs.Written.{isRegister};
 ghost use Rattle.contents.specs.Calls.{isAccount, answerOn, bytesAfter};
-ghost use Rattle.staging.specs.Stage.{stageOf};
-ghost use Rattle.staging.specs.Tests.{stagedAnswer};
+ghost use Rattle.stages.specs.Stage.{stageOf};
 ghost use Rattle.staging.specs.Few.{Rows};
-ghost use Rattle.staging.specs.Room.{roomTests, roomFits, roomAnswer, roomAfter};
+ghost use Rattle.staging.specs.Room.{stagedAnswer, roomTests, roomFits, roomAnswer, roomAfter};
 
 const SLOT: usize = 140;
 
@@ -35,30 +33,6 @@ pub enum Staged {
     NoAccount,
     /// What the reader or a service's test refuses, or the quota.
     Refused(Refusal),
-}
-
-/// What the services of an interchange come to.
-pub struct Totals {
-    /// How many there are.
-    pub services: usize,
-    /// How many records they add to the account's.
-    pub added: usize,
-    /// How many records they drop.
-    pub dropped: usize,
-}
-
-/// What the tests of the services come to.
-pub enum Tested {
-    Passed(Totals),
-    /// The first that is refused: 11, 12, 13 or 14.
-    Refused(Refusal),
-}
-
-/// What an account holds of a number.
-pub enum Known {
-    Nothing,
-    /// A record: whether it has a live calendar, and whether its removal is pending.
-    Record(bool, bool),
 }
 
 // 15: whether a room holds the records that the services leave in the end.

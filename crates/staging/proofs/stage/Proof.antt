@@ -4,7 +4,7 @@ use mathlib.Core.Path.{sym, _∙_}
 use borrow.Author.Needs.{needs}
 use borrow.Author.Tests.{not-true, not-false}
 use denote.Ref.{now}
-use Rattle.staging.specs.Stage.{stageOf}
+use Rattle.stages.specs.Stage.{stageOf}
 use Rattle.staging.specs.Closing.{not-register, no-account, account-low, account-high, account-some}
 use Rattle.staging.proofs.stage.Statement.{statement}
 use Rattle.staging.proofs.stage.Tie as tie

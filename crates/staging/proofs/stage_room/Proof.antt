@@ -4,7 +4,7 @@ use mathlib.Core.Path.{sym, ap, _∙_}
 use borrow.Author.Needs.{needs}
 use borrow.Author.Tests.{not-true, not-false}
 use denote.Ref.{now}
-use Rattle.staging.specs.Tests.{testedAnswer}
+use Rattle.service_tests.specs.Tests.{testedAnswer}
 use Rattle.staging.specs.Closing.{room-refused, room-over, room-done}
 use Rattle.staging.proofs.stage_room.Statement.{statement}
 use Rattle.staging.proofs.stage_room.Tie as tie

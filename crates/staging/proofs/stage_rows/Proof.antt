@@ -8,7 +8,7 @@ use denote.Ref.{now}
 use lib.ListN.{take}
 use lib.Seq.{length-take-le}
 use Rattle.rooms.specs.Views.{room-from, room-within}
-use Rattle.staging.specs.Tests.{stagedAnswer}
+use Rattle.staging.specs.Room.{stagedAnswer}
 use Rattle.staging.specs.Few.{few-rows}
 use Rattle.staging.specs.Closing.{rows-staged}
 use Rattle.staging.proofs.stage_rows.Statement.{statement}

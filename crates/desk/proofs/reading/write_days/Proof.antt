@@ -1,13 +1,13 @@
 use mathlib.Core.Path.{sym, ap, _∙_}
 use mathlib.Core.Option.{Option}
 use Prim.Native.Nat.{ℕ}
-use Rattle.staging.specs.Tests.{windowFound}
+use Rattle.service_tests.specs.Tests.{windowFound}
 use Rattle.desk.specs.Desk.{replyOf}
 use Rattle.desk.specs.Days.{insideAnswer, days-inside, days-outside}
 use denote.Ref.{now}
 use Rattle.services.specs.Services.{periodsFrom}
-use Rattle.staging.specs.Stage.{firstOutside, daysOf}
-use Rattle.staging.specs.Permitted.{days-calendar}
+use Rattle.stages.specs.Stage.{firstOutside, daysOf}
+use Rattle.stages.specs.Permitted.{days-calendar}
 use Rattle.rooms.specs.Slots.{calendar-length}
 use borrow.Author.Needs.{needs}
 use Rattle.desk.proofs.reading.write_days.Statement.{statement}
@@ -17,8 +17,8 @@ use Rattle.desk.proofs.reading.write_days.Lts as lts
 use Rattle.dates.proofs.put_bytes.Reads as put-bytes-reads
 use Rattle.desk.proofs.done.Reads as done-reads
 use Rattle.desk.proofs.refused.Reads as refused-reads
-use Rattle.staging.proofs.room.days_of.Reads as days-of-reads
-use Rattle.staging.proofs.tests.test_window.Reads as test-window-reads
+use Rattle.service_entries.proofs.days_of.Reads as days-of-reads
+use Rattle.service_tests.proofs.test_window.Reads as test-window-reads
 
 -- src/reading.rt:96:11
 test-window-requires : tie.Need-test-window-requires

@@ -1,6 +1,6 @@
 use mathlib.Core.Path.{sym, ap, _∙_}
 use Rattle.staging.specs.declared.Staged.{Staged}
-use Rattle.staging.specs.Tests.{stagedAnswer}
+use Rattle.staging.specs.Room.{stagedAnswer}
 use Rattle.desk.specs.Desk.{replyOf}
 use borrow.Author.Needs.{needs}
 use Rattle.desk.proofs.registers.staged.Statement.{statement}

@@ -1,0 +1,210 @@
+//! What an account's room holds of a number, and what a service makes of it: on any bytes.
+
+use joining::join_period;
+use parts::Part;
+use parts::bytes_of;
+use services::Found;
+use services::FoundPeriod;
+use services::Service;
+use services::next_period;
+use services::next_service;
+use services::segment_at;
+ghost use mathlib.Core.Path.{_≡_};
+ghost use mathlib.Core.List.{_∷_, map};
+ghost use Prim.Native.Nat.{_+_, _≤_};
+ghost use lib.ListN.{length};
+ghost use Rattle.syntax.specs.Bytes.{plain};
+ghost use Rattle.syntax.specs.Segment.{bodyAt};
+ghost use Rattle.parts.specs.Places.{bytesOf};
+ghost use Rattle.joining.specs.Joined.{joinAll};
+ghost use Rattle.services.specs.Services.{periodsFrom, servicesOf};
+ghost use Rattle.stages.specs.Stage.{daysOf};
+ghost use Rattle.service_entries.specs.Room.{numberBytes, knownAt, lookAt, newSlot, putIn, removeAt, removeIn, removeBytes, putBytes, removesIn, putsIn};
+
+const SLOT: usize = 140;
+
+// Where a slot has its live flag and its pending flag, each with a calendar behind it.
+const LIVE: usize = 10;
+
+const PENDING: usize = 75;
+
+/// What an account holds of a number.
+pub enum Known {
+    Nothing,
+    /// A record: whether it has a live calendar, and whether its removal is pending.
+    Record(bool, bool),
+}
+
+// The number of a service after release, as it stands in a slot.
+fn number_of(s: &[u8], part: Part) -> [u8; 10]
+    ensures { λ r. ⌜ r ≡ numberBytes (plain (bytesOf (now (s .entry)) part)) ⌝ }
+{
+    let mut number = [0u8; 10];
+    values::copy_plain(bytes_of(s, part), &mut number);
+    number
+}
+
+// The flags of the slot at an index.
+fn known_at(room: &[u8], at: usize) -> Known
+    requires { ⌜ at + 140 ≤ length (now room) ⌝ }
+    ensures { λ r. ⌜ r ≡ knownAt (now (room .entry)) at ⌝ }
+{
+    Known::Record(room[at + LIVE] != 0, room[at + PENDING] == 2)
+}
+
+/// What a room holds of a number.
+pub fn held(room: &[u8], s: &[u8], part: Part) -> Known
+    ensures { λ r. ⌜ r ≡ lookAt (now (room .entry)) (plain (bytesOf (now (s .entry)) part)) ⌝ }
+{
+    let number = number_of(s, part);
+    match slots::find(room, &number) {
+        slots::Found::At(k) => known_at(room, k * SLOT),
+        slots::Found::Gap(_) => Known::Nothing,
+    }
+}
+
+// Joins the days of the POPs among rows into a calendar of the window.
+fn join_periods(days: &mut [u8], first: usize, s: &[u8], rows: &[u32], from: usize, to: usize)
+    ensures { λ _. ⌜ now (days .exit) ≡ joinAll (now (days .entry)) first (map (bodyAt (now (s .entry))) (periodsFrom (now (rows .entry)) from to)) ⌝ }
+{
+    let mut i = from;
+    loop {
+        match next_period(rows, i, to) {
+            FoundPeriod::Pop(k, at) => {
+                join_period(days, first, s, segment_at(s, at));
+                i = k + 1;
+            }
+            FoundPeriod::NoMore => {
+                return;
+            }
+        }
+    }
+}
+
+/// The days of the POPs among rows, over the window.
+pub fn days_of(first: usize, s: &[u8], rows: &[u32], from: usize, to: usize) -> [u8; 64]
+    ensures { λ r. ⌜ r ≡ daysOf first (now (s .entry)) (periodsFrom (now (rows .entry)) from to) ⌝ }
+{
+    let mut days = [0u8; 64];
+    join_periods(&mut days, first, s, rows, from, to);
+    days
+}
+
+// A pending entry: its flag, and its calendar.
+fn entry_of(flag: u8, days: [u8; 64]) -> [u8; 65]
+    ensures { λ r. ⌜ r ≡ flag ∷ days ⌝ }
+{
+    let mut entry = [0u8; 65];
+    entry[0] = flag;
+    dates::put_bytes(&mut entry, 1, &days);
+    entry
+}
+
+// The slot of a number with no live calendar.
+fn new_slot(number: [u8; 10], entry: [u8; 65]) -> [u8; 140]
+    ensures { λ r. ⌜ r ≡ newSlot number entry ⌝ }
+{
+    let mut slot = [0u8; 140];
+    dates::put_bytes(&mut slot, 0, &number);
+    dates::put_bytes(&mut slot, PENDING, &entry);
+    slot
+}
+
+// Sets the pending entry of a number, in its slot or in a new one.
+fn put_service(room: &mut [u8], number: [u8; 10], entry: [u8; 65])
+    ensures { λ _. ⌜ now (room .exit) ≡ putIn (now (room .entry)) number entry ⌝ }
+{
+    match slots::find(room, &number) {
+        slots::Found::At(k) => {
+            dates::put_bytes(room, k * SLOT + PENDING, &entry);
+        }
+        slots::Found::Gap(k) => {
+            let slot = new_slot(number, entry);
+            gaps::insert(room, k * SLOT, &slot);
+        }
+    }
+}
+
+// Removes the record of the slot at an index: its removal is pending where it is live, else it goes.
+fn remove_at(room: &mut [u8], at: usize)
+    requires { ⌜ at + 140 ≤ length (now room) ⌝ }
+    ensures { λ _. ⌜ now (room .exit) ≡ removeAt (now (room .entry)) at ⌝ }
+{
+    if room[at + LIVE] == 0 {
+        gaps::close_gap(room, at, SLOT);
+        return;
+    }
+    let entry = entry_of(2, [0u8; 64]);
+    dates::put_bytes(room, at + PENDING, &entry);
+}
+
+// Removes the record of a number, if there is one.
+fn remove_service(room: &mut [u8], number: [u8; 10])
+    ensures { λ _. ⌜ now (room .exit) ≡ removeIn (now (room .entry)) number ⌝ }
+{
+    match slots::find(room, &number) {
+        slots::Found::At(k) => {
+            remove_at(room, k * SLOT);
+        }
+        slots::Found::Gap(_) => {}
+    }
+}
+
+// What a service removes.
+fn remove_one(room: &mut [u8], s: &[u8], service: Service)
+    ensures { λ _. ⌜ now (room .exit) ≡ removeBytes (now (s .entry)) service (now (room .entry)) ⌝ }
+{
+    if !service.removal {
+        return;
+    }
+    let number = service.number;
+    remove_service(room, number_of(s, number));
+}
+
+// What a service puts.
+fn put_one(room: &mut [u8], first: usize, s: &[u8], rows: &[u32], service: Service)
+    ensures { λ _. ⌜ now (room .exit) ≡ putBytes first (now (s .entry)) (now (rows .entry)) service (now (room .entry)) ⌝ }
+{
+    if service.removal {
+        return;
+    }
+    let number = service.number;
+    let days = days_of(first, s, rows, service.from, service.to);
+    put_service(room, number_of(s, number), entry_of(1, days));
+}
+
+/// All removals among the services of n rows.
+pub fn remove_all(room: &mut [u8], s: &[u8], rows: &[u32], n: usize)
+    ensures { λ _. ⌜ now (room .exit) ≡ removesIn (now (s .entry)) (servicesOf (now (s .entry)) (now (rows .entry)) n) (now (room .entry)) ⌝ }
+{
+    let mut i = 0;
+    loop {
+        match next_service(s, rows, n, i) {
+            Found::At(service) => {
+                remove_one(room, s, service);
+                i = service.from + 1;
+            }
+            Found::NoMore => {
+                return;
+            }
+        }
+    }
+}
+
+/// All puts among the services of n rows.
+pub fn put_all(room: &mut [u8], first: usize, s: &[u8], rows: &[u32], n: usize)
+    ensures { λ _. ⌜ now (room .exit) ≡ putsIn first (now (s .entry)) (now (rows .entry)) (servicesOf (now (s .entry)) (now (rows .entry)) n) (now (room .entry)) ⌝ }
+{
+    let mut i = 0;
+    loop {
+        match next_service(s, rows, n, i) {
+            Found::At(service) => {
+                put_one(room, first, s, rows, service);
+                i = service.from + 1;
+            }
+            Found::NoMore => {
+                return;
+            }
+        }
+    }
+}

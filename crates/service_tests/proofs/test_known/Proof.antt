@@ -1,0 +1,68 @@
+-- `test_known` meets its contract.
+-- Assumes nothing.
+use mathlib.Core.Path.{_∙_}
+use borrow.Author.Needs.{needs}
+use denote.Ref.{now}
+use Rattle.stages.specs.Stage.{numberIn}
+use Rattle.service_entries.specs.Room.{lookAt}
+use Rattle.service_tests.specs.Ways.{known-refused, known-counted}
+use Rattle.service_tests.proofs.test_known.Statement.{statement}
+use Rattle.service_tests.proofs.test_known.Tie as tie
+
+held-requires : tie.Need-held-requires
+held-requires c κs = search needs
+
+is-unknown-requires : tie.Need-is-unknown-requires
+is-unknown-requires c κs = search needs
+
+refuse-requires : tie.Need-refuse-requires
+refuse-requires c κs = search needs
+
+returns : tie.Need-returns
+returns c =
+    let u = c .before .before in
+    let k = u .before in
+    let a = k .before .before .before .before .args in
+    c .refuse .ensures
+    ∙ known-refused (a .service .removal) (a .service .prd) (lookAt (now (a .room)) (numberIn (now (a .s)) (a .service))) (a .totals) (k .held .result) (k .held .ensures) (u .is-unknown .result) (u .is-unknown .ensures) (c .before .if1 .taken)
+
+add-t8 : tie.Need-add-t8
+add-t8 c = search needs
+
+added-by-requires : tie.Need-added-by-requires
+added-by-requires c κs = search needs
+
+add-t10 : tie.Need-add-t10
+add-t10 c = search needs
+
+dropped-by-requires : tie.Need-dropped-by-requires
+dropped-by-requires c κs = search needs
+
+add-t12 : tie.Need-add-t12
+add-t12 c = search needs
+
+returns-2 : tie.Need-returns-2
+returns-2 c =
+    let d = c .before in
+    let b = d .before .before in
+    let l = b .before .before in
+    let u = l .before in
+    let k = u .before in
+    let a = k .before .before .before .before .args in
+    known-counted (a .service .removal) (a .service .prd) (lookAt (now (a .room)) (numberIn (now (a .s)) (a .service))) (a .totals) (k .held .result) (k .held .ensures) (u .is-unknown .result) (u .is-unknown .ensures) (l .if1 .left)
+    (b .added-by .result) (d .dropped-by .result) (b .added-by .ensures .0) (d .dropped-by .ensures .0)
+
+pub test-known-spec : {M : Type 1} → statement M
+test-known-spec =
+    tie.close
+    (tie.spec
+    held-requires
+    is-unknown-requires
+    refuse-requires
+    returns
+    add-t8
+    added-by-requires
+    add-t10
+    dropped-by-requires
+    add-t12
+    returns-2)

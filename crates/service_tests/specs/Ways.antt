@@ -1,0 +1,176 @@
+-- The ways through the code, a law for each; what a call answered has a name of its own.
+-- Assumes nothing.
+use Prim.Native.Nat.{ℕ, _+_, _-_, _≤_, _<_}
+use mathlib.Core.Path.{_≡_, sym, ap, _∙_}
+use mathlib.Core.Bool.{Bool, true, false, not}
+use mathlib.Core.List.{List, [], _∷_}
+use mathlib.Core.Option.{none, some}
+use native.Mathlib.Omega.{arith}
+use lib.Dec.{ltb}
+use borrow.Author.Tests.{lt-leb, le-leb, ltb-true, ltb-false}
+use Rattle.laws.specs.Choice.{both, both-true, choose}
+use Rattle.answers.specs.Answers.{Answer, done, refused}
+use Rattle.answers.specs.Laws.{refused≢done}
+use Rattle.syntax.specs.Segment.{bodyAt}
+use Rattle.parts.specs.declared.Part.{Part}
+use Rattle.parts.specs.Places.{bytesOf}
+use Rattle.period.specs.declared.Period.{Period}
+use Rattle.period.specs.Period.{periodOf}
+use Rattle.joining.specs.Joined.{inWindow}
+use Rattle.services.specs.declared.Service.{Service}
+use Rattle.services.specs.Laws.{segment-body}
+use Rattle.services.specs.Services.{segmentOf, periodsOf, isWrong, isTwice, testedOf}
+use Rattle.service_tests.specs.declared.Totals.{Totals}
+use Rattle.service_entries.specs.declared.Known.{Known}
+use Rattle.service_entries.specs.declared.Known.the-variants as known
+use Rattle.stages.specs.Stage.{numberIn, outsideBy, firstOutside}
+use Rattle.service_tests.specs.Tests.{unknownBy, adds, drops, testKnown, testOne, testAll}
+use Rattle.service_tests.specs.Passed.{refused-again, passed}
+
+-- ---- periods and their window
+
+pub period-read : (s : List ℕ) (at : ℕ) (p : Part) (y z : Period) → p ≡ segmentOf s at → y ≡ periodOf (bytesOf s p) → y ≡ z → periodOf (bodyAt s at) ≡ z
+period-read s at p y z a b e = sym (b ∙ ap periodOf (segment-body s at p a)) ∙ e
+
+module _ (first from n : ℕ) where
+  pub past-before : from < first → true ≡ not (inWindow 512 first from n)
+  past-before h = rw (lt-leb first from h)
+
+  module _ (h : first ≤ from) where
+    pub past-long : 512 < n → true ≡ not (inWindow 512 first from n)
+    past-long k = rw (le-leb first from h, lt-leb (from - first + n) 512 (omega arith))
+
+    pub past-end : n ≤ 512 → ltb (512 - n) (from - first) ≡ not (inWindow 512 first from n)
+    past-end k =
+        choose (ltb (512 - n) (from - first))
+        (λ p. let l = ltb-true (512 - n) (from - first) p in rw (p, le-leb first from h, lt-leb (from - first + n) 512 (omega arith)))
+        (λ p. let l = ltb-false (512 - n) (from - first) p in rw (p, le-leb first from h, le-leb (from - first + n) 512 (omega arith)))
+
+module _ (first : ℕ) (s l : List ℕ) where
+  pub outside-none : l ≡ [] → none ≡ firstOutside first s l
+  unfolding firstOutside
+  outside-none e = rw e
+
+  module _ (at : ℕ) (rest : List ℕ) (e : l ≡ at ∷ rest) where
+    pub outside-here : outsideBy first (periodOf (bodyAt s at)) ≡ true → some at ≡ firstOutside first s l
+    unfolding firstOutside
+    outside-here q = rw (e, q)
+
+    pub outside-on : outsideBy first (periodOf (bodyAt s at)) ≡ false → firstOutside first s rest ≡ firstOutside first s l
+    unfolding firstOutside
+    outside-on q = rw (e, q)
+
+-- ---- the tests of a service
+
+module _ (removal : Bool) (prd : ℕ) (k : Known) (t : Totals) where
+  module _ (h : Known) (e : h ≡ k) (b : Bool) (q : b ≡ both removal (unknownBy h)) where
+    pub known-refused : b ≡ true → refused 14 prd ≡ testKnown removal prd k t
+    unfolding testKnown
+    known-refused p = rw (← e, ← q, p)
+
+    pub known-counted : b ≡ false → (a d : ℕ) → a ≡ adds removal h → d ≡ drops removal h
+        → done (record { services = t .services + 1; added = t .added + a; dropped = t .dropped + d }) ≡ testKnown removal prd k t
+    unfolding testKnown
+    known-counted p a d x y = rw (← e, ← q, p, x, y)
+
+-- what a record that is held makes of the counts
+module _ (removal : Bool) (h : Known) where
+  pub adds-removal : removal ≡ true → 0 ≡ adds removal h
+  adds-removal q = rw q
+
+  pub adds-put : h ≡ known.Nothing → removal ≡ false → 1 ≡ adds removal h
+  adds-put e q = rw (e, q)
+
+  pub adds-record : (l p : Bool) → h ≡ known.Record l p → 0 ≡ adds removal h
+  adds-record l p e = rw e (choose removal (λ q. rw q) (λ q. rw q))
+
+  pub drops-nothing : h ≡ known.Nothing → 0 ≡ drops removal h
+  drops-nothing e = rw e (choose removal (λ q. rw q) (λ q. rw q))
+
+  pub drops-live : (l p : Bool) → h ≡ known.Record l p → l ≡ true → 0 ≡ drops removal h
+  drops-live l p e q = rw (e, q) (choose removal (λ r. rw r) (λ r. rw r))
+
+  pub drops-put : removal ≡ false → 0 ≡ drops removal h
+  drops-put q = rw q
+
+  pub drops-removal : (l p : Bool) → h ≡ known.Record l p → l ≡ false → removal ≡ true → 1 ≡ drops removal h
+  drops-removal l p e q r = rw (e, q, r)
+
+  pub unknown-nothing : h ≡ known.Nothing → removal ≡ both removal (unknownBy h)
+  unknown-nothing e = rw e (sym (both-true removal))
+
+  pub unknown-record : (l p : Bool) → h ≡ known.Record l p → removal ≡ true → p ≡ both removal (unknownBy h)
+  unknown-record l p e q = rw (e, q)
+
+  pub unknown-put : removal ≡ false → false ≡ both removal (unknownBy h)
+  unknown-put q = rw q
+
+-- what services' own test says: 11, then 12
+module _ (s rows : List ℕ) (v : Service) where
+  tested-good : testedOf s rows v ≡ done tt → (isWrong s rows v ≡ false) × (isTwice s rows (bytesOf s (v .number)) (v .from) ≡ false)
+  unfolding testedOf
+  tested-good q =
+      choose (isWrong s rows v) (λ p. absurd (refused≢done (rw p at q)))
+      (λ p. choose (isTwice s rows (bytesOf s (v .number)) (v .from)) (λ r. absurd (refused≢done (rw (p, r) at q))) (λ r. (p, r)))
+
+  module _ (first : ℕ) (look : List ℕ → Known) (t : Totals) where
+    pub one-refused : (m at : ℕ) → refused m at ≡ testedOf s rows v → refused m at ≡ testOne first s rows look v t
+    unfolding testedOf testOne
+    one-refused m at q =
+        choose (isWrong s rows v)
+        (λ p. rw p (refused-again (Unit {0}) Totals m at 11 (v .prd) (rw p at q)))
+        (λ p.
+        choose (isTwice s rows (bytesOf s (v .number)) (v .from))
+        (λ r. rw (p, r) (refused-again (Unit {0}) Totals m at 12 (v .prd) (rw (p, r) at q)))
+        (λ r. absurd (refused≢done (rw (p, r) at q))))
+
+    module _ (g : done tt ≡ testedOf s rows v) where
+      pub one-outside : (at : ℕ) → some at ≡ firstOutside first s (periodsOf rows v) → refused 13 at ≡ testOne first s rows look v t
+      unfolding testOne
+      one-outside at o =
+          let w = tested-good (sym g) in
+          rw (w .0, w .1, ← o)
+
+      pub one-inside : none ≡ firstOutside first s (periodsOf rows v) → (a : Answer Totals) → a ≡ testKnown (v .removal) (v .prd) (look (numberIn s v)) t → a ≡ testOne first s rows look v t
+      unfolding testOne
+      one-inside o a q =
+          let w = tested-good (sym g) in
+          rw (w .0, w .1, ← o) q
+
+adds-few : (removal : Bool) (k : Known) → adds removal k ≤ 1
+adds-few true k = omega arith
+adds-few false known.Nothing = omega arith
+adds-few false (known.Record live removal) = omega arith
+
+drops-few : (removal : Bool) (k : Known) → drops removal k ≤ 1
+drops-few false k = omega arith
+drops-few true known.Nothing = omega arith
+drops-few true (known.Record true removal) = omega arith
+drops-few true (known.Record false removal) = omega arith
+
+module _ (first : ℕ) (s rows : List ℕ) (look : List ℕ → Known) where
+  -- a service more is counted, and at most one record more
+  pub one-more : (v : Service) (t u : Totals) → done u ≡ testOne first s rows look v t
+      → (u .services ≡ t .services + 1) × (u .added ≤ t .added + 1) × (u .dropped ≤ t .dropped + 1)
+  one-more v t u q =
+      let e = passed first s rows look v t u (sym q) .1 in
+      let a = adds-few (v .removal) (look (numberIn s v)) in
+      let d = drops-few (v .removal) (look (numberIn s v)) in
+      let x = ap (λ (w : Totals). w .services) e in
+      let y = ap (λ (w : Totals). w .added) e in
+      let z = ap (λ (w : Totals). w .dropped) e in
+      (x, omega arith, omega arith)
+
+  module _ (l : List Service) (t : Totals) where
+    pub all-done : l ≡ [] → done t ≡ testAll first s rows look l t
+    unfolding testAll
+    all-done e = rw e
+
+    module _ (v : Service) (rest : List Service) (e : l ≡ v ∷ rest) where
+      pub all-on : (u : Totals) → done u ≡ testOne first s rows look v t → testAll first s rows look rest u ≡ testAll first s rows look l t
+      unfolding testAll
+      all-on u q = rw (e, ← q)
+
+      pub all-stop : (m at : ℕ) → refused m at ≡ testOne first s rows look v t → refused m at ≡ testAll first s rows look l t
+      unfolding testAll
+      all-stop m at q = rw (e, ← q)

@@ -1,0 +1,200 @@
+//! The tests of the services, against the room as it stands before the first of them enters.
+
+use period::Period;
+use period::read_period;
+use service_entries::Known;
+use service_entries::held;
+use services::Found;
+use services::FoundPeriod;
+use services::Service;
+use services::next_period;
+use services::next_service;
+use services::segment_at;
+use services::test_service;
+use syntax::segment::Refusal;
+ghost use mathlib.Core.Path.{_≡_};
+ghost use mathlib.Core.Bool.{not};
+ghost use Prim.Native.Nat.{_≤_, _<_};
+ghost use Rattle.laws.specs.Choice.{both};
+ghost use Rattle.syntax.specs.Segment.{bodyAt};
+ghost use Rattle.period.specs.Period.{periodOf};
+ghost use Rattle.joining.specs.Joined.{inWindow};
+ghost use Rattle.answers.specs.Answers.{refused};
+ghost use Rattle.services.specs.Services.{periodsFrom, servicesOf};
+ghost use Rattle.stages.specs.Stage.{numberIn, outsideBy, firstOutside};
+ghost use Rattle.service_tests.specs.Tests.{windowFound, testedAnswer, unknownBy, adds, drops, testKnown, testOne, testAll, noTotals};
+ghost use Rattle.service_entries.specs.Room.{lookAt};
+
+/// What the services of an interchange come to.
+pub struct Totals {
+    /// How many there are.
+    pub services: usize,
+    /// How many records they add to the account's.
+    pub added: usize,
+    /// How many records they drop.
+    pub dropped: usize,
+}
+
+/// What the tests of the services come to.
+pub enum Tested {
+    Passed(Totals),
+    /// The first that is refused: 11, 12, 13 or 14.
+    Refused(Refusal),
+}
+
+/// Where the first period that is not wholly in the window stands.
+pub enum Window {
+    Inside,
+    Outside(usize),
+}
+
+// Whether n days from a day on are not wholly in the window.
+fn is_past(first: usize, from: usize, n: usize) -> bool
+    ensures { λ r. ⌜ r ≡ not (inWindow 512 first from n) ⌝ }
+{
+    if from < first {
+        return true;
+    }
+    if 512 < n {
+        return true;
+    }
+    512 - n < from - first
+}
+
+// 13: whether the POP at an offset is not wholly in the window.
+fn is_outside(first: usize, s: &[u8], at: usize) -> bool
+    ensures { λ r. ⌜ r ≡ outsideBy first (periodOf (bodyAt (now (s .entry)) at)) ⌝ }
+{
+    match read_period(s, segment_at(s, at)) {
+        Period::Wrong(_) => false,
+        Period::Good(from, n, _) => is_past(first, from, n),
+    }
+}
+
+/// 13: the first POP among rows that is not wholly in the window.
+pub fn test_window(first: usize, s: &[u8], rows: &[u32], from: usize, to: usize) -> Window
+    ensures { λ r. ⌜ windowFound r ≡ firstOutside first (now (s .entry)) (periodsFrom (now (rows .entry)) from to) ⌝ }
+{
+    let mut i = from;
+    loop {
+        match next_period(rows, i, to) {
+            FoundPeriod::Pop(k, at) => {
+                if is_outside(first, s, at) {
+                    return Window::Outside(at);
+                }
+                i = k + 1;
+            }
+            FoundPeriod::NoMore => {
+                return Window::Inside;
+            }
+        }
+    }
+}
+
+// What a refusal is.
+fn refuse(number: u8, position: usize) -> Tested
+    ensures { λ r. ⌜ testedAnswer r ≡ refused number position ⌝ }
+{
+    Tested::Refused(Refusal { number, position })
+}
+
+// How many records a service adds: a put of a number that has none.
+fn added_by(removal: bool, held: Known) -> usize
+    ensures { λ r. ⌜ (r ≡ adds removal held) × (r ≤ 1) ⌝ }
+{
+    match held {
+        Known::Nothing => { if removal { 0 } else { 1 } }
+        Known::Record(_, _) => 0,
+    }
+}
+
+// How many records a service drops: a removal of one that has nothing live.
+fn dropped_by(removal: bool, held: Known) -> usize
+    ensures { λ r. ⌜ (r ≡ drops removal held) × (r ≤ 1) ⌝ }
+{
+    match held {
+        Known::Nothing => 0,
+        Known::Record(live, _) => {
+            if live {
+                return 0;
+            }
+            if removal { 1 } else { 0 }
+        }
+    }
+}
+
+// 14: whether a service removes a number of which an account holds no record, or whose removal is pending.
+fn is_unknown(removal: bool, held: Known) -> bool
+    ensures { λ r. ⌜ r ≡ both removal (unknownBy held) ⌝ }
+{
+    match held {
+        Known::Nothing => removal,
+        Known::Record(_, pending) => removal && pending,
+    }
+}
+
+// Tests a service for 14, and counts it.
+fn test_known(room: &[u8], s: &[u8], service: Service, totals: Totals) -> Tested
+    requires { ⌜ (totals .services < 18446744073709551615) × (totals .added < 18446744073709551615) × (totals .dropped < 18446744073709551615) ⌝ }
+    ensures { λ r. ⌜ testedAnswer r ≡ testKnown (service .removal) (service .prd) (lookAt (now (room .entry)) (numberIn (now (s .entry)) service)) totals ⌝ }
+{
+    let number = service.number;
+    let known = held(room, s, number);
+    if is_unknown(service.removal, known) {
+        return refuse(14, service.prd);
+    }
+    Tested::Passed(Totals {
+        services: totals.services + 1,
+        added: totals.added + added_by(service.removal, known),
+        dropped: totals.dropped + dropped_by(service.removal, known),
+    })
+}
+
+// Tests a service for 11, 12, 13 and 14, and counts it.
+fn test_one(
+    room: &[u8],
+    first: usize,
+    s: &[u8],
+    rows: &[u32],
+    service: Service,
+    totals: Totals,
+) -> Tested
+    requires { ⌜ (totals .services < 18446744073709551615) × (totals .added < 18446744073709551615) × (totals .dropped < 18446744073709551615) ⌝ }
+    ensures { λ r. ⌜ testedAnswer r ≡ testOne first (now (s .entry)) (now (rows .entry)) (lookAt (now (room .entry))) service totals ⌝ }
+{
+    match test_service(s, rows, service) {
+        services::Tested::Good => match test_window(first, s, rows, service.from, service.to) {
+            Window::Inside => test_known(room, s, service, totals),
+            Window::Outside(at) => refuse(13, at),
+        },
+        services::Tested::Refused(refusal) => Tested::Refused(refusal),
+    }
+}
+
+/// Tests the services of n rows in order, all against the room as it stands.
+pub fn test_all(room: &[u8], first: usize, s: &[u8], rows: &[u32], n: usize) -> Tested
+    ensures { λ r. ⌜ testedAnswer r ≡ testAll first (now (s .entry)) (now (rows .entry)) (lookAt (now (room .entry))) (servicesOf (now (s .entry)) (now (rows .entry)) n) noTotals ⌝ }
+{
+    let mut i = 0;
+    let mut totals = Totals {
+        services: 0,
+        added: 0,
+        dropped: 0,
+    };
+    loop {
+        match next_service(s, rows, n, i) {
+            Found::At(service) => match test_one(room, first, s, rows, service, totals) {
+                Tested::Passed(more) => {
+                    i = service.from + 1;
+                    totals = more;
+                }
+                Tested::Refused(refusal) => {
+                    return Tested::Refused(refusal);
+                }
+            },
+            Found::NoMore => {
+                return Tested::Passed(totals);
+            }
+        }
+    }
+}

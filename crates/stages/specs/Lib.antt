@@ -1,0 +1,4 @@
+pub mod Stage
+pub mod Changing
+pub mod Permitted
+pub mod Kept
