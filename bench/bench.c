@@ -514,6 +514,9 @@ static void put_limit(void) {
         return;
     if (g->n < 3)
         return;
+    // with nothing else in it the segment has the length from which on a reader counts
+    if (g->kind == PLAIN && one_in(2))
+        g->n = 3, pool.n = g->from + 3;
     switch (below(5)) {
     case 0: // 64 elements
         for (size_t k = 0; k < g->n; k++) {
@@ -546,8 +549,8 @@ static void put_limit(void) {
         break;
     case 3: // 512 characters
         puts_to(&pool, one_in(2) ? "+" : one_in(2) ? "+A:" : "+B*");
-        for (n = 0; n < 512 + more; n++)
-            put_character(&pool, one_in(20) ? any_character() : 'A');
+        for (unsigned odd = one_in(2) ? 20 : 100000; n < 512 + more; n++)
+            put_character(&pool, one_in(odd) ? any_character() : 'A');
         if (one_in(3))
             puts_to(&pool, one_in(2) ? "*" : one_in(2) ? ":" : "+");
         break;

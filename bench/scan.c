@@ -2,22 +2,15 @@
 #include "scan.h"
 
 size_t end_beyond(const uint8_t *s, size_t n, size_t from) {
-    for (size_t i = from; i < n;) {
-        switch (class_of[s[i]]) {
-        case END:
-            return i;
-        case BAD:
-            return n;
-        case RELEASE:
+    for (size_t i = from;; i = next_stop(s, n, i + 1)) {
+        for (; i < n && s[i] == '?'; i += 2)
             if (i + 1 == n || class_of[s[i + 1]] == BAD)
                 return n;
-            i += 2;
-            break;
-        default:
-            i = next_stop(s, n, i + 1);
-        }
+        if (i == n || s[i] == '\'')
+            return i;
+        if (class_of[s[i]] == BAD)
+            return n;
     }
-    return n;
 }
 
 // How many marks stand before a place: `+` in the segment, `*` in the element, `:` in the occurrence; and where the component begins.
