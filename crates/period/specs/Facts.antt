@@ -17,11 +17,11 @@ use Rattle.dates.specs.declared.Date.{Date}
 use Rattle.dates.specs.declared.Made.{Made}
 use Rattle.dates.specs.declared.Made.the-variants.{Valid, NoDate}
 use Rattle.calendar.specs.Written.{dayCount, goodPeriod, daysSpan}
+use Rattle.calendar.specs.declared.Span.{Span}
+use Rattle.calendar.specs.declared.Span.the-variants.{Days, Bad}
 use Rattle.period.specs.declared.Form.{Form}
 use Rattle.period.specs.declared.Fault.the-variants.{BadDayString, BadWeekdays, BothForms}
 use Rattle.period.specs.declared.Period.the-variants.{Good}
-use Rattle.calendar.specs.declared.Span.{Span}
-use Rattle.calendar.specs.declared.Span.the-variants.{Days, Bad}
 use Rattle.period.specs.declared.forms.Formed.{Formed}
 use Rattle.period.specs.declared.forms.Formed.the-variants.{Told, Faulty}
 use Rattle.period.specs.Period.{firstLast, dayText, weekText, madeSpan, spanIn, fitsDays, rising, formOf, formedOf, restGood, periodBy, periodOn, periodOf}

@@ -18,14 +18,14 @@ use Rattle.dates.specs.Text.{dateAt}
 use Rattle.dates.specs.declared.Made.{Made}
 use Rattle.dates.specs.declared.Made.the-variants.{Valid, NoDate}
 use Rattle.calendar.specs.Written.{daysSpan}
+use Rattle.calendar.specs.declared.Span.{Span}
+use Rattle.calendar.specs.declared.Span.the-variants.{Days, Bad}
 use Rattle.period.specs.declared.Form.{Form}
 use Rattle.period.specs.declared.Form.the-variants.{Every, ByString, ByWeekdays}
 use Rattle.period.specs.declared.Fault.{Fault}
 use Rattle.period.specs.declared.Fault.the-variants.{BadDates, BadDayString, BadWeekdays, BothForms, NeitherForm, BadRest}
 use Rattle.period.specs.declared.Period.{Period}
 use Rattle.period.specs.declared.Period.the-variants.{Good, Wrong}
-use Rattle.calendar.specs.declared.Span.{Span}
-use Rattle.calendar.specs.declared.Span.the-variants.{Days, Bad}
 use Rattle.period.specs.declared.forms.Formed.{Formed}
 use Rattle.period.specs.declared.forms.Formed.the-variants.{Told, Faulty}
 

@@ -5,9 +5,9 @@ use mathlib.Core.Bool.{Bool}
 use mathlib.Core.List.{List}
 use Prim.Native.Nat.{ℕ}
 use Rattle.laws.specs.Choice.{choose}
-use Rattle.period.specs.declared.Period.{Period}
 use Rattle.calendar.specs.declared.Span.{Span}
 use Rattle.calendar.specs.declared.Span.the-variants.{Days, Bad}
+use Rattle.period.specs.declared.Period.{Period}
 use Rattle.period.specs.declared.forms.Formed.{Formed}
 use Rattle.period.specs.declared.forms.Formed.the-variants.{Told, Faulty}
 use Rattle.period.specs.Period.{firstLast, dayText, weekText, spanIn, formedOf, restGood, periodBy, periodOn, periodOf, periodAnswer, popBy, popOn, popAnswer}

@@ -1,8 +1,8 @@
 -- The tests of a period, in the order of the code.
 -- Assumes nothing.
 use mathlib.Core.Path.{_≡_, ap, _∙_}
-use mathlib.Core.Bool.{Bool, true, false, not}
-use mathlib.Core.List.{List, [], _∷_}
+use mathlib.Core.Bool.{Bool, true, false}
+use mathlib.Core.List.{List}
 use Prim.Native.Nat.{ℕ, _+_, _%_, _<_, _≤_}
 use native.Mathlib.Omega.{arith}
 use lib.Dec.{eqb, ltb}
@@ -13,22 +13,22 @@ use Rattle.laws.specs.Lists.{over}
 use Rattle.values.specs.declared.Copied.the-variants.{Bytes, NoRoom}
 use borrow.Author.Tests.{eq-eqb, ne-eqb, lt-ltb, le-ltb}
 use Rattle.laws.specs.Choice.{pick, among}
-use Rattle.parts.specs.Places.{repeats, present}
+use Rattle.parts.specs.Places.{present}
 use Rattle.dates.specs.Days.{weekdayOf}
 use Rattle.dates.specs.Text.{dateAt}
 use Rattle.dates.specs.declared.Date.{Date}
 use Rattle.dates.specs.declared.Made.the-variants.{Valid, NoDate}
 use Rattle.calendar.specs.Written.{daysSpan}
-use Rattle.values.specs.Values.{sameText, copiedOf}
+use Rattle.calendar.specs.declared.Span.the-variants.{Days, Bad}
+use Rattle.values.specs.Values.{copiedOf}
 use Rattle.period.specs.declared.Form.{Form}
 use Rattle.period.specs.declared.Form.the-variants.{Every, ByString, ByWeekdays}
 use Rattle.period.specs.declared.Fault.the-variants.{BadDates, BadDayString, BadWeekdays, BothForms, BadRest}
-use Rattle.calendar.specs.declared.Span.the-variants.{Days, Bad}
 use Rattle.period.specs.declared.forms.Formed.the-variants.{Told, Faulty}
 use Rattle.period.specs.declared.Fault.{Fault}
 use Rattle.period.specs.declared.Period.{Period}
 use Rattle.period.specs.declared.Period.the-variants.{Good, Wrong}
-use Rattle.period.specs.Period.{qualifier, firstLast, dayText, weekText, spanIn, dayString, fitsDays, rising, formWithout, formedOf, restGood, periodOf, runsBy, runsIn}
+use Rattle.period.specs.Period.{firstLast, dayText, weekText, spanIn, dayString, fitsDays, rising, formWithout, formedOf, restGood, periodOf, runsBy, runsIn}
 
 -- the text of the two dates
 module _ (t : List ℕ) where

@@ -18,14 +18,14 @@ use Rattle.dates.specs.Text.{isDigit, twoDigits, digitsAt, dateAt}
 use Rattle.dates.specs.declared.Date.{Date}
 use Rattle.dates.specs.declared.Made.the-variants.{Valid, NoDate}
 use Rattle.calendar.specs.Written.{daysSpan}
+use Rattle.calendar.specs.declared.Span.{Span}
+use Rattle.calendar.specs.declared.Span.the-variants.{Days, Bad}
 use Rattle.free_texts.specs.Free.{all-append, all-weaker, numeric, plain-all, no-release}
 use Rattle.free_texts.specs.Parts.{Cut, oneElement, twoElements, withString, withoutString, string-cut, week-cut, passed-cut, alone-cut}
 use Rattle.period.specs.declared.Form.{Form}
 use Rattle.period.specs.declared.Form.the-variants.{Every, ByString, ByWeekdays}
 use Rattle.period.specs.declared.Period.{Period}
 use Rattle.period.specs.declared.Period.the-variants.{Good, Wrong}
-use Rattle.calendar.specs.declared.Span.{Span}
-use Rattle.calendar.specs.declared.Span.the-variants.{Days, Bad}
 use Rattle.period.specs.declared.forms.Formed.the-variants.{Told}
 use Rattle.period.specs.Period.{firstLast, dayText, weekText, spanIn, zeroOrOne, dayString, rising, formedOf, restGood, periodOf}
 use Rattle.period.specs.Facts.{span-told}
