@@ -32,7 +32,7 @@ bit-small : (x j : ℕ) → x < 256 → j < 8 → withBit x j < 256
 unfolding withBit
 bit-small x j h k = or-lt 8 x (2 ^ j) h (power-small j k)
 
-set-small : (c : List ℕ) (i v : ℕ) → AreBytes c → v < 256 → AreBytes (set c i v)
+pub set-small : (c : List ℕ) (i v : ℕ) → AreBytes c → v < 256 → AreBytes (set c i v)
 set-small c i v a h j =
     elim (decLt i (length c)) [
       | yes l ↦ elim (ℕ-discrete j i) [
@@ -50,7 +50,7 @@ picked-bytes : (w : Bool) (c : List ℕ) (k : ℕ) → AreBytes c → AreBytes (
 picked-bytes true c k a = with-bytes c k a
 picked-bytes false c k a = a
 
-marked-bytes : (t : ℕ → Bool) (c : List ℕ) (at k m : ℕ) → AreBytes c → AreBytes (marked t c at k m)
+pub marked-bytes : (t : ℕ → Bool) (c : List ℕ) (at k m : ℕ) → AreBytes c → AreBytes (marked t c at k m)
 unfolding marked
 marked-bytes t c at k zero a = a
 marked-bytes t c at k (suc m) a = marked-bytes t (pick (t k) (withDay c (at + k)) c) at (k + 1) m (picked-bytes (t k) c (at + k) a)

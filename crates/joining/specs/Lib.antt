@@ -4,3 +4,5 @@ pub mod Weeks
 pub mod Told
 pub mod Union
 pub mod Bytes
+pub mod Eights
+pub mod Places

@@ -22,7 +22,7 @@ use Rattle.joining.specs.declared.Joined.the-variants.{Done, Outside}
 use Rattle.joining.specs.Joined.{marked, inWindow, windowAnswer, windowDays, answerBy, answered, joinedBy, joined, joinAll, selectsBy, selects, anySelects}
 use Rattle.joining.specs.Marks.{length-step, length-marked}
 
-either-false : (a : Bool) → either a false ≡ a
+pub either-false : (a : Bool) → either a false ≡ a
 either-false true = refl
 either-false false = refl
 
@@ -40,7 +40,7 @@ one-day true c i j h =
     ]
 
 -- whether a day is one of the m from day k on, and the test holds of it
-abbrev among-marked : (ℕ → Bool) → ℕ → ℕ → ℕ → ℕ → Bool
+abbrev pub among-marked : (ℕ → Bool) → ℕ → ℕ → ℕ → ℕ → Bool
 among-marked t at k m j = both (leb (at + k) j) (both (ltb j (at + k + m)) (t (j - at)))
 
 module _ (t : ℕ → Bool) (at j : ℕ) where

@@ -4,6 +4,7 @@ use calendar::has_bit;
 use calendar::set_day;
 use calendar::with_bit;
 use parts::Part;
+use parts::bytes_of;
 use period::Fault;
 use period::Form;
 use period::Period;
@@ -13,16 +14,19 @@ use values::Next;
 use values::next_byte;
 ghost use mathlib.Core.Path.{_≡_};
 ghost use mathlib.Core.Bool.{true};
-ghost use Prim.Native.Nat.{_+_, _≤_};
+ghost use Prim.Native.Nat.{ℕ, _+_, _*_, _%_, _≤_, _<_, min};
 ghost use lib.Dec.{eqb};
 ghost use lib.ListN.{length, getD};
 ghost use Rattle.laws.specs.Choice.{pick};
 ghost use Rattle.syntax.specs.Bytes.{plain};
+ghost use Rattle.syntax.specs.Pieces.{partOf};
 ghost use Rattle.parts.specs.Places.{bytesOf};
 ghost use Rattle.dates.specs.Days.{weekdayOf};
 ghost use Rattle.calendar.specs.Days.{hasBit, withDay};
-ghost use Rattle.period.specs.Period.{weekText, rising, runsBy, periodOf};
+ghost use Rattle.period.specs.Period.{runsBy, periodOf};
+ghost use Rattle.period.specs.declared.Period.the-variants.{Good};
 ghost use Rattle.joining.specs.Joined.{marked, weekBits, inWindow, windowAnswer, windowDays, answered, joined, joinedAnswer, joinAnswer};
+ghost use Rattle.joining.specs.Places.{Tagged, Spoken};
 
 /// What came of joining a period.
 pub enum Joined {
@@ -63,21 +67,94 @@ fn week_of(part: &[u8]) -> u8
     week
 }
 
-// Selects those of n days that fall on one of the week's days.
-fn mark_weekdays(days: &mut [u8], at: usize, first: usize, n: usize, week: u8)
-    requires { ⌜ (at + n ≤ 65536) × (first + n ≤ 65536) ⌝ }
-    ensures { λ _. ⌜ now (days .exit) ≡ marked (λ k. hasBit week (weekdayOf (first + k))) (now (days .entry)) at 0 n ⌝ }
+fn shorter(a: usize, b: usize) -> usize
+    ensures { λ r. ⌜ r ≡ min a b ⌝ }
 {
-    let mut k = 0;
-    while k < n {
-        let weekday = dates::weekday(first + k) as usize;
-        set_if(days, at + k, has_bit(week, weekday));
-        k += 1;
-    }
+    if a < b { a } else { b }
 }
 
-// Selects those of n days whose character is `1`.
-fn mark_string(days: &mut [u8], at: usize, part: &[u8], n: usize)
+// Selects by the lowest bits of a number m days, all in one byte of the calendar.
+fn mark_bits(days: &mut [u8], at: usize, bits: u8, m: usize)
+    requires { ⌜ (1 ≤ m) × (at % 8 + m ≤ 8) × (at + m ≤ 8 * length (now days)) ⌝ }
+    ensures { λ _. ⌜ now (days .exit) ≡ marked (hasBit bits) (now (days .entry)) at 0 m ⌝ }
+{
+    let i = at / 8;
+    days[i] = days[i] | ((bits & (255 >> (8 - m))) << (at % 8));
+}
+
+// The eight days from one on as the bits of a byte, by the week's days: two weeks one behind the other hold them.
+fn eight_days(week: u8, first: usize) -> u8
+    ensures { λ r. ⌜ ((j : ℕ) → j < 8 → hasBit r j ≡ hasBit week (weekdayOf (first + j))) ⌝ }
+{
+    let weeks = (week as usize / 2) * 129;
+    ((weeks >> (first % 7)) & 255) as u8
+}
+
+// The same of the eight days after those: as eight are one more than a week, a day further.
+fn next_eight(eight: u8) -> u8
+    ensures { λ r. ⌜ ((j : ℕ) → j < 8 → hasBit r j ≡ hasBit eight (j % 7 + 1)) ⌝ }
+{
+    eight / 2 + eight / 2 % 2 * 128
+}
+
+// Selects those of n days that fall on one of the week's days: up to a byte's end, then byte by byte, then the rest.
+fn mark_weekdays(days: &mut [u8], at: usize, first: usize, n: usize, week: u8)
+    requires { ⌜ (1 ≤ n) × (at + n ≤ 8 * length (now days)) × (at + n ≤ 65536) × (first + n ≤ 65536) ⌝ }
+    ensures { λ _. ⌜ now (days .exit) ≡ marked (λ k. hasBit week (weekdayOf (first + k))) (now (days .entry)) at 0 n ⌝ }
+{
+    let lead = 8 - at % 8;
+    mark_bits(days, at, eight_days(week, first), shorter(lead, n));
+    let mut k = lead;
+    let mut eight = eight_days(week, first + lead);
+    while k + 8 <= n {
+        let i = (at + k) / 8;
+        days[i] = days[i] | eight;
+        eight = next_eight(eight);
+        k += 8;
+    }
+    if n <= k {
+        return;
+    }
+    mark_bits(days, at + k, eight, n - k);
+}
+
+// Characters of a day string as bits, the first the lowest: up to eight.
+fn day_bits(text: &[u8], from: usize, m: usize) -> u8
+    requires { ⌜ (m ≤ 8) × (from + m ≤ length (now text)) ⌝ }
+    ensures { λ r. ⌜ ((j : ℕ) → j < m → hasBit r j ≡ eqb (getD (now (text .entry)) (from + j) 0) 49) ⌝ }
+{
+    let mut bits = 0u8;
+    let mut left = m;
+    while 0 < left {
+        left -= 1;
+        bits = (bits << 1) | (text[from + left] == b'1') as u8;
+    }
+    bits
+}
+
+// Selects the days whose character is `1`, where the text has one for each day: as the weekdays.
+fn mark_text(days: &mut [u8], at: usize, text: &[u8])
+    requires { ⌜ (1 ≤ length (now text)) × (at + length (now text) ≤ 8 * length (now days)) × (at + length (now text) ≤ 65536) ⌝ }
+    ensures { λ _. ⌜ now (days .exit) ≡ marked (λ k. eqb (getD (now (text .entry)) k 0) 49) (now (days .entry)) at 0 (length (now (text .entry))) ⌝ }
+{
+    let n = text.len();
+    let lead = 8 - at % 8;
+    let m = shorter(lead, n);
+    mark_bits(days, at, day_bits(text, 0, m), m);
+    let mut k = lead;
+    while k + 8 <= n {
+        let i = (at + k) / 8;
+        days[i] = days[i] | day_bits(text, k, 8);
+        k += 8;
+    }
+    if n <= k {
+        return;
+    }
+    mark_bits(days, at + k, day_bits(text, k, n - k), n - k);
+}
+
+// The same where some of the characters are released: one after the other.
+fn mark_released(days: &mut [u8], at: usize, part: &[u8], n: usize)
     requires { ⌜ at + n ≤ 65536 ⌝ }
     ensures { λ _. ⌜ now (days .exit) ≡ marked (λ k. eqb (getD (plain (now (part .entry))) k 0) 49) (now (days .entry)) at 0 n ⌝ }
 {
@@ -97,44 +174,89 @@ fn mark_string(days: &mut [u8], at: usize, part: &[u8], n: usize)
     }
 }
 
+// Selects those of n days whose character is `1`, of a part that says so many: as long as they are, it has none that is released.
+fn mark_string(days: &mut [u8], at: usize, part: &[u8], n: usize)
+    requires { ⌜ (1 ≤ n) × (at + n ≤ 8 * length (now days)) × (at + n ≤ 65536) × (length (plain (now part)) ≡ n) ⌝ }
+    ensures { λ _. ⌜ now (days .exit) ≡ marked (λ k. eqb (getD (plain (now (part .entry))) k 0) 49) (now (days .entry)) at 0 n ⌝ }
+{
+    if part.len() == n {
+        mark_text(days, at, part);
+        return;
+    }
+    mark_released(days, at, part, n);
+}
+
+// Component c of element e of a POP.
+fn part_in(g: &[u8], e: usize, c: usize) -> &[u8]
+    ensures { λ r. ⌜ now r ≡ partOf (now (g .entry)) e 1 c ⌝ }
+{
+    part_of(
+        g,
+        Part {
+            from: 0,
+            to: g.len(),
+        },
+        e,
+        c,
+    )
+}
+
+// Whether a POP begins with its tag and a mark.
+fn is_tagged(g: &[u8]) -> bool
+    ensures { λ r. ⌜ (r ≡ true → Tagged (now (g .entry))) ⌝ }
+{
+    if g.len() < 4 {
+        return false;
+    }
+    if g[0] != b'P' {
+        return false;
+    }
+    if g[1] != b'O' {
+        return false;
+    }
+    if g[2] != b'P' {
+        return false;
+    }
+    g[3] == b'+'
+}
+
+// The day string of a POP whose period is good. At least 27 bytes stand between `POP+` and the string, so in a POP that is
+// 31 bytes longer than it, it is the rest.
+fn string_of(g: &[u8], n: usize) -> &[u8]
+    requires { ⌜ Spoken (now g) n ⌝ }
+    ensures { λ r. ⌜ now r ≡ partOf (now (g .entry)) 1 1 4 ⌝ }
+{
+    if g.len() != 31 + n {
+        return part_in(g, 1, 4);
+    }
+    if !is_tagged(g) {
+        return part_in(g, 1, 4);
+    }
+    &g[31..]
+}
+
 // Selects the days of a period that run; its first day is at an index of the calendar.
-fn mark_form(
-    days: &mut [u8],
-    at: usize,
-    s: &[u8],
-    segment: Part,
-    first: usize,
-    n: usize,
-    form: Form,
-)
-    requires { ⌜ (at + n ≤ 65536) × (first + n ≤ 65536) × (rising 48 (weekText (bytesOf (now s) segment)) ≡ true) ⌝ }
-    ensures { λ _. ⌜ now (days .exit) ≡ marked (runsBy (bytesOf (now (s .entry)) segment) form first) (now (days .entry)) at 0 n ⌝ }
+fn mark_form(days: &mut [u8], at: usize, g: &[u8], first: usize, n: usize, form: Form)
+    requires { ⌜ (at + n ≤ 8 * length (now days)) × (at + n ≤ 65536) × (periodOf (now g) ≡ Good first n form) ⌝ }
+    ensures { λ _. ⌜ now (days .exit) ≡ marked (runsBy (now (g .entry)) form first) (now (days .entry)) at 0 n ⌝ }
 {
     match form {
         Form::Every => {
             mark_weekdays(days, at, first, n, 254);
         }
         Form::ByString => {
-            mark_string(days, at, part_of(s, segment, 1, 4), n);
+            mark_string(days, at, string_of(g, n), n);
         }
         Form::ByWeekdays => {
-            mark_weekdays(days, at, first, n, week_of(part_of(s, segment, 2, 1)));
+            mark_weekdays(days, at, first, n, week_of(part_in(g, 2, 1)));
         }
     }
 }
 
 // The same where the period lies in the window.
-fn join_form(
-    days: &mut [u8],
-    origin: usize,
-    s: &[u8],
-    segment: Part,
-    first: usize,
-    n: usize,
-    form: Form,
-) -> Joined
-    requires { ⌜ (1 ≤ n) × (first + n ≤ 65536) × (rising 48 (weekText (bytesOf (now s) segment)) ≡ true) ⌝ }
-    ensures { λ r. ⌜ (r ≡ windowAnswer (length (now (days .entry))) origin first n) × (now (days .exit) ≡ windowDays (now (days .entry)) origin (bytesOf (now (s .entry)) segment) first n form) ⌝ }
+fn join_form(days: &mut [u8], origin: usize, g: &[u8], first: usize, n: usize, form: Form) -> Joined
+    requires { ⌜ periodOf (now g) ≡ Good first n form ⌝ }
+    ensures { λ r. ⌜ (r ≡ windowAnswer (length (now (days .entry))) origin first n) × (now (days .exit) ≡ windowDays (now (days .entry)) origin (now (g .entry)) first n form) ⌝ }
 {
     if first < origin {
         return Joined::Outside;
@@ -143,7 +265,7 @@ fn join_form(
     if days.len() <= (at + n - 1) / 8 {
         return Joined::Outside;
     }
-    mark_form(days, at, s, segment, first, n, form);
+    mark_form(days, at, g, first, n, form);
     Joined::Done
 }
 
@@ -155,6 +277,8 @@ pub fn join_period(days: &mut [u8], origin: usize, s: &[u8], segment: Part) -> J
 {
     match read_period(s, segment) {
         Period::Wrong(fault) => Joined::WrongPeriod(fault),
-        Period::Good(first, n, form) => join_form(days, origin, s, segment, first, n, form),
+        Period::Good(first, n, form) => {
+            join_form(days, origin, bytes_of(s, segment), first, n, form)
+        },
     }
 }

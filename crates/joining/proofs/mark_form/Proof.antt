@@ -1,38 +1,57 @@
 -- `mark_form` meets its contract.
 -- Assumes nothing.
+use mathlib.Core.Path.{ap, _∙_}
+use mathlib.Core.List.{List}
+use Prim.Native.Nat.{ℕ, _+_, _*_, _≤_}
+use native.Mathlib.Omega.{arith}
 use borrow.Author.Needs.{needs}
 use denote.Ref.{now}
-use Rattle.parts.specs.Places.{bytesOf}
+use lib.ListN.{length}
+use Rattle.syntax.specs.Bytes.{plain}
+use Rattle.period.specs.Facts.{good-bounds, good-rising}
 use Rattle.joining.specs.Weeks.{marked-every, marked-week, marked-string}
+use Rattle.joining.specs.Places.{spoken}
 use Rattle.joining.proofs.mark_form.Statement.{statement}
 use Rattle.joining.proofs.mark_form.Tie as tie
+
+-- what marking asks of a good period's days
+bounded : (s : tie.Start) → (1 ≤ s .args .n) × (s .args .at + s .args .n ≤ 8 * length (now (s .args .days))) × (s .args .at + s .args .n ≤ 65536) × (s .args .first + s .args .n ≤ 65536)
+bounded s =
+    let b = good-bounds (now (s .args .g)) (s .args .first) (s .args .n) (s .args .form) (s .pre .2) in
+    let i = b .inside in
+    (b .some, s .pre .0, s .pre .1, omega arith)
 
 enum-told : tie.Need-enum-told
 enum-told c = search needs
 
 mark-weekdays-requires : tie.Need-mark-weekdays-requires
-mark-weekdays-requires c κs = search needs
+mark-weekdays-requires c κs = bounded (c .before .before .before .before .before)
 
 enum-told-2 : tie.Need-enum-told-2
 enum-told-2 c = search needs
 
-part-of-requires : tie.Need-part-of-requires
-part-of-requires c κs = search needs
+string-of-requires : tie.Need-string-of-requires
+string-of-requires c κs =
+    let s = c .before .before .before .before .before in
+    spoken (now (s .args .g)) (s .args .first) (s .args .n) (s .pre .2) (c .before .enum-told2 .given .1)
 
 mark-string-requires : tie.Need-mark-string-requires
-mark-string-requires c κs = search needs
+mark-string-requires c κs =
+    let s = c .before .before .before .before .before .before in
+    let b = bounded s in
+    (b .0, b .1, b .2, ap (λ (x : List ℕ). length (plain x)) (c .string-of .ensures) ∙ spoken (now (s .args .g)) (s .args .first) (s .args .n) (s .pre .2) (c .before .before .enum-told2 .given .1) .told)
 
 enum-told-3 : tie.Need-enum-told-3
 enum-told-3 c = search needs
 
-part-of-requires-2 : tie.Need-part-of-requires-2
-part-of-requires-2 c κs = search needs
+part-in-requires : tie.Need-part-in-requires
+part-in-requires c κs = search needs
 
 week-of-requires : tie.Need-week-of-requires
 week-of-requires c κs = search needs
 
 mark-weekdays-requires-2 : tie.Need-mark-weekdays-requires-2
-mark-weekdays-requires-2 c κs = search needs
+mark-weekdays-requires-2 c κs = bounded (c .before .before .before .before .before .before .before)
 
 same-length : tie.Need-same-length
 same-length c = search needs
@@ -40,7 +59,7 @@ same-length c = search needs
 returns : tie.Need-returns
 returns c =
     let a = c .before .before .before .before .before .before .before .before .args in
-    marked-every (bytesOf (now (a .s)) (a .segment)) (now (a .days)) (a .at) (a .first) (a .n) (c .before .before .before .before .enum-told .given .1) (c .before .before .mark-weekdays .ensures)
+    marked-every (now (a .g)) (now (a .days)) (a .at) (a .first) (a .n) (c .before .before .before .before .enum-told .given .1) (c .before .before .mark-weekdays .ensures)
 
 same-length-2 : tie.Need-same-length-2
 same-length-2 c = search needs
@@ -48,15 +67,17 @@ same-length-2 c = search needs
 returns-2 : tie.Need-returns-2
 returns-2 c =
     let a = c .before .before .before .before .before .before .before .before .before .args in
-    marked-string (bytesOf (now (a .s)) (a .segment)) (now (a .days)) (a .at) (a .first) (a .n) (c .before .before .before .before .before .enum-told2 .given .1) (c .before .before .before .part-of .ensures) (c .before .before .mark-string .ensures)
+    marked-string (now (a .g)) (now (a .days)) (a .at) (a .first) (a .n) (c .before .before .before .before .before .enum-told2 .given .1) (c .before .before .before .string-of .ensures) (c .before .before .mark-string .ensures)
 
 same-length-3 : tie.Need-same-length-3
 same-length-3 c = search needs
 
 returns-3 : tie.Need-returns-3
 returns-3 c =
-    let a = c .before .before .before .before .before .before .before .before .before .before .args in
-    marked-week (bytesOf (now (a .s)) (a .segment)) (now (a .days)) (a .at) (a .first) (a .n) (c .before .before .before .before .before .before .before .before .before .before .pre .2) (c .before .before .before .before .before .before .enum-told3 .given .1) (c .before .before .before .before .part-of2 .ensures) (c .before .before .before .week-of .ensures) (c .before .before .mark-weekdays2 .ensures)
+    let s = c .before .before .before .before .before .before .before .before .before .before in
+    let a = s .args in
+    let r = good-rising (now (a .g)) (a .first) (a .n) (a .form) (s .pre .2) in
+    marked-week (now (a .g)) (now (a .days)) (a .at) (a .first) (a .n) r (c .before .before .before .before .before .before .enum-told3 .given .1) (c .before .before .before .before .part-in .ensures) (c .before .before .before .week-of .ensures) (c .before .before .mark-weekdays2 .ensures)
 
 pub mark-form-spec : {M : Type 1} → statement M
-mark-form-spec = tie.close (tie.spec enum-told mark-weekdays-requires enum-told-2 part-of-requires mark-string-requires enum-told-3 part-of-requires-2 week-of-requires mark-weekdays-requires-2 same-length returns same-length-2 returns-2 same-length-3 returns-3)
+mark-form-spec = tie.close (tie.spec enum-told mark-weekdays-requires enum-told-2 string-of-requires mark-string-requires enum-told-3 part-in-requires week-of-requires mark-weekdays-requires-2 same-length returns same-length-2 returns-2 same-length-3 returns-3)

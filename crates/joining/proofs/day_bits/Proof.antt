@@ -1,0 +1,61 @@
+-- `day_bits` meets its contract.
+-- Assumes nothing.
+use native.Mathlib.Omega.{arith}
+use mathlib.Core.Path.{_≡_, refl, ap, _∙_}
+use mathlib.Core.Bool.{Bool, true, false}
+use Prim.Native.Nat.{ℕ, _+_, _-_, _≤_, _<_}
+use lib.Dec.{eqb}
+use lib.ListN.{getD}
+use denote.Ref.{now}
+use mir.Val.{boolByte}
+use Rattle.laws.specs.Choice.{pick}
+use Rattle.calendar.specs.Days.{hasBit}
+use Rattle.joining.specs.Eights.{gather-on}
+use borrow.Author.Needs.{needs}
+use Rattle.joining.proofs.day_bits.Statement.{statement}
+use Rattle.joining.proofs.day_bits.Tie as tie
+
+as-digit : (w : Bool) → boolByte w ≡ pick w 1 0
+as-digit true = refl
+as-digit false = refl
+
+abbrev Inv-loop : tie.InvT-loop
+Inv-loop text from m bits₀ left₀ bits left = (left ≤ m) × ((j : ℕ) → j < m - left → hasBit bits j ≡ eqb (getD text (from + left + j) 0) 49)
+
+abbrev μ-loop : tie.MeasureT-loop
+μ-loop text from m bits₀ left₀ bits left = left
+
+loop-holds : tie.Need-loop-holds Inv-loop μ-loop
+loop-holds c = (omega arith, λ j h. absurd (omega arith))
+
+sub-left : tie.Need-sub-left Inv-loop μ-loop
+sub-left c = omega arith
+
+add-bits : tie.Need-add-bits Inv-loop μ-loop
+add-bits c = omega arith
+
+shared-slice-read-bits : tie.Need-shared-slice-read-bits Inv-loop μ-loop
+shared-slice-read-bits c = omega arith
+
+cast-bits : tie.Need-cast-bits Inv-loop μ-loop
+cast-bits c = search needs
+
+loop-less : tie.Need-loop-less Inv-loop μ-loop
+loop-less c = omega arith
+
+loop-again : tie.Need-loop-again Inv-loop μ-loop
+loop-again c =
+    let o = c .before .before in
+    let a = o .before .args in
+    let l = o .loop in
+    (omega arith, gather-on (now (a .text)) (a .from) (l .left) (a .m) (l .bits) _ (as-digit (eqb (getD (now (a .text)) (a .from + (l .left - 1)) 0) 49)) (c .before .loop-test .taken) (o .before .pre .0) (l .inv .1))
+
+returns : tie.Need-returns Inv-loop μ-loop
+returns c = λ j h.
+    let a = c .before .before .args in
+    let l = c .before .loop in
+    let z : a .from + l .left + j ≡ a .from + j = omega arith in
+    l .inv .1 j (omega arith) ∙ ap (λ (i : ℕ). eqb (getD (now (a .text)) i 0) 49) z
+
+pub day-bits-spec : {M : Type 1} → statement M
+day-bits-spec = tie.close (tie.spec Inv-loop μ-loop loop-holds sub-left add-bits shared-slice-read-bits cast-bits loop-less loop-again returns)
