@@ -12,8 +12,10 @@ use Rattle.parts.specs.Places.{spanOf, countedAt, elementAt}
 use Rattle.values.specs.Values.{sameText}
 use Rattle.placing.specs.Table.{entryOf, afterOf, endOf, placesOn}
 use Rattle.placing.specs.Rule.{reachable, firstFit, inGroup, again, laterOnes, choicesFrom, firstOf, stepOf}
+use Rattle.messages.specs.Tags.{UIB, UIH, MSD, UIT, UIZ}
 use Rattle.placing.specs.Skdupd.{skdupdTable}
 use Rattle.placing.specs.Tsdupd.{tsdupdTable}
+use Rattle.placing.specs.Tables.{tables, tableIn}
 use Rattle.envelope.specs.Decimal.{decimalOn}
 use Rattle.envelope.specs.Envelope.{uibOf, uihOf, trailerOf}
 use Rattle.answers.specs.Answers.{refused}
@@ -50,7 +52,7 @@ abbrev one : List ℕ → Interchange
 one trailer = record { opening = uib; messages = record { heading = tsdupd; within = msd ∷ []; trailer = trailer } ∷ []; closing = uiz }
 
 pub printed : holds (one uit) ≡ true
-unfolding holds isMessage isSegment unbroken placesFrom permittedOf plainOn first later partOf tagged componentFits occurrenceFits elementFits withinLimits wellFormed spanOf countedAt elementAt sameText entryOf afterOf endOf placesOn reachable firstFit inGroup again laterOnes choicesFrom firstOf stepOf skdupdTable tsdupdTable decimalOn uibOf uihOf trailerOf
+unfolding holds isMessage isSegment unbroken placesFrom permittedOf plainOn first later partOf tagged componentFits occurrenceFits elementFits withinLimits wellFormed spanOf countedAt elementAt sameText entryOf afterOf endOf placesOn reachable firstFit inGroup again laterOnes choicesFrom firstOf stepOf skdupdTable tsdupdTable tables tableIn decimalOn uibOf uihOf trailerOf
 printed = refl
 
 -- "63 bytes"
@@ -59,21 +61,21 @@ unfolding written
 printed-bytes = refl
 
 -- "0 0 UIB, 13 0 UIH, 36 0 MSD, 47 0 UIT, 55 0 UIZ"
-pub printed-rows : numbers (rowsOf (one uit)) ≡ 0 ∷ 0 ∷ 5589314 ∷ 13 ∷ 0 ∷ 5589320 ∷ 36 ∷ 0 ∷ 5067588 ∷ 47 ∷ 0 ∷ 5589332 ∷ 55 ∷ 0 ∷ 5589338 ∷ []
-unfolding holds isMessage isSegment unbroken placesFrom permittedOf plainOn first later partOf tagged componentFits occurrenceFits elementFits withinLimits wellFormed spanOf countedAt elementAt sameText entryOf afterOf endOf placesOn reachable firstFit inGroup again laterOnes choicesFrom firstOf stepOf skdupdTable tsdupdTable decimalOn uibOf uihOf trailerOf rowsFrom numbers
+pub printed-rows : numbers (rowsOf (one uit)) ≡ 0 ∷ 0 ∷ UIB ∷ 13 ∷ 0 ∷ UIH ∷ 36 ∷ 0 ∷ MSD ∷ 47 ∷ 0 ∷ UIT ∷ 55 ∷ 0 ∷ UIZ ∷ []
+unfolding holds isMessage isSegment unbroken placesFrom permittedOf plainOn first later partOf tagged componentFits occurrenceFits elementFits withinLimits wellFormed spanOf countedAt elementAt sameText entryOf afterOf endOf placesOn reachable firstFit inGroup again laterOnes choicesFrom firstOf stepOf skdupdTable tsdupdTable tables tableIn decimalOn uibOf uihOf trailerOf rowsFrom numbers
 printed-rows = refl
 
 -- "With `UIT+1+4'` it is 7"
 pub printed-four : holds (one uit-four) ≡ false
-unfolding holds isMessage isSegment unbroken placesFrom permittedOf plainOn first later partOf tagged componentFits occurrenceFits elementFits withinLimits wellFormed spanOf countedAt elementAt sameText entryOf afterOf endOf placesOn reachable firstFit inGroup again laterOnes choicesFrom firstOf stepOf skdupdTable tsdupdTable decimalOn uibOf uihOf trailerOf
+unfolding holds isMessage isSegment unbroken placesFrom permittedOf plainOn first later partOf tagged componentFits occurrenceFits elementFits withinLimits wellFormed spanOf countedAt elementAt sameText entryOf afterOf endOf placesOn reachable firstFit inGroup again laterOnes choicesFrom firstOf stepOf skdupdTable tsdupdTable tables tableIn decimalOn uibOf uihOf trailerOf
 printed-four = refl
 
 -- "With `UIT+1+4'` it is 7 at 47."
 pub refused-four : readingOf (written (segmentsOf (one uit-four))) .verdict ≡ refused 7 47
-unfolding written permittedOf plainOn first later partOf tagged componentFits occurrenceFits elementFits withinLimits wellFormed scanOf permittedRun spanOf countedAt elementAt sameText entryOf afterOf endOf placesOn reachable firstFit inGroup again laterOnes choicesFrom firstOf stepOf skdupdTable tsdupdTable decimalOn uibOf uihOf trailerOf opening between closing trailing placed inside stepBy turnAt readOn readingOf
+unfolding written permittedOf plainOn first later partOf tagged componentFits occurrenceFits elementFits withinLimits wellFormed scanOf permittedRun spanOf countedAt elementAt sameText entryOf afterOf endOf placesOn reachable firstFit inGroup again laterOnes choicesFrom firstOf stepOf skdupdTable tsdupdTable tables tableIn decimalOn uibOf uihOf trailerOf opening between closing trailing placed inside stepBy turnAt readOn readingOf
 refused-four = refl
 
 -- "A newline added at the end is 7 at 63."
 pub refused-newline : readingOf (written (segmentsOf (one uit)) ++ (10 ∷ [])) .verdict ≡ refused 7 63
-unfolding written permittedOf plainOn first later partOf tagged componentFits occurrenceFits elementFits withinLimits wellFormed scanOf permittedRun spanOf countedAt elementAt sameText entryOf afterOf endOf placesOn reachable firstFit inGroup again laterOnes choicesFrom firstOf stepOf skdupdTable tsdupdTable decimalOn uibOf uihOf trailerOf opening between closing trailing placed inside stepBy turnAt readOn readingOf
+unfolding written permittedOf plainOn first later partOf tagged componentFits occurrenceFits elementFits withinLimits wellFormed scanOf permittedRun spanOf countedAt elementAt sameText entryOf afterOf endOf placesOn reachable firstFit inGroup again laterOnes choicesFrom firstOf stepOf skdupdTable tsdupdTable tables tableIn decimalOn uibOf uihOf trailerOf opening between closing trailing placed inside stepBy turnAt readOn readingOf
 refused-newline = refl

@@ -11,10 +11,12 @@ use Rattle.syntax.specs.Bytes.{terminator, permittedOf, releases, stands}
 use Rattle.syntax.specs.Segment.{tagNumber, wellFormed}
 use Rattle.placing.specs.declared.Stepped.{Stepped}
 use Rattle.placing.specs.declared.Stepped.the-variants.{Placed, OutOfPlace}
-use Rattle.placing.specs.Tags.{UIB, UIH, UIT, UIZ, POP}
+use Rattle.messages.specs.declared.MessageType.{MessageType}
+use Rattle.messages.specs.declared.MessageType.the-variants.{Skdupd}
+use Rattle.messages.specs.Tags.{UIB, UIH, UIT, UIZ}
+use Rattle.messages.specs.Types.{isPeriod}
 use Rattle.placing.specs.Table.{Table}
-use Rattle.placing.specs.Skdupd.{skdupdTable}
-use Rattle.placing.specs.Tsdupd.{tsdupdTable}
+use Rattle.placing.specs.Tables.{tableOf}
 use Rattle.placing.specs.Place.{startPlace}
 use Rattle.placing.specs.Rule.{stepOf, groupOf, isPlaced}
 use Rattle.envelope.specs.declared.Opened.{Opened}
@@ -72,21 +74,18 @@ names opened.Wrong = false
 
 -- "UIH names in S306 .. the type, `D`, `04A`, an empty 0113 and `UN`; then the reference 0340."
 abbrev pub known : Headed → Bool
-known (headed.Message kind p) = true
+known (headed.Message m p) = true
 known headed.Missing = false
 known headed.Unknown = false
 
--- the type that it names: 0 is SKDUPD, 1 is TSDUPD
-abbrev pub kindIn : Headed → ℕ
-kindIn (headed.Message kind p) = kind
-kindIn headed.Missing = 0
-kindIn headed.Unknown = 0
+-- the type that it names; where it names none, none is asked for
+abbrev pub typeIn : Headed → MessageType
+typeIn (headed.Message m p) = m
+typeIn headed.Missing = Skdupd
+typeIn headed.Unknown = Skdupd
 
-abbrev pub kindOf : Message → ℕ
-kindOf m = kindIn (uihOf (m .heading))
-
-abbrev pub tableFor : ℕ → Table
-tableFor kind = pick (eqb kind 0) skdupdTable tsdupdTable
+abbrev pub typeOf : Message → MessageType
+typeOf m = typeIn (uihOf (m .heading))
 
 -- "the dialogue reference of UIB", "the reference 0340" of UIH: the first component of the second element
 abbrev pub referenceIn : List ℕ → List ℕ
@@ -111,15 +110,12 @@ groupIn t (Placed p) = groupOf t p
 groupIn t OutOfPlace = 0
 
 -- "POP in group 4 of SKDUPD: ..": its contents are those of a period. "POP in other places is placed and not read."
-abbrev pub isPop : ℕ → List ℕ → ℕ → Bool
-isPop kind g group = both (eqb kind 0) (both (eqb (tagNumber g) POP) (eqb group 4))
-
 abbrev pub isGood : Period → Bool
 isGood (period.Good first days form) = true
 isGood (period.Wrong x) = false
 
-abbrev pub goodContents : ℕ → List ℕ × Stepped → Bool
-goodContents kind e = pick (isPop kind (e .0) (groupIn (tableFor kind) (e .1))) (isGood (periodOf (e .0))) true
+abbrev pub goodContents : MessageType → List ℕ × Stepped → Bool
+goodContents message e = pick (isPeriod message (tagNumber (e .0)) (groupIn (tableOf message) (e .1))) (isGood (periodOf (e .0))) true
 
 -- "UIH is the first place of a message and UIT the last."
 abbrev pub isTrailer : List ℕ → Bool
@@ -129,7 +125,7 @@ abbrev pub goesBefore : List ℕ → Bool
 goesBefore g = not (isTrailer g)
 
 abbrev pub places : Message → List (List ℕ × Stepped)
-places m = placesFrom (tableFor (kindOf m)) (Placed startPlace) (m .within ++ (m .trailer ∷ []))
+places m = placesFrom (tableOf (typeOf m)) (Placed startPlace) (m .within ++ (m .trailer ∷ []))
 
 abbrev pub goodHeading : Message → Bool
 goodHeading m = both (eqb (tagNumber (m .heading)) UIH) (known (uihOf (m .heading)))
@@ -138,7 +134,7 @@ abbrev pub goodPlaces : Message → Bool
 goodPlaces m = both (all goesBefore (m .within)) (all hasPlace (places m))
 
 abbrev pub goodPeriods : Message → Bool
-goodPeriods m = all (goodContents (kindOf m)) (placesFrom (tableFor (kindOf m)) (Placed startPlace) (m .within))
+goodPeriods m = all (goodContents (typeOf m)) (placesFrom (tableOf (typeOf m)) (Placed startPlace) (m .within))
 
 -- "UIT repeats 0340 and gives the number of segments, UIH and UIT included."
 abbrev pub goodTrailer : Message → Bool
@@ -175,7 +171,7 @@ abbrev pub withGroup : Table → List ℕ × Stepped → List ℕ × ℕ
 withGroup t e = (e .0, groupIn t (e .1))
 
 abbrev pub groupsIn : Message → List (List ℕ × ℕ)
-groupsIn m = (m .heading, 0) ∷ map (withGroup (tableFor (kindOf m))) (places m)
+groupsIn m = (m .heading, 0) ∷ map (withGroup (tableOf (typeOf m))) (places m)
 
 unfoldable pub rowsFrom : ℕ → List (List ℕ × ℕ) → List Row
 rowsFrom at [] = []

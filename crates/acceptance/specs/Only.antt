@@ -17,12 +17,12 @@ use Rattle.syntax.specs.declared.segment.Scanned.{Scanned}
 use Rattle.syntax.specs.declared.segment.Scanned.the-variants.{End, NotPermitted, Unended, Malformed}
 use Rattle.syntax.specs.Segment.{tagNumber, bodyAt, segmentAt}
 use Rattle.placing.specs.declared.Place.{Place}
-use Rattle.placing.specs.Skdupd.{skdupdTable}
-use Rattle.placing.specs.Tsdupd.{tsdupdTable}
+use Rattle.messages.specs.declared.MessageType.{MessageType}
+use Rattle.placing.specs.Tables.{tables, tableOf}
 use Rattle.placing.specs.declared.Stepped.the-variants.{Placed}
 use Rattle.placing.specs.Place.{startPlace}
 use Rattle.placing.specs.Rule.{stepOf}
-use Rattle.placing.specs.Tags.{UIH, UIZ}
+use Rattle.messages.specs.Tags.{UIH, UIZ}
 use Rattle.parts.specs.declared.Part.{Part}
 use Rattle.envelope.specs.declared.Headed.the-variants as headed
 use Rattle.envelope.specs.Envelope.{uihOf, uitOf, uizOf}
@@ -33,7 +33,7 @@ use Rattle.steps.specs.declared.state.Row.{Row}
 use Rattle.steps.specs.Step.{Taken, taken}
 use Rattle.steps.specs.State.{openingState, openedState, headedState, onwardState, endedState, closedState}
 use Rattle.interchange.specs.Reader.{accepted, isClosed, dialogueOf, referenceOf, turnStep, turnScan, turnAt, afterTurn, readOn, sized, readingOf}
-use Rattle.acceptance.specs.Interchange.{written, Message, segmentsIn, Interchange, eachOf, names, known, kindIn, tableFor, referenceIn, goodContents, isTrailer, isMessage, goodClosing, IsInterchange}
+use Rattle.acceptance.specs.Interchange.{written, Message, segmentsIn, Interchange, eachOf, names, known, typeIn, referenceIn, goodContents, isTrailer, isMessage, goodClosing, IsInterchange}
 use Rattle.acceptance.specs.Segments.{Cut, cut-at}
 use Rattle.acceptance.specs.Onward.{stepAt}
 use Rattle.acceptance.specs.Steps.{Opens, opens, Follows, heads, closes, follows, Moves, onward, ends, moves}
@@ -60,7 +60,7 @@ module _ (f : ℕ) (s : List ℕ) (st : State) (at : ℕ) where
       record { body = bodyAt s at; next = next; row = r; cut = c; step = h; rest = ap (λ (x : ℕ). readOn f s next (x + 1) .verdict) (sym n) ∙ q }
   by-step (refused number position) h e n c q = absurd (refused≢done q)
 
-  by-scan : (x : Scanned) → segmentAt s at ≡ x → afterTurn (readOn f s) (turnScan skdupdTable tsdupdTable s st at x) .verdict ≡ accepted → Further
+  by-scan : (x : Scanned) → segmentAt s at ≡ x → afterTurn (readOn f s) (turnScan tables s st at x) .verdict ≡ accepted → Further
   by-scan (End e) h q = let c = cut-at s at e h in by-step (stepAt s st at (bodyAt s at)) refl e (c .0) (c .1) q
   by-scan (NotPermitted i) h q = absurd (refused≢done q)
   by-scan Unended h q = absurd (refused≢done q)
@@ -88,8 +88,8 @@ pub record Ending (s : List ℕ) (at : ℕ) (d : List ℕ) (n : ℕ) : Type 0 wh
   pub some : 0 < n + length messages
   pub closes : goodClosing closing d (n + length messages) ≡ true
 
--- in a message of kind k after the place p, c of its segments having come; r is its reference
-pub record Going (s : List ℕ) (at : ℕ) (d : List ℕ) (n k : ℕ) (p : Place) (c : ℕ) (r : List ℕ) : Type 0 where
+-- in a message of type k after the place p, c of its segments having come; r is its reference
+pub record Going (s : List ℕ) (at : ℕ) (d : List ℕ) (n : ℕ) (k : MessageType) (p : Place) (c : ℕ) (r : List ℕ) : Type 0 where
   pub within : List (List ℕ)
   pub trailer : List ℕ
   pub held : Within k p c r within trailer
@@ -112,7 +112,7 @@ message-text g gs t ms c e q =
 abbrev Stands : Phase → List ℕ → State → ℕ → Type 0
 Stands Opening s st at = Unit {0}
 Stands Between s st at = Ending s at (dialogueOf s st) (st .messages)
-Stands Inside s st at = Going s at (dialogueOf s st) (st .messages) (st .kind) (st .place) (st .segments) (referenceOf s st)
+Stands Inside s st at = Going s at (dialogueOf s st) (st .messages) (st .message) (st .place) (st .segments) (referenceOf s st)
 Stands Closed s st at = length s ≤ at
 
 module _ (s : List ℕ) (small : length s ≤ 60000) where
@@ -125,7 +125,7 @@ module _ (s : List ℕ) (small : length s ≤ 60000) where
     after x next e = subst (λ (y : State). Accepts f s y (at + length (x .body) + 1)) e (x .rest)
 
     -- a UIH before what follows it
-    heads-ending : (x : Further f s st at) (k : ℕ) (p : Part) → eqb (tagNumber (x .body)) UIH ≡ true → uihOf (x .body) ≡ headed.Message k p
+    heads-ending : (x : Further f s st at) (k : MessageType) (p : Part) → eqb (tagNumber (x .body)) UIH ≡ true → uihOf (x .body) ≡ headed.Message k p
         → Going s (at + length (x .body) + 1) (dialogueOf s st) (st .messages) k startPlace 1 (referenceOf s (headedState st at k p)) → Ending s at (dialogueOf s st) (st .messages)
     heads-ending x k p t e w =
         let c = x .cut in
@@ -139,7 +139,7 @@ module _ (s : List ℕ) (small : length s ≤ 60000) where
           segment = c .segment;
           tag = t;
           named = ap known e;
-          rest = subst (λ (y : ℕ). Within y startPlace 1 (referenceIn (x .body)) (w .within) (w .trailer)) (sym (ap kindIn e))
+          rest = subst (λ (y : MessageType). Within y startPlace 1 (referenceIn (x .body)) (w .within) (w .trailer)) (sym (ap typeIn e))
               (subst (λ (y : List ℕ). Within k startPlace 1 y (w .within) (w .trailer)) r (w .held));
         }) in
         record {
@@ -175,15 +175,15 @@ module _ (s : List ℕ) (small : length s ≤ 60000) where
 
     -- a segment of the message before the others
     abbrev GoingAt : ℕ → Place → ℕ → Type 0
-    GoingAt then p c = Going s then (dialogueOf s st) (st .messages) (st .kind) p c (referenceOf s st)
+    GoingAt then p c = Going s then (dialogueOf s st) (st .messages) (st .message) p c (referenceOf s st)
 
-    onward-going : (x : Further f s st at) (p : Place) → stepOf (tableFor (st .kind)) (st .place) (tagNumber (x .body)) ≡ Placed p → isTrailer (x .body) ≡ false
-        → goodContents (st .kind) (x .body, Placed p) ≡ true → GoingAt (at + length (x .body) + 1) p (st .segments + 1) → GoingAt at (st .place) (st .segments)
+    onward-going : (x : Further f s st at) (p : Place) → stepOf (tableOf (st .message)) (st .place) (tagNumber (x .body)) ≡ Placed p → isTrailer (x .body) ≡ false
+        → goodContents (st .message) (x .body, Placed p) ≡ true → GoingAt (at + length (x .body) + 1) p (st .segments + 1) → GoingAt at (st .place) (st .segments)
     onward-going x p e t u w =
         record {
           within = x .body ∷ w .within;
           trailer = w .trailer;
-          held = from-front (st .kind) (st .place) (st .segments) (referenceOf s st) (w .trailer) (x .body) (w .within)
+          held = from-front (st .message) (st .place) (st .segments) (referenceOf s st) (w .trailer) (x .body) (w .within)
               (record { segment = x .cut .segment; place = p; fits = e; inner = t; contents = u; rest = w .held });
           then = w .then;
           ending = w .ending;
@@ -191,13 +191,13 @@ module _ (s : List ℕ) (small : length s ≤ 60000) where
         }
 
     -- the UIT before what follows the message
-    ends-going : (x : Further f s st at) (p : Place) → stepOf (tableFor (st .kind)) (st .place) (tagNumber (x .body)) ≡ Placed p → isTrailer (x .body) ≡ true
+    ends-going : (x : Further f s st at) (p : Place) → stepOf (tableOf (st .message)) (st .place) (tagNumber (x .body)) ≡ Placed p → isTrailer (x .body) ≡ true
         → uitOf (x .body) (referenceOf s st) (st .segments + 1) ≡ true → Ending s (at + length (x .body) + 1) (dialogueOf s st) (st .messages + 1) → GoingAt at (st .place) (st .segments)
     ends-going x p e t u w =
         record {
           within = [];
           trailer = x .body;
-          held = from-last (st .kind) (st .place) (st .segments) (referenceOf s st) (x .body)
+          held = from-last (st .message) (st .place) (st .segments) (referenceOf s st) (x .body)
               (record { segment = x .cut .segment; place = p; fits = e; trailer = t; counted = u });
           then = at + length (x .body) + 1;
           ending = w;

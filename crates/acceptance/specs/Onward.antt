@@ -9,8 +9,7 @@ use lib.ListN.{length, drop}
 use Rattle.answers.specs.Answers.{Answer, done}
 use Rattle.answers.specs.Laws.{refused≢done}
 use Rattle.syntax.specs.declared.segment.Scanned.the-variants.{End}
-use Rattle.placing.specs.Skdupd.{skdupdTable}
-use Rattle.placing.specs.Tsdupd.{tsdupdTable}
+use Rattle.placing.specs.Tables.{tables}
 use Rattle.steps.specs.declared.state.Phase.{Phase}
 use Rattle.steps.specs.declared.state.Phase.the-variants.{Opening, Between, Inside, Closed}
 use Rattle.steps.specs.declared.state.State.{State}
@@ -24,14 +23,14 @@ use Rattle.acceptance.specs.Segments.{segment-fits, after-segment, body-
 
 -- the step of a segment g at an offset of the text s
 abbrev pub stepAt : List ℕ → State → ℕ → List ℕ → Answer Taken
-stepAt s st at g = segmentStep skdupdTable tsdupdTable st at g (dialogueOf s st) (referenceOf s st)
+stepAt s st at g = segmentStep tables st at g (dialogueOf s st) (referenceOf s st)
 
 -- no segment follows the UIZ
 pub next-open : (s : List ℕ) (st : State) (at : ℕ) (g : List ℕ) (next : State) (r : Row) → stepAt s st at g ≡ done (taken next r) → isClosed (st .phase) ≡ false
 unfolding stepBy
 next-open s st at g next r q = by-phase (st .phase) q
   where
-    by-phase : (f : Phase) → stepBy skdupdTable tsdupdTable f st at g (dialogueOf s st) (referenceOf s st) ≡ done (taken next r) → isClosed f ≡ false
+    by-phase : (f : Phase) → stepBy tables f st at g (dialogueOf s st) (referenceOf s st) ≡ done (taken next r) → isClosed f ≡ false
     by-phase Opening e = refl
     by-phase Between e = refl
     by-phase Inside e = refl
@@ -40,9 +39,9 @@ next-open s st at g next r q = by-phase (st .phase) q
 -- one segment
 module _ (s : List ℕ) (st : State) (at : ℕ) (g rest : List ℕ) (e : drop at s ≡ g ++ (39 ∷ rest)) (ok : isSegment g ≡ true) (next : State) (r : Row)
     (q : stepAt s st at g ≡ done (taken next r)) where
-  turn-one : turnAt skdupdTable tsdupdTable s st at ≡ turnStep (at + length g + 1) (done (taken next r))
+  turn-one : turnAt tables s st at ≡ turnStep (at + length g + 1) (done (taken next r))
   turn-one =
-      sym (turn-is skdupdTable tsdupdTable s st at (End (at + length g)) (segment-is s at g rest e ok))
+      sym (turn-is tables s st at (End (at + length g)) (segment-is s at g rest e ok))
       ∙ ap (λ (x : List ℕ). turnStep (at + length g + 1) (stepAt s st at x)) (body-is s at g rest e ok)
       ∙ ap (turnStep (at + length g + 1)) q
 

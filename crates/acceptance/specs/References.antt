@@ -13,8 +13,7 @@ use Rattle.parts.specs.declared.Part.{Part}
 use Rattle.parts.specs.Places.{bytesOf, present}
 use Rattle.parts.specs.Located.{Inside, part-bytes, part-inside}
 use Rattle.envelope.specs.declared.Opened.the-variants.{Dialogue, Wrong}
-use Rattle.envelope.specs.declared.Headed.the-variants.{Message, Missing, Unknown}
-use Rattle.envelope.specs.Envelope.{says, valueOf, placeOf, UNOB, version4, SKDUPD, TSDUPD, uibOf, typeOf, versionOf, releaseOf, subFunctionOf, agencyOf, referenceOf, complete, directory, typed, uihOf}
+use Rattle.envelope.specs.Envelope.{says, valueOf, placeOf, UNOB, version4, uibOf}
 use Rattle.steps.specs.Ways.{whole}
 use Rattle.acceptance.specs.Interchange.{referenceIn}
 
@@ -38,7 +37,7 @@ reference-read g t =
     ∙ part-bytes g (record { from = 0; to = length g }) 2 1 1
     ∙ ap (λ (x : List ℕ). partOf x 2 1 1) (whole g)
 
--- the part that a good UIB and a good UIH name is that one
+-- the part that a good UIB names is that one; of a UIH the envelope has the law
 wrong≢dialogue : (p : Part) → Wrong ≡ Dialogue p → ⊥
 wrong≢dialogue p q = let z : _≡_ {A = ℕ} 0 1 = cc in omega arith
 
@@ -51,28 +50,3 @@ dialogue-place g p e =
     choose (both (says (valueOf g 1 1) UNOB) (both (says (valueOf g 1 2) version4) (present (valueOf g 2 1))))
     (λ q. dialogue-is (placeOf g 2 1) p (rw q at e))
     (λ q. absurd (wrong≢dialogue p (rw q at e)))
-
-module _ (k : ℕ) (p : Part) where
-  missing≢message : Missing ≡ Message k p → ⊥
-  missing≢message q = let z : _≡_ {A = ℕ} 0 1 = cc in omega arith
-
-  unknown≢message : Unknown ≡ Message k p → ⊥
-  unknown≢message q = let z : _≡_ {A = ℕ} 0 1 = cc in omega arith
-
-  message-is : (n : ℕ) (q : Part) → Message n q ≡ Message k p → p ≡ q
-  message-is n q e = cc
-
-  typed-place : (type : List ℕ) (q : Part) → typed type q ≡ Message k p → p ≡ q
-  typed-place type q e =
-      choose (says type SKDUPD) (λ a. message-is 0 q (rw a at e))
-      (λ a. choose (says type TSDUPD) (λ b. message-is 1 q (rw (a, b) at e)) (λ b. absurd (unknown≢message (rw (a, b) at e))))
-
-  pub message-place : (g : List ℕ) → uihOf g ≡ Message k p → p ≡ placeOf g 2 1
-  unfolding uihOf
-  message-place g e =
-      choose (complete (typeOf g) (versionOf g) (releaseOf g) (agencyOf g) (referenceOf g))
-      (λ a.
-      choose (directory (versionOf g) (releaseOf g) (subFunctionOf g) (agencyOf g))
-      (λ b. typed-place (typeOf g) (placeOf g 2 1) (rw (a, b) at e))
-      (λ b. absurd (unknown≢message (rw (a, b) at e))))
-      (λ a. absurd (missing≢message (rw a at e)))

@@ -11,7 +11,7 @@ use borrow.Author.Tests.{not-true, eqb-true}
 use Rattle.laws.specs.Choice.{both, all, both-parts, false≢true}
 use Rattle.syntax.specs.Pieces.{first}
 use Rattle.syntax.specs.Segment.{tagNumber}
-use Rattle.placing.specs.Tags.{UIH, UIZ}
+use Rattle.messages.specs.Tags.{UIH, UIZ}
 use Rattle.envelope.specs.Envelope.{uizOf}
 use Rattle.acceptance.specs.Interchange.{written, isSegment, Message, segmentsIn, Interchange, eachOf, segmentsOf, isTrailer, goesBefore, isMessage, referenceIn, holds}
 use Rattle.acceptance.specs.Segments.{segment-parts, first-whole, segment-fits, after-segment}

@@ -13,9 +13,10 @@ use Rattle.parts.specs.declared.Part.{Part}
 use Rattle.placing.specs.declared.Place.{Place}
 use Rattle.placing.specs.declared.Stepped.{Stepped}
 use Rattle.placing.specs.declared.Stepped.the-variants.{Placed, OutOfPlace}
-use Rattle.placing.specs.Skdupd.{skdupdTable}
-use Rattle.placing.specs.Tsdupd.{tsdupdTable}
-use Rattle.placing.specs.Tags.{UIB, UIH, UIZ}
+use Rattle.messages.specs.declared.MessageType.{MessageType}
+use Rattle.messages.specs.Types.{isPeriod}
+use Rattle.placing.specs.Tables.{tables, tableOf}
+use Rattle.messages.specs.Tags.{UIB, UIH, UIZ}
 use Rattle.placing.specs.Rule.{stepOf, groupOf}
 use Rattle.envelope.specs.declared.Opened.{Opened}
 use Rattle.envelope.specs.declared.Opened.the-variants.{Dialogue, Wrong}
@@ -32,7 +33,7 @@ use Rattle.steps.specs.declared.state.Row.{Row}
 use Rattle.steps.specs.State.{oneMore, openedState, headedState, onwardState, endedState, closedState}
 use Rattle.steps.specs.Step.{Taken, taken, rowOf, opened, opening, headed, closing, between, trailing, judged, placed, settled, inside, stepBy}
 use Rattle.interchange.specs.Reader.{dialogueOf, referenceOf}
-use Rattle.acceptance.specs.Interchange.{tableFor, isPop, isGood, goodContents, isTrailer}
+use Rattle.acceptance.specs.Interchange.{isGood, goodContents, isTrailer}
 use Rattle.acceptance.specs.Onward.{stepAt}
 
 next-is : (a b : State) (r q : Row) → done (taken a r) ≡ done (taken b q) → b ≡ a
@@ -40,7 +41,7 @@ next-is a b r q e = cc
 
 module _ (s : List ℕ) (st : State) (at : ℕ) (g : List ℕ) where
   abbrev by : Phase → Answer Taken
-  by f = stepBy skdupdTable tsdupdTable f st at g (dialogueOf s st) (referenceOf s st)
+  by f = stepBy tables f st at g (dialogueOf s st) (referenceOf s st)
 
   -- the UIB
   pub opening-goes : st .phase ≡ Opening → eqb (tagNumber g) UIB ≡ true → (p : Part) → uibOf g ≡ Dialogue p
@@ -49,7 +50,7 @@ module _ (s : List ℕ) (st : State) (at : ℕ) (g : List ℕ) where
   opening-goes f t p e = ap by f ∙ rw (t, e)
 
   -- a UIH
-  pub heading-goes : st .phase ≡ Between → eqb (tagNumber g) UIH ≡ true → (k : ℕ) (p : Part) → uihOf g ≡ Message k p
+  pub heading-goes : st .phase ≡ Between → eqb (tagNumber g) UIH ≡ true → (k : MessageType) (p : Part) → uihOf g ≡ Message k p
       → stepAt s st at g ≡ done (taken (headedState st at k p) (rowOf at g 0))
   unfolding stepBy between
   heading-goes f t k p e = ap by f ∙ rw (t, e)
@@ -62,26 +63,26 @@ module _ (s : List ℕ) (st : State) (at : ℕ) (g : List ℕ) where
 
   -- in a message
   abbrev fits : Place → Type 0
-  fits q = stepOf (tableFor (st .kind)) (st .place) (tagNumber g) ≡ Placed q
+  fits q = stepOf (tableOf (st .message)) (st .place) (tagNumber g) ≡ Placed q
 
   judged-good : (q : Place) (group : ℕ) (x : Period) → isGood x ≡ true → judged st at g q group x ≡ done (taken (onwardState st q) (rowOf at g group))
   judged-good q group (period.Good a n form) e = refl
   judged-good q group (period.Wrong x) e = absurd (false≢true e)
 
-  pub within-goes : st .phase ≡ Inside → (q : Place) → fits q → isTrailer g ≡ false → goodContents (st .kind) (g, Placed q) ≡ true
-      → stepAt s st at g ≡ done (taken (onwardState st q) (rowOf at g (groupOf (tableFor (st .kind)) q)))
+  pub within-goes : st .phase ≡ Inside → (q : Place) → fits q → isTrailer g ≡ false → goodContents (st .message) (g, Placed q) ≡ true
+      → stepAt s st at g ≡ done (taken (onwardState st q) (rowOf at g (groupOf (tableOf (st .message)) q)))
   unfolding stepBy inside placed
   within-goes f q e t c =
       ap by f
-      ∙ ap (settled (tableFor (st .kind)) st at g (referenceOf s st)) e
-      ∙ choose (isPop (st .kind) g (groupOf (tableFor (st .kind)) q))
-      (λ p. rw (t, p) (judged-good q (groupOf (tableFor (st .kind)) q) (periodOf g) (rw p at c)))
+      ∙ ap (settled (tableOf (st .message)) st at g (referenceOf s st)) e
+      ∙ choose (isPeriod (st .message) (tagNumber g) (groupOf (tableOf (st .message)) q))
+      (λ p. rw (t, p) (judged-good q (groupOf (tableOf (st .message)) q) (periodOf g) (rw p at c)))
       (λ p. rw (t, p))
 
   pub trailer-goes : st .phase ≡ Inside → (q : Place) → fits q → isTrailer g ≡ true → uitOf g (referenceOf s st) (oneMore (st .segments)) ≡ true
-      → stepAt s st at g ≡ done (taken (endedState st q) (rowOf at g (groupOf (tableFor (st .kind)) q)))
+      → stepAt s st at g ≡ done (taken (endedState st q) (rowOf at g (groupOf (tableOf (st .message)) q)))
   unfolding stepBy inside placed trailing
-  trailer-goes f q e t c = ap by f ∙ ap (settled (tableFor (st .kind)) st at g (referenceOf s st)) e ∙ rw (t, c)
+  trailer-goes f q e t c = ap by f ∙ ap (settled (tableOf (st .message)) st at g (referenceOf s st)) e ∙ rw (t, c)
 
   -- and the other way
   module _ (next : State) (r : Row) where
@@ -103,7 +104,7 @@ module _ (s : List ℕ) (st : State) (at : ℕ) (g : List ℕ) where
         (λ t. absurd (refused≢done (rw t at w)))
 
     pub data Follows : Type 0 where
-      heads : (k : ℕ) (p : Part) → eqb (tagNumber g) UIH ≡ true → uihOf g ≡ Message k p → next ≡ headedState st at k p → Follows
+      heads : (k : MessageType) (p : Part) → eqb (tagNumber g) UIH ≡ true → uihOf g ≡ Message k p → next ≡ headedState st at k p → Follows
       closes : eqb (tagNumber g) UIZ ≡ true → ltb 0 (st .messages) ≡ true → uizOf g (dialogueOf s st) (st .messages) ≡ true → next ≡ closedState st → Follows
 
     heads-by : (x : Headed) → uihOf g ≡ x → eqb (tagNumber g) UIH ≡ true → headed st at g x ≡ done (taken next r) → Follows
@@ -130,28 +131,28 @@ module _ (s : List ℕ) (st : State) (at : ℕ) (g : List ℕ) where
         (λ t. absurd (refused≢done (rw (n, t) at w))))
 
     pub data Moves : Type 0 where
-      onward : (q : Place) → fits q → isTrailer g ≡ false → goodContents (st .kind) (g, Placed q) ≡ true → next ≡ onwardState st q → Moves
+      onward : (q : Place) → fits q → isTrailer g ≡ false → goodContents (st .message) (g, Placed q) ≡ true → next ≡ onwardState st q → Moves
       ends : (q : Place) → fits q → isTrailer g ≡ true → uitOf g (referenceOf s st) (oneMore (st .segments)) ≡ true → next ≡ endedState st q → Moves
 
     judged-is : (q : Place) (group : ℕ) (x : Period) → judged st at g q group x ≡ done (taken next r) → (isGood x ≡ true) × (next ≡ onwardState st q)
     judged-is q group (period.Good a n form) e = (refl, next-is (onwardState st q) next (rowOf at g group) r e)
     judged-is q group (period.Wrong x) e = absurd (refused≢done e)
 
-    moves-by : (x : Stepped) → stepOf (tableFor (st .kind)) (st .place) (tagNumber g) ≡ x
-        → settled (tableFor (st .kind)) st at g (referenceOf s st) x ≡ done (taken next r) → Moves
+    moves-by : (x : Stepped) → stepOf (tableOf (st .message)) (st .place) (tagNumber g) ≡ x
+        → settled (tableOf (st .message)) st at g (referenceOf s st) x ≡ done (taken next r) → Moves
     unfolding placed trailing
     moves-by OutOfPlace e q = absurd (refused≢done q)
     moves-by (Placed p) e q =
         choose (isTrailer g)
         (λ t.
         choose (uitOf g (referenceOf s st) (oneMore (st .segments)))
-        (λ u. ends p e t u (next-is (endedState st p) next (rowOf at g (groupOf (tableFor (st .kind)) p)) r (rw (t, u) at q)))
+        (λ u. ends p e t u (next-is (endedState st p) next (rowOf at g (groupOf (tableOf (st .message)) p)) r (rw (t, u) at q)))
         (λ u. absurd (refused≢done (rw (t, u) at q))))
         (λ t.
-        choose (isPop (st .kind) g (groupOf (tableFor (st .kind)) p))
-        (λ c. let j = judged-is p (groupOf (tableFor (st .kind)) p) (periodOf g) (rw (t, c) at q) in onward p e t (rw c (j .0)) (j .1))
-        (λ c. onward p e t (rw c) (next-is (onwardState st p) next (rowOf at g (groupOf (tableFor (st .kind)) p)) r (rw (t, c) at q))))
+        choose (isPeriod (st .message) (tagNumber g) (groupOf (tableOf (st .message)) p))
+        (λ c. let j = judged-is p (groupOf (tableOf (st .message)) p) (periodOf g) (rw (t, c) at q) in onward p e t (rw c (j .0)) (j .1))
+        (λ c. onward p e t (rw c) (next-is (onwardState st p) next (rowOf at g (groupOf (tableOf (st .message)) p)) r (rw (t, c) at q))))
 
     pub moves : st .phase ≡ Inside → stepAt s st at g ≡ done (taken next r) → Moves
     unfolding stepBy inside
-    moves f q = moves-by (stepOf (tableFor (st .kind)) (st .place) (tagNumber g)) refl (sym (ap by f) ∙ q)
+    moves f q = moves-by (stepOf (tableOf (st .message)) (st .place) (tagNumber g)) refl (sym (ap by f) ∙ q)

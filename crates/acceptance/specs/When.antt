@@ -15,7 +15,9 @@ use Rattle.parts.specs.Places.{bytesOf}
 use Rattle.placing.specs.declared.Stepped.the-variants.{Placed}
 use Rattle.placing.specs.Place.{startPlace}
 use Rattle.placing.specs.Rule.{groupOf}
-use Rattle.placing.specs.Tags.{UIB, UIH, UIZ}
+use Rattle.messages.specs.declared.MessageType.{MessageType}
+use Rattle.placing.specs.Tables.{tableOf}
+use Rattle.messages.specs.Tags.{UIB, UIH, UIZ}
 use Rattle.envelope.specs.declared.Opened.{Opened}
 use Rattle.envelope.specs.declared.Opened.the-variants.{Dialogue, Wrong}
 use Rattle.envelope.specs.declared.Headed.{Headed}
@@ -29,9 +31,10 @@ use Rattle.steps.specs.Step.{taken, rowOf}
 use Rattle.interchange.specs.Reader.{Outcome, accepted, before, dialogueOf, referenceOf, readOn, readingOf}
 use Rattle.interchange.specs.Laws.{read-accepted}
 use Rattle.interchange.specs.Answers.{sized-read}
-use Rattle.acceptance.specs.Interchange.{written, isSegment, Message, segmentsIn, Interchange, eachOf, segmentsOf, names, known, kindIn, kindOf, tableFor, referenceIn, placesFrom, isMessage, goodOpening, goodClosing, holds, withGroup, groupsIn, rowsFrom, rowsOf}
+use Rattle.acceptance.specs.Interchange.{written, isSegment, Message, segmentsIn, Interchange, eachOf, segmentsOf, names, known, typeIn, typeOf, referenceIn, placesFrom, isMessage, goodOpening, goodClosing, holds, withGroup, groupsIn, rowsFrom, rowsOf}
 use Rattle.acceptance.specs.Segments.{segment-fits, after-segment}
-use Rattle.acceptance.specs.References.{reference-read, dialogue-place, message-place}
+use Rattle.envelope.specs.Laws.{uih-place}
+use Rattle.acceptance.specs.References.{reference-read, dialogue-place}
 use Rattle.acceptance.specs.Onward.{stepAt, read-one}
 use Rattle.acceptance.specs.Steps.{opening-goes, heading-goes, closing-goes, within-goes, trailer-goes}
 use Rattle.acceptance.specs.Within.{Within, to-last, to-front, Parts, to-parts}
@@ -55,10 +58,10 @@ pub one-more : (n : ℕ) → n < 65535 → oneMore n ≡ n + 1
 one-more n h = rw (lt-ltb n 65535 h)
 
 -- the references that are remembered
-pub reference-is : (s : List ℕ) (st : State) (at : ℕ) (g rest : List ℕ) (k : ℕ) (p : Part) → drop at s ≡ g ++ (39 ∷ rest) → uihOf g ≡ headed.Message k p
+pub reference-is : (s : List ℕ) (st : State) (at : ℕ) (g rest : List ℕ) (k : MessageType) (p : Part) → drop at s ≡ g ++ (39 ∷ rest) → uihOf g ≡ headed.Message k p
     → referenceOf s (headedState st at k p) ≡ referenceIn g
 reference-is s st at g rest k p e q =
-    ap (λ (x : List ℕ). bytesOf x p) e ∙ ap (bytesOf (g ++ (39 ∷ rest))) (message-place k p g q) ∙ reference-read g (39 ∷ rest)
+    ap (λ (x : List ℕ). bytesOf x p) e ∙ ap (bytesOf (g ++ (39 ∷ rest))) (uih-place g k p q) ∙ reference-read g (39 ∷ rest)
 
 pub dialogue-is : (s : List ℕ) (st : State) (at : ℕ) (g rest : List ℕ) (p : Part) → drop at s ≡ g ++ (39 ∷ rest) → uibOf g ≡ Dialogue p
     → dialogueOf s (openedState st at p) ≡ referenceIn g
@@ -80,7 +83,7 @@ named-is : (x : Opened) → names x ≡ true → (p : Part) × (x ≡ Dialogue p
 named-is (Dialogue p) e = (p, refl)
 named-is Wrong e = absurd (false≢true e)
 
-known-is : (x : Headed) → known x ≡ true → (k : ℕ) × (p : Part) × (x ≡ headed.Message k p)
+known-is : (x : Headed) → known x ≡ true → (k : MessageType) × (p : Part) × (x ≡ headed.Message k p)
 known-is (headed.Message k p) e = (k, p, refl)
 known-is headed.Missing e = absurd (false≢true e)
 known-is headed.Unknown e = absurd (false≢true e)
@@ -91,30 +94,30 @@ module _ (s : List ℕ) (small : length s ≤ 60000) where
   Follows d n rest l = (st : State) (at : ℕ) → After s st at d n → drop at s ≡ written rest → Reads s st at l
 
   module _ (rest : List (List ℕ)) (l : List (List ℕ × ℕ)) (last : List ℕ) where
-    within-reads : (gs : List (List ℕ)) (st : State) (at : ℕ) → st .phase ≡ Inside → Within (st .kind) (st .place) (st .segments) (referenceOf s st) gs last
+    within-reads : (gs : List (List ℕ)) (st : State) (at : ℕ) → st .phase ≡ Inside → Within (st .message) (st .place) (st .segments) (referenceOf s st) gs last
         → st .messages ≤ at → st .segments ≤ at → drop at s ≡ written (gs ++ (last ∷ rest)) → Follows (dialogueOf s st) (st .messages + 1) rest l
-        → Reads s st at (map (withGroup (tableFor (st .kind))) (placesFrom (tableFor (st .kind)) (Placed (st .place)) (gs ++ (last ∷ []))) ++ l)
+        → Reads s st at (map (withGroup (tableOf (st .message))) (placesFrom (tableOf (st .message)) (Placed (st .place)) (gs ++ (last ∷ []))) ++ l)
     unfolding written placesFrom
     within-reads [] st at f w a b e follows =
-        let x = to-last (st .kind) (st .place) (st .segments) (referenceOf s st) last w in
+        let x = to-last (st .message) (st .place) (st .segments) (referenceOf s st) last w in
         let n = segment-fits s at last (written rest) e in
         let o = one-more (st .segments) (omega arith) in
         let q = trailer-goes s st at last f (x .place) (x .fits) (x .trailer) (ap (uitOf last (referenceOf s st)) o ∙ x .counted) in
         rw (x .fits)
-        (reads-one s st at last (written rest) e (x .segment) (endedState st (x .place)) (groupOf (tableFor (st .kind)) (x .place)) q l
+        (reads-one s st at last (written rest) e (x .segment) (endedState st (x .place)) (groupOf (tableOf (st .message)) (x .place)) q l
         (follows (endedState st (x .place)) (at + length last + 1)
         (record { phase-is = refl; dialogue = refl; count = one-more (st .messages) (omega arith); few = omega arith })
         (after-segment s at last (written rest) e)))
     within-reads (g ∷ gs) st at f w a b e follows =
-        let x = to-front (st .kind) (st .place) (st .segments) (referenceOf s st) last g gs w in
+        let x = to-front (st .message) (st .place) (st .segments) (referenceOf s st) last g gs w in
         let n = segment-fits s at g (written (gs ++ (last ∷ rest))) e in
         let o = one-more (st .segments) (omega arith) in
         let q = within-goes s st at g f (x .place) (x .fits) (x .inner) (x .contents) in
         rw (x .fits)
-        (reads-one s st at g (written (gs ++ (last ∷ rest))) e (x .segment) (onwardState st (x .place)) (groupOf (tableFor (st .kind)) (x .place)) q
-        (map (withGroup (tableFor (st .kind))) (placesFrom (tableFor (st .kind)) (Placed (x .place)) (gs ++ (last ∷ []))) ++ l)
+        (reads-one s st at g (written (gs ++ (last ∷ rest))) e (x .segment) (onwardState st (x .place)) (groupOf (tableOf (st .message)) (x .place)) q
+        (map (withGroup (tableOf (st .message))) (placesFrom (tableOf (st .message)) (Placed (x .place)) (gs ++ (last ∷ []))) ++ l)
         (within-reads gs (onwardState st (x .place)) (at + length g + 1) refl
-        (subst (λ (c : ℕ). Within (st .kind) (x .place) c (referenceOf s st) gs last) (sym o) (x .rest))
+        (subst (λ (c : ℕ). Within (st .message) (x .place) c (referenceOf s st) gs last) (sym o) (x .rest))
         (omega arith) (subst (λ (c : ℕ). c ≤ at + length g + 1) (sym o) (omega arith))
         (after-segment s at g (written (gs ++ (last ∷ rest))) e) follows))
 
@@ -123,10 +126,10 @@ module _ (s : List ℕ) (small : length s ≤ 60000) where
     abbrev after : List ℕ
     after = written (m .within ++ (m .trailer ∷ rest))
 
-    abbrev groupsBy : ℕ → List (List ℕ × ℕ)
-    groupsBy kind = map (withGroup (tableFor kind)) (placesFrom (tableFor kind) (Placed startPlace) (m .within ++ (m .trailer ∷ [])))
+    abbrev groupsBy : MessageType → List (List ℕ × ℕ)
+    groupsBy message = map (withGroup (tableOf message)) (placesFrom (tableOf message) (Placed startPlace) (m .within ++ (m .trailer ∷ [])))
 
-    heading-reads : (k : ℕ) (p : Part) → uihOf (m .heading) ≡ headed.Message k p → Parts m → drop at s ≡ m .heading ++ (39 ∷ after) → Follows d (n + 1) rest l
+    heading-reads : (k : MessageType) (p : Part) → uihOf (m .heading) ≡ headed.Message k p → Parts m → drop at s ≡ m .heading ++ (39 ∷ after) → Follows d (n + 1) rest l
         → Reads s (headedState st at k p) (at + length (m .heading) + 1) (groupsBy k ++ l)
     heading-reads k p q w e follows =
         let i = segment-fits s at (m .heading) after e in
@@ -135,21 +138,21 @@ module _ (s : List ℕ) (small : length s ≤ 60000) where
         let r = sym (reference-is s st at (m .heading) after k p e q) in
         within-reads rest l (m .trailer) (m .within) (headedState st at k p) (at + length (m .heading) + 1) refl
         (subst (λ (y : List ℕ). Within k startPlace 1 y (m .within) (m .trailer)) r
-        (subst (λ (y : ℕ). Within y startPlace 1 (referenceIn (m .heading)) (m .within) (m .trailer)) (ap kindIn q) (w .rest)))
+        (subst (λ (y : MessageType). Within y startPlace 1 (referenceIn (m .heading)) (m .within) (m .trailer)) (ap typeIn q) (w .rest)))
         (omega arith) (omega arith) (after-segment s at (m .heading) after e)
         (λ st₁ at₁ t y.
         follows st₁ at₁
         (record { phase-is = t .phase-is; dialogue = t .dialogue ∙ a .dialogue; count = t .count ∙ ap (λ (x : ℕ). x + 1) o; few = subst (λ (x : ℕ). x + 1 ≤ at₁) o (t .few) })
         y)
 
-    message-reads : isMessage m ≡ true → drop at s ≡ m .heading ++ (39 ∷ after) → Follows d (n + 1) rest l → Reads s st at ((m .heading, 0) ∷ (groupsBy (kindOf m) ++ l))
+    message-reads : isMessage m ≡ true → drop at s ≡ m .heading ++ (39 ∷ after) → Follows d (n + 1) rest l → Reads s st at ((m .heading, 0) ∷ (groupsBy (typeOf m) ++ l))
     message-reads h e follows =
         let w = to-parts m h in
         let x = known-is (uihOf (m .heading)) (w .named) in
         reads-one s st at (m .heading) after e (w .segment) (headedState st at (x .0) (x .1)) 0
         (heading-goes s st at (m .heading) (a .phase-is) (w .tag) (x .0) (x .1) (x .2))
-        (groupsBy (kindOf m) ++ l)
-        (subst (λ (y : ℕ). Reads s (headedState st at (x .0) (x .1)) (at + length (m .heading) + 1) (groupsBy y ++ l)) (sym (ap kindIn (x .2)))
+        (groupsBy (typeOf m) ++ l)
+        (subst (λ (y : MessageType). Reads s (headedState st at (x .0) (x .1)) (at + length (m .heading) + 1) (groupsBy y ++ l)) (sym (ap typeIn (x .2)))
         (heading-reads (x .0) (x .1) (x .2) w e follows))
 
   module _ (d closing : List ℕ) where

@@ -13,38 +13,40 @@ use Rattle.syntax.specs.Segment.{tagNumber}
 use Rattle.placing.specs.declared.Place.{Place}
 use Rattle.placing.specs.declared.Stepped.{Stepped}
 use Rattle.placing.specs.declared.Stepped.the-variants.{Placed, OutOfPlace}
-use Rattle.placing.specs.Tags.{UIH}
+use Rattle.messages.specs.declared.MessageType.{MessageType}
+use Rattle.placing.specs.Tables.{tableOf}
+use Rattle.messages.specs.Tags.{UIH}
 use Rattle.placing.specs.Place.{startPlace}
 use Rattle.placing.specs.Rule.{stepOf, isPlaced}
 use Rattle.envelope.specs.Envelope.{uihOf, uitOf}
-use Rattle.acceptance.specs.Interchange.{isSegment, Message, segmentsIn, known, kindOf, tableFor, referenceIn, placesFrom, hasPlace, goodContents, isTrailer, goesBefore, places, goodHeading, goodPlaces, goodPeriods, goodTrailer, isMessage}
+use Rattle.acceptance.specs.Interchange.{isSegment, Message, segmentsIn, known, typeOf, referenceIn, placesFrom, hasPlace, goodContents, isTrailer, goesBefore, places, goodHeading, goodPlaces, goodPeriods, goodTrailer, isMessage}
 
 placed-is : (x : Stepped) → isPlaced x ≡ true → (q : Place) × (x ≡ Placed q)
 placed-is (Placed q) e = (q, refl)
 placed-is OutOfPlace e = absurd (false≢true e)
 
--- segments of a message of kind k that come after the place p, c segments having come; r is the reference of the UIH
-pub record Within (k : ℕ) (p : Place) (c : ℕ) (r : List ℕ) (gs : List (List ℕ)) (last : List ℕ) : Type 0 where
+-- segments of a message of type k that come after the place p, c segments having come; r is the reference of the UIH
+pub record Within (k : MessageType) (p : Place) (c : ℕ) (r : List ℕ) (gs : List (List ℕ)) (last : List ℕ) : Type 0 where
   pub segments : all isSegment (gs ++ (last ∷ [])) ≡ true
   pub inner : all goesBefore gs ≡ true
-  pub placed : all hasPlace (placesFrom (tableFor k) (Placed p) (gs ++ (last ∷ []))) ≡ true
-  pub contents : all (goodContents k) (placesFrom (tableFor k) (Placed p) gs) ≡ true
+  pub placed : all hasPlace (placesFrom (tableOf k) (Placed p) (gs ++ (last ∷ []))) ≡ true
+  pub contents : all (goodContents k) (placesFrom (tableOf k) (Placed p) gs) ≡ true
   pub trailer : isTrailer last ≡ true
   pub counted : uitOf last r (c + length gs + 1) ≡ true
 
-module _ (k : ℕ) (p : Place) (c : ℕ) (r : List ℕ) (last : List ℕ) where
+module _ (k : MessageType) (p : Place) (c : ℕ) (r : List ℕ) (last : List ℕ) where
   -- the UIT alone
   pub record Last : Type 0 where
     pub segment : isSegment last ≡ true
     pub place : Place
-    pub fits : stepOf (tableFor k) p (tagNumber last) ≡ Placed place
+    pub fits : stepOf (tableOf k) p (tagNumber last) ≡ Placed place
     pub trailer : isTrailer last ≡ true
     pub counted : uitOf last r (c + 1) ≡ true
 
   pub to-last : Within k p c r [] last → Last
   unfolding placesFrom
   to-last w =
-      let q = placed-is (stepOf (tableFor k) p (tagNumber last)) (both-parts (isPlaced (stepOf (tableFor k) p (tagNumber last))) true (w .placed) .0) in
+      let q = placed-is (stepOf (tableOf k) p (tagNumber last)) (both-parts (isPlaced (stepOf (tableOf k) p (tagNumber last))) true (w .placed) .0) in
       let n : c + 0 + 1 ≡ c + 1 = omega arith in
       record {
         segment = both-parts (isSegment last) true (w .segments) .0;
@@ -72,7 +74,7 @@ module _ (k : ℕ) (p : Place) (c : ℕ) (r : List ℕ) (last : List ℕ) where
     pub record Front : Type 0 where
       pub segment : isSegment g ≡ true
       pub place : Place
-      pub fits : stepOf (tableFor k) p (tagNumber g) ≡ Placed place
+      pub fits : stepOf (tableOf k) p (tagNumber g) ≡ Placed place
       pub inner : isTrailer g ≡ false
       pub contents : goodContents k (g, Placed place) ≡ true
       pub rest : Within k place (c + 1) r gs last
@@ -80,10 +82,10 @@ module _ (k : ℕ) (p : Place) (c : ℕ) (r : List ℕ) (last : List ℕ) where
     pub to-front : Within k p c r (g ∷ gs) last → Front
     unfolding placesFrom
     to-front w =
-        let x = stepOf (tableFor k) p (tagNumber g) in
-        let a = both-parts (isPlaced x) (all hasPlace (placesFrom (tableFor k) x (gs ++ (last ∷ [])))) (w .placed) in
+        let x = stepOf (tableOf k) p (tagNumber g) in
+        let a = both-parts (isPlaced x) (all hasPlace (placesFrom (tableOf k) x (gs ++ (last ∷ [])))) (w .placed) in
         let q = placed-is x (a .0) in
-        let b = both-parts (goodContents k (g, x)) (all (goodContents k) (placesFrom (tableFor k) x gs)) (w .contents) in
+        let b = both-parts (goodContents k (g, x)) (all (goodContents k) (placesFrom (tableOf k) x gs)) (w .contents) in
         let d = both-parts (isSegment g) (all isSegment (gs ++ (last ∷ []))) (w .segments) in
         let e = both-parts (not (isTrailer g)) (all goesBefore gs) (w .inner) in
         let n : c + 1 + length gs + 1 ≡ c + length (g ∷ gs) + 1 = omega arith in
@@ -121,7 +123,7 @@ pub record Parts (m : Message) : Type 0 where
   pub segment : isSegment (m .heading) ≡ true
   pub tag : eqb (tagNumber (m .heading)) UIH ≡ true
   pub named : known (uihOf (m .heading)) ≡ true
-  pub rest : Within (kindOf m) startPlace 1 (referenceIn (m .heading)) (m .within) (m .trailer)
+  pub rest : Within (typeOf m) startPlace 1 (referenceIn (m .heading)) (m .within) (m .trailer)
 
 module _ (m : Message) where
   pub to-parts : isMessage m ≡ true → Parts m

@@ -12,6 +12,8 @@ use Rattle.syntax.specs.Pieces.{partOf}
 use Rattle.parts.specs.declared.Part.{Part}
 use Rattle.parts.specs.Places.{partAt, present}
 use Rattle.values.specs.Values.{sameText}
+use Rattle.messages.specs.declared.MessageType.{MessageType}
+use Rattle.messages.specs.declared.MessageType.the-variants.{Skdupd, Tsdupd}
 use Rattle.envelope.specs.declared.Opened.{Opened}
 use Rattle.envelope.specs.declared.Opened.the-variants.{Dialogue, Wrong}
 use Rattle.envelope.specs.declared.Headed.{Headed}
@@ -89,9 +91,9 @@ abbrev pub directory : List ℕ → List ℕ → List ℕ → List ℕ → Bool
 directory version release subFunction agency =
     both (says version versionD) (both (says release release04A) (both (not (present subFunction)) (says agency agencyUN)))
 
--- the type: 0 is SKDUPD, 1 is TSDUPD; with it goes the place of 0340
+-- the type; with it goes the place of 0340
 abbrev pub typed : List ℕ → Part → Headed
-typed type reference = pick (says type SKDUPD) (Message 0 reference) (pick (says type TSDUPD) (Message 1 reference) Unknown)
+typed type reference = pick (says type SKDUPD) (Message Skdupd reference) (pick (says type TSDUPD) (Message Tsdupd reference) Unknown)
 
 -- an absent part is 7 also where another part is wrong; then what is not known is 8
 unfoldable pub uihOf : List ℕ → Headed
@@ -120,11 +122,11 @@ openedAnswer at (Dialogue p) = done p
 openedAnswer at Wrong = wrongEnvelope at
 
 pub record Head : Type 0 where
-  pub kind : ℕ
+  pub message : MessageType
   pub reference : Part
 
 abbrev pub headedAnswer : ℕ → Headed → Answer Head
-headedAnswer at (Message t p) = done (record { kind = t; reference = p })
+headedAnswer at (Message m p) = done (record { message = m; reference = p })
 headedAnswer at Missing = wrongEnvelope at
 headedAnswer at Unknown = unknownType at
 
@@ -138,8 +140,8 @@ uibAnswer at g = pick (opens g) (done (placeOf g 2 1)) (wrongEnvelope at)
 
 abbrev pub typeAnswer : ℕ → List ℕ → Part → Answer Head
 typeAnswer at type reference =
-    pick (says type SKDUPD) (done (record { kind = 0; reference = reference }))
-    (pick (says type TSDUPD) (done (record { kind = 1; reference = reference })) (unknownType at))
+    pick (says type SKDUPD) (done (record { message = Skdupd; reference = reference }))
+    (pick (says type TSDUPD) (done (record { message = Tsdupd; reference = reference })) (unknownType at))
 
 unfoldable pub uihAnswer : ℕ → List ℕ → Answer Head
 uihAnswer at g =

@@ -17,6 +17,8 @@ use Rattle.syntax.specs.Pieces.{partOf}
 use Rattle.parts.specs.declared.Part.{Part}
 use Rattle.parts.specs.Places.{present, bytesOf, elementAt, occurrenceAt}
 use Rattle.parts.specs.Located.{Inside, part-bytes, part-inside, absent-bytes, bytes-present}
+use Rattle.messages.specs.declared.MessageType.{MessageType}
+use Rattle.messages.specs.declared.MessageType.the-variants.{Skdupd, Tsdupd}
 use Rattle.envelope.specs.declared.Opened.the-variants.{Dialogue, Wrong}
 use Rattle.envelope.specs.declared.Headed.the-variants.{Message, Missing, Unknown}
 use Rattle.envelope.specs.Envelope.{says, valueOf, placeOf, complete, directory, typed, typeOf, versionOf, releaseOf, agencyOf, subFunctionOf, referenceOf, UNOB, version4, SKDUPD, TSDUPD, uibOf, uihOf}
@@ -101,28 +103,22 @@ uib-reference g p q =
     (both-parts (says (valueOf g 1 2) version4) (present (valueOf g 2 1)) (both-parts (says (valueOf g 1 1) UNOB) (both (says (valueOf g 1 2) version4) (present (valueOf g 2 1))) t .1) .1))
     (λ t. absurd (wrong≢dialogue p (rw t at q)))
 
-missing≢message : (t : ℕ) (p : Part) → Missing ≡ Message t p → ⊥
-missing≢message t p q = let z : _≡_ {A = ℕ} 0 1 = cc in omega arith
+missing≢message : (m : MessageType) (p : Part) → Missing ≡ Message m p → ⊥
+missing≢message m p q = let z : _≡_ {A = ℕ} 0 1 = cc in omega arith
 
-unknown≢message : (t : ℕ) (p : Part) → Unknown ≡ Message t p → ⊥
-unknown≢message t p q = let z : _≡_ {A = ℕ} 0 1 = cc in omega arith
+unknown≢message : (m : MessageType) (p : Part) → Unknown ≡ Message m p → ⊥
+unknown≢message m p q = let z : _≡_ {A = ℕ} 0 1 = cc in omega arith
 
-message-is : (s t : ℕ) (a b : Part) → Message s a ≡ Message t b → (s ≡ t) × (a ≡ b)
-message-is s t a b q = (cc, cc)
+message-place : (m n : MessageType) (a b : Part) → Message m a ≡ Message n b → a ≡ b
+message-place m n a b q = cc
 
--- the type handed out is 0 or 1, with the place it was given
-typed-is : (l : List ℕ) (a p : Part) (t : ℕ) → typed l a ≡ Message t p → (t < 2) × (a ≡ p)
-typed-is l a p t q =
-    choose (says l SKDUPD)
+-- the place handed out is the one that was given
+typed-place : (l : List ℕ) (a p : Part) (m : MessageType) → typed l a ≡ Message m p → a ≡ p
+typed-place l a p m q =
+    choose (says l SKDUPD) (λ k. message-place Skdupd m a p (rw k at q))
     (λ k.
-    let w = message-is 0 t a p (rw k at q) in
-    (omega arith, w .1))
-    (λ k.
-    choose (says l TSDUPD)
-    (λ m.
-    let w = message-is 1 t a p (rw (k, m) at q) in
-    (omega arith, w .1))
-    (λ m. absurd (unknown≢message t p (rw (k, m) at q))))
+    choose (says l TSDUPD) (λ t. message-place Tsdupd m a p (rw (k, t) at q))
+    (λ t. absurd (unknown≢message m p (rw (k, t) at q))))
 
 complete-reference : (a b d e r : List ℕ) → complete a b d e r ≡ true → present r ≡ true
 complete-reference a b d e r q =
@@ -132,22 +128,23 @@ complete-reference a b d e r q =
     let z = both-parts (present e) (both (present r) true) y .1 in
     both-parts (present r) true z .0
 
--- a UIH that is good has every part; its type is 0 or 1
-module _ (g : List ℕ) (t : ℕ) (p : Part) where
-  good-head : uihOf g ≡ Message t p → (present (referenceOf g) ≡ true) × (t < 2) × (placeOf g 2 1 ≡ p)
+-- a UIH that is good has every part
+module _ (g : List ℕ) (m : MessageType) (p : Part) where
+  good-head : uihOf g ≡ Message m p → (present (referenceOf g) ≡ true) × (placeOf g 2 1 ≡ p)
   unfolding uihOf
   good-head q =
       choose (complete (typeOf g) (versionOf g) (releaseOf g) (agencyOf g) (referenceOf g))
       (λ k.
       choose (directory (versionOf g) (releaseOf g) (subFunctionOf g) (agencyOf g))
-      (λ m.
-      let w = typed-is (typeOf g) (placeOf g 2 1) p t (rw (k, m) at q) in
-      (complete-reference (typeOf g) (versionOf g) (releaseOf g) (agencyOf g) (referenceOf g) k, w .0, w .1))
-      (λ m. absurd (unknown≢message t p (rw (k, m) at q))))
-      (λ k. absurd (missing≢message t p (rw k at q)))
+      (λ d. (
+        complete-reference (typeOf g) (versionOf g) (releaseOf g) (agencyOf g) (referenceOf g) k,
+        typed-place (typeOf g) (placeOf g 2 1) p m (rw (k, d) at q),
+      ))
+      (λ d. absurd (unknown≢message m p (rw (k, d) at q))))
+      (λ k. absurd (missing≢message m p (rw k at q)))
 
-  pub uih-reference : uihOf g ≡ Message t p → Reference g p
-  uih-reference q = let w = good-head q in reference-at g p (w .2) (w .0)
+  pub uih-place : uihOf g ≡ Message m p → p ≡ placeOf g 2 1
+  uih-place q = sym (good-head q .1)
 
-  pub uih-type : uihOf g ≡ Message t p → t < 2
-  uih-type q = good-head q .1
+  pub uih-reference : uihOf g ≡ Message m p → Reference g p
+  uih-reference q = let w = good-head q in reference-at g p (w .1) (w .0)

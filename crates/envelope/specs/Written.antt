@@ -15,6 +15,8 @@ use Rattle.syntax.specs.Pieces.{first, later, partOf}
 use Rattle.values.specs.Values.{sameText}
 use Rattle.parts.specs.declared.Part.{Part}
 use Rattle.parts.specs.Places.{partAt, elementAt, occurrenceAt, componentAt, spanOf, present}
+use Rattle.messages.specs.declared.MessageType.{MessageType}
+use Rattle.messages.specs.declared.MessageType.the-variants.{Skdupd, Tsdupd}
 use Rattle.envelope.specs.declared.Headed.{Headed}
 use Rattle.envelope.specs.Laws.{whole-bytes, between-end, present-place}
 use Rattle.envelope.specs.declared.Headed.the-variants.{Message, Missing}
@@ -66,22 +68,22 @@ unfoldable pub besides : List ℕ → Part
 besides g = partAt g (record { from = 20; to = length g }) 1 1 1
 
 -- a UIH of which all but 0340 is known to be good
-abbrev pub writtenOf : ℕ → List ℕ → Headed
-writtenOf type g = pick (leb (besides g .to) (besides g .from)) Missing (Message type (besides g))
+abbrev pub writtenOf : MessageType → List ℕ → Headed
+writtenOf message g = pick (leb (besides g .to) (besides g .from)) Missing (Message message (besides g))
 
-module _ (type : ℕ) (g : List ℕ) (p : Part) (e : p ≡ besides g) where
-  pub written-absent : leb (p .to) (p .from) ≡ true → Missing ≡ writtenOf type g
+module _ (message : MessageType) (g : List ℕ) (p : Part) (e : p ≡ besides g) where
+  pub written-absent : leb (p .to) (p .from) ≡ true → Missing ≡ writtenOf message g
   written-absent q = rw (sym (ap (λ (x : Part). leb (x .to) (x .from)) e) ∙ q)
 
-  pub written-good : leb (p .to) (p .from) ≡ false → Message type p ≡ writtenOf type g
-  written-good q = rw (sym (ap (λ (x : Part). leb (x .to) (x .from)) e) ∙ q) (ap (Message type) e)
+  pub written-good : leb (p .to) (p .from) ≡ false → Message message p ≡ writtenOf message g
+  written-good q = rw (sym (ap (λ (x : Part). leb (x .to) (x .from)) e) ∙ q) (ap (Message message) e)
 
 -- what a text must be for that: where the element of 0340 stands behind it, and that nothing but 0340 can be wrong
-record Known (type : ℕ) (text : List ℕ) : Type 0 where
+record Known (message : MessageType) (text : List ℕ) : Type 0 where
   pub element : (rest : List ℕ) → elementAt (text ++ rest) (record { from = 20; to = length (text ++ rest) }) 1 ≡ elementAt (text ++ rest) (record { from = 0; to = length (text ++ rest) }) 2
-  pub good : (rest : List ℕ) → uihOf (text ++ rest) ≡ pick (both (present (referenceOf (text ++ rest))) true) (Message type (placeOf (text ++ rest) 2 1)) Missing
+  pub good : (rest : List ℕ) → uihOf (text ++ rest) ≡ pick (both (present (referenceOf (text ++ rest))) true) (Message message (placeOf (text ++ rest) 2 1)) Missing
 
-skdupd : Known 0 headSKDUPD
+skdupd : Known Skdupd headSKDUPD
 unfolding uihOf partOf first later plainOn sameText elementAt spanOf
 skdupd =
     record {
@@ -89,7 +91,7 @@ skdupd =
       good = λ rest. refl;
     }
 
-tsdupd : Known 1 headTSDUPD
+tsdupd : Known Tsdupd headTSDUPD
 unfolding uihOf partOf first later plainOn sameText elementAt spanOf
 tsdupd =
     record {
@@ -97,22 +99,22 @@ tsdupd =
       good = λ rest. refl;
     }
 
-module _ (type : ℕ) (text : List ℕ) (k : Known type text) where
+module _ (message : MessageType) (text : List ℕ) (k : Known message text) where
   behind : (rest : List ℕ) → besides (text ++ rest) ≡ placeOf (text ++ rest) 2 1
   unfolding besides
   behind rest = ap (λ (x : Part). componentAt (text ++ rest) (occurrenceAt (text ++ rest) x 1) 1) (k .element rest)
 
-  written-rest : (rest : List ℕ) → writtenOf type (text ++ rest) ≡ uihOf (text ++ rest)
+  written-rest : (rest : List ℕ) → writtenOf message (text ++ rest) ≡ uihOf (text ++ rest)
   written-rest rest =
       let p = placeOf (text ++ rest) 2 1 in
       rw (behind rest, k .good rest, present-place (text ++ rest) 2 1)
       (choose (leb (placeOf (text ++ rest) 2 1 .to) (placeOf (text ++ rest) 2 1 .from)) (λ q. rw q) (λ q. rw q))
 
-  written : (g : List ℕ) → beginsWith g text ≡ true → writtenOf type g ≡ uihOf g
-  written g q = subst (λ (x : List ℕ). writtenOf type x ≡ uihOf x) (sym (begins-split g text q)) (written-rest (drop (length text) g))
+  written : (g : List ℕ) → beginsWith g text ≡ true → writtenOf message g ≡ uihOf g
+  written g q = subst (λ (x : List ℕ). writtenOf message x ≡ uihOf x) (sym (begins-split g text q)) (written-rest (drop (length text) g))
 
-pub skdupd-head : (g : List ℕ) → beginsWith g headSKDUPD ≡ true → writtenOf 0 g ≡ uihOf g
-skdupd-head g q = written 0 headSKDUPD skdupd g q
+pub skdupd-head : (g : List ℕ) → beginsWith g headSKDUPD ≡ true → writtenOf Skdupd g ≡ uihOf g
+skdupd-head g q = written Skdupd headSKDUPD skdupd g q
 
-pub tsdupd-head : (g : List ℕ) → beginsWith g headTSDUPD ≡ true → writtenOf 1 g ≡ uihOf g
-tsdupd-head g q = written 1 headTSDUPD tsdupd g q
+pub tsdupd-head : (g : List ℕ) → beginsWith g headTSDUPD ≡ true → writtenOf Tsdupd g ≡ uihOf g
+tsdupd-head g q = written Tsdupd headTSDUPD tsdupd g q

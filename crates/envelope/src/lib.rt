@@ -1,6 +1,7 @@
 //! The contents of the four service segments: UIB, UIH, UIT, UIZ.
 //! Each function takes a segment's own bytes, from its tag up to and without its terminator.
 
+use messages::MessageType;
 use parts::Part;
 ghost use mathlib.Core.Path.{_≡_};
 ghost use Prim.Native.Nat.{ℕ, _%_, _≤_};
@@ -25,8 +26,8 @@ pub enum Opened {
 
 /// What a UIH says.
 pub enum Headed {
-    /// The type, 0 for SKDUPD and 1 for TSDUPD, and where the reference 0340 stands in the segment.
-    Message(u8, Part),
+    /// The type, and where the reference 0340 stands in the segment.
+    Message(MessageType, Part),
     /// 7: a part that must be present is absent.
     Missing,
     /// 8: another type or directory.
@@ -182,17 +183,17 @@ fn message(message_type: &[u8], reference: Part) -> Headed
     ensures { λ r. ⌜ r ≡ typed (now («message_type» .entry)) reference ⌝ }
 {
     if values::equals(message_type, b"SKDUPD") {
-        return Headed::Message(0, reference);
+        return Headed::Message(MessageType::Skdupd, reference);
     }
     if values::equals(message_type, b"TSDUPD") {
-        return Headed::Message(1, reference);
+        return Headed::Message(MessageType::Tsdupd, reference);
     }
     Headed::Unknown
 }
 
 // A UIH that begins as most are written: only its reference may be missing.
-fn read_written(segment: &[u8], kind: u8) -> Headed
-    ensures { λ r. ⌜ r ≡ writtenOf kind (now (segment .entry)) ⌝ }
+fn read_written(segment: &[u8], message: MessageType) -> Headed
+    ensures { λ r. ⌜ r ≡ writtenOf message (now (segment .entry)) ⌝ }
 {
     let rest = Part {
         from: 20,
@@ -202,7 +203,7 @@ fn read_written(segment: &[u8], kind: u8) -> Headed
     if reference.is_absent() {
         return Headed::Missing;
     }
-    Headed::Message(kind, reference)
+    Headed::Message(message, reference)
 }
 
 // A UIH written in any way, part by part.
@@ -233,10 +234,10 @@ pub fn read_uih(segment: &[u8]) -> Headed
     ensures said { λ r. ⌜ ((at : ℕ) → headedAnswer at r ≡ uihAnswer at (now (segment .entry))) ⌝ }
 {
     if begins(segment, b"UIH+SKDUPD:D:04A::UN+") {
-        return read_written(segment, 0);
+        return read_written(segment, MessageType::Skdupd);
     }
     if begins(segment, b"UIH+TSDUPD:D:04A::UN+") {
-        return read_written(segment, 1);
+        return read_written(segment, MessageType::Tsdupd);
     }
     read_any(segment)
 }

@@ -20,11 +20,17 @@ use Rattle.placing.specs.Table.{Table, tagAt, most, levelOf, outer, later}
 use Rattle.placing.specs.Place.{countAt, reachedOf}
 use Rattle.placing.specs.Rule.{reachable, noneLeft, orFit, firstFit, fits, go, again, laterOnes, choicesFrom, placedAt, orStepped, firstOf, stepOf}
 use Rattle.placing.specs.Walks.{first-append, first-pick-none, more-fits, more-none, step-start}
+use Rattle.messages.specs.declared.MessageType.{MessageType}
+use Rattle.messages.specs.declared.MessageType.the-variants.{Skdupd, Tsdupd}
+use Rattle.placing.specs.Tables.{tableOf}
+use Rattle.placing.specs.Tables as tables
 use Rattle.placing.specs.Skdupd.{skdupdTable}
 use Rattle.placing.specs.Tsdupd.{tsdupdTable}
 use Rattle.hints.specs.Hint.{rowIn, levelIn, lastIn, placeIn, laneOf, slotOf, hintAt, moreOf, unused, timesOf, quickBy, quickOf}
 use Rattle.hints.specs.Told.{Told, More, Next, Silent, nextBy, toldBy, laterFit, passed, toldFrom, anewFrom, toldOf, says, agrees, deeper, rightBy, hintRight, wordBy, rightFrom, right}
 use Rattle.hints.specs.Ways.{repeated-again, repeated-unused, repeated-anew, times-none, times-other, times-later, times-repeated}
+use Rattle.hints.specs.Hints.{hintsOf}
+use Rattle.hints.specs.Hints as hints
 use Rattle.hints.specs.SkdupdHints.{skdupdHints}
 use Rattle.hints.specs.TsdupdHints.{tsdupdHints}
 use Rattle.hints.specs.Right.{skdupd-right, tsdupd-right}
@@ -255,8 +261,7 @@ pub quick-is-step : (t : Table) (hints : List ℕ) → T (right t hints) → (p 
 unfolding quickOf
 quick-is-step t hints h p tag = right-hint t p tag (hintAt hints (p .row) tag) (hint-right t hints h (p .row) tag)
 
-pub quick-skdupd : (p : Place) (tag : ℕ) → quickOf skdupdTable skdupdHints p tag ≡ stepOf skdupdTable p tag
-quick-skdupd p tag = quick-is-step skdupdTable skdupdHints skdupd-right p tag
-
-pub quick-tsdupd : (p : Place) (tag : ℕ) → quickOf tsdupdTable tsdupdHints p tag ≡ stepOf tsdupdTable p tag
-quick-tsdupd p tag = quick-is-step tsdupdTable tsdupdHints tsdupd-right p tag
+-- so is a step by a type's own hints in its own table
+pub quick-own : (message : MessageType) (p : Place) (tag : ℕ) → quickOf (tableOf message) (hintsOf message) p tag ≡ stepOf (tableOf message) p tag
+quick-own Skdupd = rw (tables.skdupd-own, hints.skdupd-own) (quick-is-step skdupdTable skdupdHints skdupd-right)
+quick-own Tsdupd = rw (tables.tsdupd-own, hints.tsdupd-own) (quick-is-step tsdupdTable tsdupdHints tsdupd-right)

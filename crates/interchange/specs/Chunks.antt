@@ -9,19 +9,19 @@ use lib.ListN.{length, take}
 use Rattle.laws.specs.Choice.{pick}
 use Rattle.answers.specs.Answers.{wrongEnvelope}
 use Rattle.syntax.specs.declared.segment.Refusal.{Refusal}
-use Rattle.placing.specs.Skdupd.{skdupdTable}
-use Rattle.placing.specs.Tsdupd.{tsdupdTable}
+use Rattle.placing.specs.Tables.{tables}
 use Rattle.steps.specs.declared.state.Phase.{Phase}
 use Rattle.steps.specs.declared.state.State.{State}
-use Rattle.interchange.specs.declared.reader.Turn.{Turn}
-use Rattle.interchange.specs.declared.reader.Turn.the-variants.{Stop}
-use Rattle.interchange.specs.declared.reader.Gathered.{Gathered}
-use Rattle.interchange.specs.declared.reader.Gathered.the-variants.{Numbers, Full, Faulty}
+use Rattle.interchange.specs.declared.turn.Turn.{Turn}
+use Rattle.interchange.specs.declared.turn.Turn.the-variants.{Stop}
+use Rattle.interchange.specs.declared.gather.Gathered.{Gathered}
+use Rattle.interchange.specs.declared.gather.Gathered.the-variants.{Numbers, Full, Faulty}
 use Rattle.interchange.specs.Reader.{Outcome, accepted, faulty, fault, isClosed, turnAt, afterTurn, readOn, numbers}
 use Rattle.interchange.specs.Laws.{read-past, read-on, read-accepted, read-stops}
 use Rattle.interchange.specs.Fuel.{fuel-same}
 use Rattle.interchange.specs.Gather.{Left, left-start, left-verdict}
 use Rattle.interchange.specs.Moves.{Moved}
+use Rattle.interchange.specs.Room.{roomSize, fullFrom}
 
 -- the reading from a state and an offset on
 abbrev pub wholeFrom : List ℕ → State → ℕ → Outcome
@@ -39,8 +39,8 @@ pub record Filled (w rest : Outcome) (n : ℕ) (room : List ℕ) : Type 0 where
   pub count : n + 3 * length (rest .rows) ≡ 3 * length (w .rows)
 
 abbrev pub Chunk : List ℕ → State → ℕ → Gathered → List ℕ → Type 0
-Chunk s st at (Numbers n) room = Filled (wholeFrom s st at) (record { rows = []; verdict = accepted }) n room × (n ≤ 192)
-Chunk s st at (Full next then n) room = Filled (wholeFrom s st at) (wholeFrom s next then) n room × (n ≤ 192) × (then ≤ length s) × (4 * n + 3 * at ≤ 3 * then) × (190 ≤ n)
+Chunk s st at (Numbers n) room = Filled (wholeFrom s st at) (record { rows = []; verdict = accepted }) n room × (n ≤ roomSize)
+Chunk s st at (Full next then n) room = Filled (wholeFrom s st at) (wholeFrom s next then) n room × (n ≤ roomSize) × (then ≤ length s) × (4 * n + 3 * at ≤ 3 * then) × (fullFrom ≤ n)
 Chunk s st at (Faulty x) room = wholeFrom s st at .verdict ≡ faulty x
 
 pub chunk-as : (s : List ℕ) (st : State) (at : ℕ) (r x : Gathered) (room : List ℕ) → r ≡ x → Chunk s st at r room → Chunk s st at x room
@@ -69,16 +69,16 @@ module _ (s : List ℕ) (st₀ : State) (at₀ : ℕ) (room₀ : List ℕ) (st :
     pub chunk-past : isClosed (st .phase) ≡ true → Chunk s st₀ at₀ (Faulty (record { number = 7; position = at })) room
     chunk-past c = sym (filled (fault (wrongEnvelope at)) (read-past enough s st at h (left .enough) c) .verdict)
 
-    pub chunk-stop : isClosed (st .phase) ≡ false → (x : Refusal) → turnAt skdupdTable tsdupdTable s st at ≡ Stop x → Chunk s st₀ at₀ (Faulty x) room
+    pub chunk-stop : isClosed (st .phase) ≡ false → (x : Refusal) → turnAt tables s st at ≡ Stop x → Chunk s st₀ at₀ (Faulty x) room
     chunk-stop c x e =
         sym (filled (fault (faulty x)) (read-on enough s st at h (left .enough) c ∙ ap (afterTurn (readOn (enough - 1) s)) e) .verdict)
 
-  module _ (h : length s ≤ at) (g : at ≤ length s) (k : n ≤ 192) where
+  module _ (h : length s ≤ at) (g : at ≤ length s) (k : n ≤ roomSize) where
     pub chunk-ended : (b : Bool) → isClosed (st .phase) ≡ b → Chunk s st₀ at₀ (endedAt b n (length s)) room
     chunk-ended true c = (filled (record { rows = []; verdict = accepted }) (read-accepted enough s st at h g (left .enough) c), k)
     chunk-ended false c = sym (filled (fault (wrongEnvelope (length s))) (read-stops enough s st at h g (left .enough) c) .verdict)
 
-  pub chunk-full : at ≤ length s → n ≤ 192 → 190 ≤ n → Chunk s st₀ at₀ (Full st at n) room
+  pub chunk-full : at ≤ length s → n ≤ roomSize → fullFrom ≤ n → Chunk s st₀ at₀ (Full st at n) room
   chunk-full g k f =
       let p = m .paced in
       (filled (wholeFrom s st at) (fuel-same s enough (length s + 1) st at g (left .enough) (omega arith)), k, g, omega arith, f)

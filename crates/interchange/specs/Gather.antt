@@ -6,12 +6,11 @@ use mathlib.Core.List.{List, [], _∷_, _++_}
 use Prim.Native.Nat.{ℕ, zero, suc, _+_, _-_, _*_, _≤_, _<_}
 use native.Mathlib.Omega.{arith}
 use lib.ListN.{length, take}
-use Rattle.placing.specs.Skdupd.{skdupdTable}
-use Rattle.placing.specs.Tsdupd.{tsdupdTable}
+use Rattle.placing.specs.Tables.{tables}
 use Rattle.steps.specs.declared.state.State.{State}
 use Rattle.steps.specs.declared.state.Row.{Row}
-use Rattle.interchange.specs.declared.reader.Turn.{Turn}
-use Rattle.interchange.specs.declared.reader.Turn.the-variants.{On}
+use Rattle.interchange.specs.declared.turn.Turn.{Turn}
+use Rattle.interchange.specs.declared.turn.Turn.the-variants.{On}
 use Rattle.interchange.specs.Reader.{Outcome, before, isClosed, turnAt, afterTurn, readOn, numbers}
 use Rattle.interchange.specs.Laws.{read-on, putRow, rows-step}
 
@@ -30,7 +29,7 @@ module _ (s : List ℕ) (f : ℕ) (st : State) (at n : ℕ) (room : List ℕ) (w
   left-verdict o e = sym (ap (λ (x : Outcome). x .verdict) e) ∙ v .verdict
 
   pub left-step : at < length s → isClosed (st .phase) ≡ false → (next : State) (r : Row) (then : ℕ)
-      → turnAt skdupdTable tsdupdTable s st at ≡ On next r then → at + 4 ≤ then → n + 2 < length room
+      → turnAt tables s st at ≡ On next r then → at + 4 ≤ then → n + 2 < length room
       → Left s (f - 1) next then (n + 3) (putRow room n r) w
   left-step h c next r then e g k =
       let q = read-on f s st at h (v .enough) c ∙ ap (afterTurn (readOn (f - 1) s)) e in

@@ -16,8 +16,7 @@ use Rattle.laws.specs.Lists.{onto, onto-step, onto-done, drop-here}
 use Rattle.answers.specs.Answers.{wrongEnvelope}
 use Rattle.syntax.specs.declared.segment.Refusal.{Refusal}
 use Rattle.syntax.specs.declared.segment.Scanned.{Scanned}
-use Rattle.placing.specs.Skdupd.{skdupdTable}
-use Rattle.placing.specs.Tsdupd.{tsdupdTable}
+use Rattle.placing.specs.Tables.{tables}
 use Rattle.steps.specs.declared.state.Phase.{Phase}
 use Rattle.steps.specs.declared.state.State.{State}
 use Rattle.steps.specs.declared.state.Row.{Row}
@@ -33,7 +32,7 @@ module _ (f : ℕ) (s : List ℕ) (st : State) (at : ℕ) where
   read-past h g c = ap (λ (x : ℕ). readOn x s st at) (one-more g (omega arith)) ∙ rw (lt-ltb at (length s) h, c)
 
   pub read-on : at < length s → length s < at + f → isClosed (st .phase) ≡ false
-      → readOn f s st at ≡ afterTurn (readOn (f - 1) s) (turnAt skdupdTable tsdupdTable s st at)
+      → readOn f s st at ≡ afterTurn (readOn (f - 1) s) (turnAt tables s st at)
   unfolding readOn
   read-on h g c = ap (λ (x : ℕ). readOn x s st at) (one-more g (omega arith)) ∙ rw (lt-ltb at (length s) h, c)
 

@@ -1,4 +1,5 @@
 pub mod Reader
+pub mod Room
 pub mod Laws
 pub mod Turns
 pub mod Offsets

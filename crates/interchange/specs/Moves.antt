@@ -6,11 +6,10 @@ use mathlib.Core.List.{List, _++_}
 use Prim.Native.Nat.{ℕ, _+_, _-_, _*_, _≤_, _<_}
 use native.Mathlib.Omega.{arith}
 use lib.ListN.{length, take}
-use Rattle.placing.specs.Skdupd.{skdupdTable}
-use Rattle.placing.specs.Tsdupd.{tsdupdTable}
+use Rattle.placing.specs.Tables.{tables}
 use Rattle.steps.specs.declared.state.State.{State}
 use Rattle.steps.specs.declared.state.Row.{Row}
-use Rattle.interchange.specs.declared.reader.Turn.the-variants.{On}
+use Rattle.interchange.specs.declared.turn.Turn.the-variants.{On}
 use Rattle.interchange.specs.Reader.{Outcome, isClosed, turnAt}
 use Rattle.interchange.specs.Laws.{putRow, length-putRow}
 use Rattle.interchange.specs.Offsets.{turn-on}
@@ -40,9 +39,9 @@ moved-both s a b =
 
 -- by one turn, its row put behind those that stand
 pub moved-turn : (s : List ℕ) (st : State) (at n : ℕ) (room : List ℕ) (next : State) (r : Row) (then : ℕ) → isClosed (st .phase) ≡ false → at < length s
-    → turnAt skdupdTable tsdupdTable s st at ≡ On next r then → n + 2 < length room → Moved s st at n room next then (n + 3) (putRow room n r)
+    → turnAt tables s st at ≡ On next r then → n + 2 < length room → Moved s st at n room next then (n + 3) (putRow room n r)
 moved-turn s st at n room next r then c h e k =
-    let p = turn-on skdupdTable tsdupdTable s st at next r then e in
+    let p = turn-on tables s st at next r then e in
     record {
       kept = λ w f v. (f - 1, left-step s f st at n room w v h c next r then e (p .1) k);
       within = λ _. p .2;

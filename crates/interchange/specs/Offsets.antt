@@ -17,7 +17,9 @@ use Rattle.placing.specs.declared.Place.{Place}
 use Rattle.placing.specs.declared.Stepped.{Stepped}
 use Rattle.placing.specs.declared.Stepped.the-variants.{Placed, OutOfPlace}
 use Rattle.placing.specs.Table.{Table}
-use Rattle.placing.specs.Tags.{UIB, UIH, UIT, UIZ}
+use Rattle.placing.specs.Tables.{tableIn}
+use Rattle.messages.specs.Types.{isPeriod}
+use Rattle.messages.specs.Tags.{UIB, UIH, UIT, UIZ}
 use Rattle.placing.specs.Rule.{stepOf, groupOf}
 use Rattle.envelope.specs.declared.Opened.{Opened}
 use Rattle.envelope.specs.declared.Opened.the-variants.{Dialogue, Wrong}
@@ -32,10 +34,10 @@ use Rattle.steps.specs.declared.state.Phase.the-variants.{Opening, Between, Ins
 use Rattle.steps.specs.declared.state.State.{State}
 use Rattle.steps.specs.declared.state.Row.{Row}
 use Rattle.answers.specs.Answers.{Answer, done, refused}
-use Rattle.interchange.specs.declared.reader.Turn.{Turn}
-use Rattle.interchange.specs.declared.reader.Turn.the-variants.{On, Stop}
+use Rattle.interchange.specs.declared.turn.Turn.{Turn}
+use Rattle.interchange.specs.declared.turn.Turn.the-variants.{On, Stop}
 use Rattle.steps.specs.State.{oneMore}
-use Rattle.steps.specs.Step.{Taken, taken, rowOf, opened, opening, headed, closing, between, trailing, isPeriod, judged, placed, settled, inside, tableOf, stepBy, segmentStep}
+use Rattle.steps.specs.Step.{Taken, taken, rowOf, opened, opening, headed, closing, between, trailing, judged, placed, settled, inside, stepBy, segmentStep}
 use Rattle.interchange.specs.Reader.{dialogueOf, referenceOf, turnStep, turnScan, turnAt}
 
 -- a step's row, if it has one, bears the offset
@@ -79,18 +81,18 @@ module _ (st : State) (at : ℕ) (g : List ℕ) where
   unfolding placed
   placed-row r group p =
       choose (eqb (tagNumber g) UIT) (λ q. rw q (trailing-row r p group))
-      (λ q. rw q (choose (isPeriod st g group) (λ e. rw e (judged-row p group (periodOf g))) (λ e. rw e refl)))
+      (λ q. rw q (choose (isPeriod (st .message) (tagNumber g) group) (λ e. rw e (judged-row p group (periodOf g))) (λ e. rw e refl)))
 
   settled-row : (t : Table) (r : List ℕ) (x : Stepped) → RowAt at (settled t st at g r x)
   settled-row t r (Placed p) = placed-row r (groupOf t p) p
   settled-row t r OutOfPlace = tt
 
-  step-row : (t u : Table) (f : Phase) (d r : List ℕ) → RowAt at (stepBy t u f st at g d r)
+  step-row : (t : Table) (f : Phase) (d r : List ℕ) → RowAt at (stepBy t f st at g d r)
   unfolding stepBy inside
-  step-row t u Opening d r = opening-row
-  step-row t u Between d r = between-row d
-  step-row t u Inside d r = settled-row (tableOf t u (st .kind)) r (stepOf (tableOf t u (st .kind)) (st .place) (tagNumber g))
-  step-row t u Closed d r = tt
+  step-row t Opening d r = opening-row
+  step-row t Between d r = between-row d
+  step-row t Inside d r = settled-row (tableIn t (st .message)) r (stepOf (tableIn t (st .message)) (st .place) (tagNumber g))
+  step-row t Closed d r = tt
 
 stop≢on : (x : Refusal) (st : State) (r : Row) (n : ℕ) → Stop x ≡ On st r n → ⊥
 stop≢on x st r n q = let z : _≡_ {A = ℕ} 0 1 = cc in omega arith
@@ -102,17 +104,17 @@ module _ (st : State) (r : Row) (n : ℕ) where
       (ap (λ (x : Row). x .offset) (sym same) ∙ o, cc)
   on-is (refused number position) at m o e = absurd (stop≢on (record { number = number; position = position }) st r n e)
 
-  on-from : (t u : Table) (s : List ℕ) (from : State) (at : ℕ) (x : Scanned) → segmentAt s at ≡ x → turnScan t u s from at x ≡ On st r n
+  on-from : (t : Table) (s : List ℕ) (from : State) (at : ℕ) (x : Scanned) → segmentAt s at ≡ x → turnScan t s from at x ≡ On st r n
       → (r .offset ≡ at) × (at + 4 ≤ n) × (n ≤ length s)
-  on-from t u s from at (End e) h q =
-      let w = on-is (segmentStep t u from at (bodyAt s at) (dialogueOf s from) (referenceOf s from)) at (e + 1) (step-row from at (bodyAt s at) t u (from .phase) (dialogueOf s from) (referenceOf s from)) q in
+  on-from t s from at (End e) h q =
+      let w = on-is (segmentStep t from at (bodyAt s at) (dialogueOf s from) (referenceOf s from)) at (e + 1) (step-row from at (bodyAt s at) t (from .phase) (dialogueOf s from) (referenceOf s from)) q in
       let b = end-within s at e h in
       (w .0, omega arith, omega arith)
-  on-from t u s from at (NotPermitted i) h q = absurd (stop≢on (refusalOf at (NotPermitted i)) st r n q)
-  on-from t u s from at Unended h q = absurd (stop≢on (refusalOf at Unended) st r n q)
-  on-from t u s from at Malformed h q = absurd (stop≢on (refusalOf at Malformed) st r n q)
+  on-from t s from at (NotPermitted i) h q = absurd (stop≢on (refusalOf at (NotPermitted i)) st r n q)
+  on-from t s from at Unended h q = absurd (stop≢on (refusalOf at Unended) st r n q)
+  on-from t s from at Malformed h q = absurd (stop≢on (refusalOf at Malformed) st r n q)
 
-pub turn-on : (t u : Table) (s : List ℕ) (from : State) (at : ℕ) (st : State) (r : Row) (n : ℕ) → turnAt t u s from at ≡ On st r n
+pub turn-on : (t : Table) (s : List ℕ) (from : State) (at : ℕ) (st : State) (r : Row) (n : ℕ) → turnAt t s from at ≡ On st r n
     → (r .offset ≡ at) × (at + 4 ≤ n) × (n ≤ length s)
 unfolding turnAt
-turn-on t u s from at st r n q = on-from st r n t u s from at (segmentAt s at) refl q
+turn-on t s from at st r n q = on-from st r n t s from at (segmentAt s at) refl q

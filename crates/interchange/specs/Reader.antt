@@ -1,4 +1,4 @@
--- What an interchange is, and what its first fault is (document 01, "What each number means").
+-- How an interchange is read, and what its first fault is (document 01, "What each number means").
 -- Assumes nothing.
 use Prim.Native.Nat.{ℕ, zero, suc, _+_, _*_}
 use mathlib.Core.Bool.{Bool, true, false}
@@ -13,16 +13,15 @@ use Rattle.syntax.specs.declared.segment.Scanned.{Scanned}
 use Rattle.syntax.specs.declared.segment.Scanned.the-variants.{End, NotPermitted, Unended, Malformed}
 use Rattle.syntax.specs.Segment.{bodyAt, segmentAt, refusalOf}
 use Rattle.parts.specs.Places.{bytesOf}
-use Rattle.placing.specs.Skdupd.{skdupdTable}
-use Rattle.placing.specs.Tsdupd.{tsdupdTable}
+use Rattle.placing.specs.Tables.{tables}
 use Rattle.steps.specs.declared.state.Phase.{Phase}
 use Rattle.steps.specs.declared.state.Phase.the-variants.{Opening, Between, Inside, Closed}
 use Rattle.steps.specs.declared.state.State.{State}
 use Rattle.steps.specs.declared.state.Row.{Row}
 use Rattle.steps.specs.State.{openingState}
 use Rattle.placing.specs.Table.{Table}
-use Rattle.interchange.specs.declared.reader.Turn.{Turn}
-use Rattle.interchange.specs.declared.reader.Turn.the-variants.{On, Stop}
+use Rattle.interchange.specs.declared.turn.Turn.{Turn}
+use Rattle.interchange.specs.declared.turn.Turn.the-variants.{On, Stop}
 use Rattle.interchange.specs.declared.reader.Reading.{Reading}
 use Rattle.interchange.specs.declared.reader.Reading.the-variants.{Rows, Refused}
 use Rattle.steps.specs.Step.{Taken, taken, segmentStep}
@@ -68,14 +67,14 @@ abbrev pub turnStep : ℕ → Answer Taken → Turn
 turnStep next (done (taken st r)) = On st r next
 turnStep next (refused number position) = Stop (record { number = number; position = position })
 
-abbrev pub turnScan : Table → Table → List ℕ → State → ℕ → Scanned → Turn
-turnScan t u s st at (End e) = turnStep (e + 1) (segmentStep t u st at (bodyAt s at) (dialogueOf s st) (referenceOf s st))
-turnScan t u s st at (NotPermitted i) = Stop (refusalOf at (NotPermitted i))
-turnScan t u s st at Unended = Stop (refusalOf at Unended)
-turnScan t u s st at Malformed = Stop (refusalOf at Malformed)
+abbrev pub turnScan : Table → List ℕ → State → ℕ → Scanned → Turn
+turnScan t s st at (End e) = turnStep (e + 1) (segmentStep t st at (bodyAt s at) (dialogueOf s st) (referenceOf s st))
+turnScan t s st at (NotPermitted i) = Stop (refusalOf at (NotPermitted i))
+turnScan t s st at Unended = Stop (refusalOf at Unended)
+turnScan t s st at Malformed = Stop (refusalOf at Malformed)
 
-unfoldable pub turnAt : Table → Table → List ℕ → State → ℕ → Turn
-turnAt t u s st at = turnScan t u s st at (segmentAt s at)
+unfoldable pub turnAt : Table → List ℕ → State → ℕ → Turn
+turnAt t s st at = turnScan t s st at (segmentAt s at)
 
 -- `more` reads on from a state and an offset
 abbrev pub afterTurn : (State → ℕ → Outcome) → Turn → Outcome
@@ -89,7 +88,7 @@ unfoldable pub readOn : ℕ → List ℕ → State → ℕ → Outcome
 readOn zero s st at = fault (wrongEnvelope at)
 readOn (suc f) s st at =
     pick (ltb at (length s))
-    (pick (isClosed (st .phase)) (fault (wrongEnvelope at)) (afterTurn (readOn f s) (turnAt skdupdTable tsdupdTable s st at)))
+    (pick (isClosed (st .phase)) (fault (wrongEnvelope at)) (afterTurn (readOn f s) (turnAt tables s st at)))
     (pick (isClosed (st .phase)) (record { rows = []; verdict = accepted }) (fault (wrongEnvelope (length s))))
 
 -- "An interchange has 1 to 60,000 bytes": else 3

@@ -17,8 +17,8 @@ use Rattle.parts.specs.declared.Part.{Part}
 use Rattle.parts.specs.Places.{bytesOf}
 use Rattle.placing.specs.Table.{Table}
 use Rattle.steps.specs.declared.state.State.{State}
-use Rattle.interchange.specs.declared.reader.Turn.{Turn}
-use Rattle.interchange.specs.declared.reader.Turn.the-variants.{On, Stop}
+use Rattle.interchange.specs.declared.turn.Turn.{Turn}
+use Rattle.interchange.specs.declared.turn.Turn.the-variants.{On, Stop}
 use Rattle.steps.specs.Step.{segmentStep}
 use Rattle.interchange.specs.Reader.{turnScan, turnAt}
 
@@ -34,15 +34,15 @@ body-slice s at e q =
     ap (λ (n : ℕ). take n (drop at s)) d ∙ sym (first-take 39 false (drop at s))
 
 -- by what the scan found
-pub turn-is : (t u : Table) (s : List ℕ) (st : State) (at : ℕ) (x : Scanned) → segmentAt s at ≡ x → turnScan t u s st at x ≡ turnAt t u s st at
+pub turn-is : (t : Table) (s : List ℕ) (st : State) (at : ℕ) (x : Scanned) → segmentAt s at ≡ x → turnScan t s st at x ≡ turnAt t s st at
 unfolding turnAt
-turn-is t u s st at x e = ap (turnScan t u s st at) (sym e)
+turn-is t s st at x e = ap (turnScan t s st at) (sym e)
 
 -- what is lent from an offset to the end is what stands from there on
 pub rest-is : (s : List ℕ) (at : ℕ) → take (length s - at) (drop at s) ≡ drop at s
 rest-is s at = let d = length-drop at s in take-all (length s - at) (drop at s) (omega arith)
 
 -- the step depends on what is lent alone
-pub step-same : (t u : Table) (st : State) (at : ℕ) {g h d e r q : List ℕ} → g ≡ h → d ≡ e → r ≡ q → segmentStep t u st at g d r ≡ segmentStep t u st at h e q
-step-same t u st at {g} {h} {d} {e} {r} {q} a b c =
-    ap (λ (x : List ℕ). segmentStep t u st at x d r) a ∙ ap (λ (x : List ℕ). segmentStep t u st at h x r) b ∙ ap (segmentStep t u st at h e) c
+pub step-same : (t : Table) (st : State) (at : ℕ) {g h d e r q : List ℕ} → g ≡ h → d ≡ e → r ≡ q → segmentStep t st at g d r ≡ segmentStep t st at h e q
+step-same t st at {g} {h} {d} {e} {r} {q} a b c =
+    ap (λ (x : List ℕ). segmentStep t st at x d r) a ∙ ap (λ (x : List ℕ). segmentStep t st at h x r) b ∙ ap (segmentStep t st at h e) c

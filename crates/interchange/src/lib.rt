@@ -1,5 +1,8 @@
 //! The whole reader: the fold of one segment's step over an interchange.
 
+mod gather;
 pub mod reader;
 mod rows;
 mod run;
+mod standing;
+mod turn;

@@ -2,7 +2,11 @@
 //! offset and the rows change; whatever else comes is left to the step.
 
 use crate::rows::put_row;
+use crate::standing::Standing;
 use hints::quick_step;
+use messages::MessageType;
+use messages::UIT;
+use messages::is_period;
 use parts::Part;
 use period::Period;
 use period::read_period;
@@ -10,9 +14,7 @@ use placing::Place;
 use placing::Stepped;
 use steps::state::Phase;
 use steps::state::Row;
-use steps::state::State;
 use steps::state::one_more;
-use steps::step::is_period;
 use syntax::segment::Scanned;
 use syntax::segment::read_segment;
 use syntax::segment::tag_at;
@@ -20,14 +22,17 @@ ghost use mathlib.Core.Path.{_≡_};
 ghost use Prim.Native.Nat.{_≤_};
 ghost use lib.ListN.{length};
 ghost use Rattle.syntax.specs.Segment.{bodyAt, segmentAt};
-ghost use Rattle.placing.specs.Skdupd.{skdupdTable};
-ghost use Rattle.placing.specs.Tsdupd.{tsdupdTable};
+ghost use Rattle.placing.specs.Tables.{tableOf};
 ghost use Rattle.steps.specs.State.{movedState};
-ghost use Rattle.steps.specs.Step.{tableOf};
+ghost use Rattle.interchange.specs.Room.{roomSize};
 ghost use Rattle.interchange.specs.Moves.{Moved};
 ghost use Rattle.interchange.specs.Runs.{goodPart, Hinted};
 
-const UIT: u32 = 0x554954;
+/// The numbers of a room: 64 rows, three numbers each.
+pub(crate) const ROOM: usize = 192;
+
+/// A room with so many numbers has no place for a row more.
+pub(crate) const FULL: usize = 190;
 
 /// Where some segments of a message led.
 pub(crate) struct Ran {
@@ -38,11 +43,11 @@ pub(crate) struct Ran {
 }
 
 // Whether a segment is no period that is read, or a good one.
-fn is_good(s: &[u8], at: usize, end: usize, kind: u8, tag: u32, group: u32) -> bool
+fn is_good(s: &[u8], at: usize, end: usize, message: MessageType, tag: u32, group: u32) -> bool
     requires { ⌜ segmentAt (now s) at ≡ Scanned.End end ⌝ }
-    ensures { λ r. ⌜ r ≡ goodPart kind tag group (bodyAt (now (s .entry)) at) ⌝ }
+    ensures { λ r. ⌜ r ≡ goodPart message tag group (bodyAt (now (s .entry)) at) ⌝ }
 {
-    if !is_period(kind, tag, group) {
+    if !is_period(message, tag, group) {
         return true;
     }
     match read_period(s, Part { from: at, to: end }) {
@@ -54,21 +59,20 @@ fn is_good(s: &[u8], at: usize, end: usize, kind: u8, tag: u32, group: u32) -> b
 // The segments from an offset on, while each only moves the place on and the room lasts.
 pub(crate) fn run(
     s: &[u8],
-    st: State,
-    from: usize,
+    from: Standing,
     table: &[[u32; 8]],
     hints: &[u64],
     room: &mut [u32],
-    gathered: usize,
 ) -> Ran
-    requires { ⌜ (st .phase ≡ Phase.Inside) × (now table ≡ tableOf skdupdTable tsdupdTable (st .kind)) × Hinted (now table) (now hints) × (length (now s) ≤ 60000) × (length (now room) ≡ 192) × (gathered ≤ 192) ⌝ }
-    ensures { λ r. ⌜ Moved (now (s .entry)) st from gathered (now (room .entry)) (movedState st (r .place) (r .segments)) (r .at) (r .numbers) (now (room .exit)) × (r .numbers ≤ 192) ⌝ }
+    requires { ⌜ (from .state .phase ≡ Phase.Inside) × (now table ≡ tableOf (from .state .message)) × Hinted (now table) (now hints) × (length (now s) ≤ 60000) × (length (now room) ≡ roomSize) × (from .numbers ≤ roomSize) ⌝ }
+    ensures { λ r. ⌜ Moved (now (s .entry)) (from .state) (from .at) (from .numbers) (now (room .entry)) (movedState (from .state) (r .place) (r .segments)) (r .at) (r .numbers) (now (room .exit)) × (r .numbers ≤ roomSize) ⌝ }
 {
+    let st = from.state;
     let mut place = st.place;
     let mut segments = st.segments;
-    let mut at = from;
-    let mut numbers = gathered;
-    while numbers < 190 {
+    let mut at = from.at;
+    let mut numbers = from.numbers;
+    while numbers < FULL {
         let Scanned::End(end) = read_segment(s, at) else {
             return Ran {
                 place,
@@ -95,7 +99,8 @@ pub(crate) fn run(
             };
         };
         let group = next.group(table);
-        if !is_good(s, at, end, st.kind, tag, group) {
+        let message = st.message;
+        if !is_good(s, at, end, message, tag, group) {
             return Ran {
                 place,
                 segments,

@@ -21,7 +21,7 @@ use Rattle.placing.specs.WellFormed.{isNot}
 use Rattle.placing.specs.Formed.{trigger, standing, unbound, trigger-in, segment-fits}
 use Rattle.placing.specs.Message.{InMessage, Counted, Above, Each, each-map, each-of, each-reachable, Sound, SoundChoice, Stands, next-stands, later-stand, again-sound, stands-sound, to-segment, to-group}
 use Rattle.placing.specs.Envelope.{MessageTable, apart}
-use Rattle.placing.specs.Tags.{UIT}
+use Rattle.messages.specs.Tags.{UIT}
 
 -- no mandatory place is left empty in the groups that are open, nor at level 0 but for the last place
 unfoldable pub nothingOwed : Table → ℕ → ℕ → ℕ → Bool

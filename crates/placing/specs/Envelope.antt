@@ -18,7 +18,7 @@ use Rattle.placing.specs.Laws.{absent, onlyAt, absent-out, only-there, p
 use Rattle.placing.specs.Formed.{group-none, group-inside}
 use Rattle.placing.specs.WellFormed.{isNot, wellFormed, skdupd-formed, tsdupd-formed}
 use Rattle.placing.specs.Message.{InMessage, start-in, first-out}
-use Rattle.placing.specs.Tags.{UIH, UIT, UIB, UIZ}
+use Rattle.messages.specs.Tags.{UIH, UIT, UIB, UIZ}
 use Rattle.placing.specs.Skdupd.{skdupdTable}
 use Rattle.placing.specs.Tsdupd.{tsdupdTable}
 

@@ -4,9 +4,9 @@ pub mod Rule
 pub mod Answer
 pub mod Said
 pub mod Reading
-pub mod Tags
 pub mod Skdupd
 pub mod Tsdupd
+pub mod Tables
 pub mod Walks
 pub mod Laws
 pub mod WellFormed

@@ -1,6 +1,7 @@
 //! The placing rule of document 01, over any table: a place by value, and the step to the next segment.
 pub mod tables;
 
+use messages::UIT;
 ghost use mathlib.Core.Path.{_≡_};
 ghost use Prim.Native.Nat.{ℕ, _-_};
 ghost use Rattle.placing.specs.Table.{entryOf, afterOf, endOf, levelOf};
@@ -60,8 +61,6 @@ const LEVEL: usize = 5;
 const HELD: usize = 6;
 
 const OUTER: usize = 7;
-
-const UIT: u32 = 0x554954;
 
 // The number in a row's column, 0 past the last row.
 pub fn entry(table: &[[u32; 8]], row: usize, column: usize) -> u32

@@ -11,7 +11,7 @@ use lib.ListN.{length, length-append, List·getD-append}
 use Rattle.laws.specs.Choice.{choose}
 use Rattle.answers.specs.Answers.{Answer, done, refused}
 use Rattle.parts.specs.Places.{bytesOf}
-use Rattle.placing.specs.Tags.{PRD, MSD, POP, UIT}
+use Rattle.messages.specs.Tags.{PRD, MSD, POP, UIT}
 use Rattle.services.specs.declared.Service.{Service}
 use Rattle.services.specs.Rows.{offsetAt, isRow, rowCount, firstOf, firstFrom, listOf, first-bounds}
 use Rattle.services.specs.Services.{isService, isPeriod, serviceEnd, removes, serviceAt, nextService, nextPeriod, hasPeriod, isWrong, isSame, isTwice, testedOf, afterTest, countOn, countedOf}

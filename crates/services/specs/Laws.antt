@@ -9,7 +9,7 @@ use borrow.Author.Tests.{leb-true, not-false, not-true}
 use lib.Dec.{leb}
 use lib.ListN.{length}
 use Rattle.laws.specs.Choice.{both, both-parts, choose}
-use Rattle.placing.specs.Tags.{UIT}
+use Rattle.messages.specs.Tags.{UIT}
 use Rattle.answers.specs.Answers.{Answer, done, refused}
 use Rattle.answers.specs.Laws.{refused≢done, one-case}
 use Rattle.syntax.specs.Bytes.{plain}

@@ -14,7 +14,7 @@ use Rattle.syntax.specs.Pieces.{partOf}
 use Rattle.parts.specs.declared.Part.{Part}
 use Rattle.parts.specs.Places.{bytesOf, partAt}
 use Rattle.values.specs.Values.{sameText}
-use Rattle.placing.specs.Tags.{PRD, MSD, POP, UIT}
+use Rattle.messages.specs.Tags.{PRD, MSD, POP, UIT}
 use Rattle.services.specs.declared.Service.{Service}
 use Rattle.services.specs.declared.Found.{Found}
 use Rattle.services.specs.declared.Found.the-variants as found

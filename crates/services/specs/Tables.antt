@@ -7,7 +7,7 @@ use mathlib.Core.List.{List}
 use lib.Dec.{eqb}
 use lib.ListN.{getD}
 use Rattle.laws.specs.Choice.{both, all}
-use Rattle.placing.specs.Tags.{PRD, MSD, POP}
+use Rattle.messages.specs.Tags.{PRD, MSD, POP}
 use Rattle.placing.specs.Tsdupd.{tsdupdTable}
 
 -- whether a row of a table is another than that of a tag in a group

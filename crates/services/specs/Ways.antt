@@ -20,7 +20,7 @@ use Rattle.parts.specs.declared.Part.{Part}
 use Rattle.parts.specs.Places.{absent, bytesOf, partAt}
 use Rattle.parts.specs.Located.{part-bytes}
 use Rattle.values.specs.Values.{sameText}
-use Rattle.placing.specs.Tags.{PRD, MSD, UIT}
+use Rattle.messages.specs.Tags.{PRD, MSD, UIT}
 use Rattle.services.specs.declared.Service.{Service}
 use Rattle.services.specs.declared.Found.the-variants as found
 use Rattle.services.specs.declared.FoundPeriod.the-variants as period

@@ -12,20 +12,16 @@ use crate::segments::end_of;
 use crate::segments::number_at;
 use crate::segments::says_number;
 use crate::segments::says_removal;
+use messages::MSD;
+use messages::POP;
+use messages::PRD;
+use messages::UIT;
 use parts::Part;
 use parts::bytes_of;
 use syntax::segment::Refusal;
 ghost use mathlib.Core.Path.{_≡_};
 ghost use Prim.Native.Nat.{_<_};
 ghost use Rattle.services.specs.Services.{segmentOf, removes, serviceAt, nextService, nextPeriod, hasPeriod, isWrong, isSame, isTwice, testedOf, countedOf, testedAnswer, countedAnswer};
-
-const PRD: u32 = 0x505244;
-
-const MSD: u32 = 0x4d5344;
-
-const POP: u32 = 0x504f50;
-
-const UIT: u32 = 0x554954;
 
 /// A service: a group 2 of a SKDUPD message.
 pub struct Service {

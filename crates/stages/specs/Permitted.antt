@@ -15,8 +15,8 @@ use Rattle.syntax.specs.Segment.{bodyAt, scanOf, segmentAt}
 use Rattle.syntax.specs.declared.segment.Scanned.{Scanned}
 use Rattle.syntax.specs.declared.segment.Scanned.the-variants.{End, NotPermitted, Unended, Malformed}
 use Rattle.answers.specs.Answers.{Answer, done, refused}
-use Rattle.placing.specs.Skdupd.{skdupdTable}
-use Rattle.placing.specs.Tsdupd.{tsdupdTable}
+use Rattle.placing.specs.Table.{Table}
+use Rattle.placing.specs.Tables.{tables}
 use Rattle.steps.specs.declared.state.State.{State}
 use Rattle.steps.specs.declared.state.Row.{Row}
 use Rattle.steps.specs.Step.{Taken, taken, segmentStep}
@@ -137,21 +137,21 @@ end-permitted s at e q = choose (all permittedOf (bodyAt s at)) (λ p. p) (λ p.
 module _ (s : List ℕ) where
   module _ (f : ℕ) (ih : (st : State) (at : ℕ) → Read s (readOn f s st at .rows)) (from : State) (at : ℕ) where
     abbrev step : Answer Taken
-    step = segmentStep skdupdTable tsdupdTable from at (bodyAt s at) (dialogueOf s from) (referenceOf s from)
+    step = segmentStep tables from at (bodyAt s at) (dialogueOf s from) (referenceOf s from)
 
     stepped : (e : ℕ) → segmentAt s at ≡ End e → (y : Answer Taken) → step ≡ y → Read s (afterTurn (readOn f s) (turnStep (e + 1) y) .rows)
     stepped e h (done (taken st r)) q =
-        let o = turn-on skdupdTable tsdupdTable s from at st r (e + 1) (sym (turn-is skdupdTable tsdupdTable s from at (End e) h) ∙ ap (turnStep (e + 1)) q) .0 in
+        let o = turn-on tables s from at st r (e + 1) (sym (turn-is tables s from at (End e) h) ∙ ap (turnStep (e + 1)) q) .0 in
         (subst (λ (k : ℕ). Permitted (bodyAt s k)) (sym o) (end-permitted s at e h), ih st (e + 1))
     stepped e h (refused m p) q = tt
 
-    scanned : (x : Scanned) → segmentAt s at ≡ x → Read s (afterTurn (readOn f s) (turnScan skdupdTable tsdupdTable s from at x) .rows)
+    scanned : (x : Scanned) → segmentAt s at ≡ x → Read s (afterTurn (readOn f s) (turnScan tables s from at x) .rows)
     scanned (End e) h = stepped e h step refl
     scanned (NotPermitted i) h = tt
     scanned Unended h = tt
     scanned Malformed h = tt
 
-    turned : Read s (afterTurn (readOn f s) (turnAt skdupdTable tsdupdTable s from at) .rows)
+    turned : Read s (afterTurn (readOn f s) (turnAt tables s from at) .rows)
     unfolding turnAt
     turned = scanned (segmentAt s at) refl
 

@@ -15,8 +15,7 @@ use Rattle.answers.specs.Laws.{refused≢done, done≢refused, done-is}
 use Rattle.syntax.specs.declared.segment.Scanned.{Scanned}
 use Rattle.syntax.specs.declared.segment.Scanned.the-variants.{End, NotPermitted, Unended, Malformed}
 use Rattle.syntax.specs.Segment.{bodyAt, segmentAt}
-use Rattle.placing.specs.Skdupd.{skdupdTable}
-use Rattle.placing.specs.Tsdupd.{tsdupdTable}
+use Rattle.placing.specs.Tables.{tables}
 use Rattle.steps.specs.declared.state.State.{State}
 use Rattle.steps.specs.declared.state.Row.{Row}
 use Rattle.steps.specs.State.{openingState}
@@ -34,23 +33,23 @@ module _ (s : List ℕ) where
 
   module _ (f : ℕ) (ih : (st : State) (at : ℕ) → at ≤ length s → Few at (readOn f s st at)) (from : State) (at : ℕ) (h : at ≤ length s) where
     abbrev step : Answer Taken
-    step = segmentStep skdupdTable tsdupdTable from at (bodyAt s at) (dialogueOf s from) (referenceOf s from)
+    step = segmentStep tables from at (bodyAt s at) (dialogueOf s from) (referenceOf s from)
 
     stepped : (e : ℕ) → segmentAt s at ≡ End e → (y : Answer Taken) → step ≡ y → Few at (afterTurn (readOn f s) (turnStep (e + 1) y))
     stepped e k (done (taken st r)) q =
-        let w = turn-on skdupdTable tsdupdTable s from at st r (e + 1) (sym (turn-is skdupdTable tsdupdTable s from at (End e) k) ∙ ap (turnStep (e + 1)) q) in
+        let w = turn-on tables s from at st r (e + 1) (sym (turn-is tables s from at (End e) k) ∙ ap (turnStep (e + 1)) q) in
         let m = ih st (e + 1) (w .2) in
         let n = w .1 in
         omega arith
     stepped e k (refused m p) q = omega arith
 
-    scanned : (x : Scanned) → segmentAt s at ≡ x → Few at (afterTurn (readOn f s) (turnScan skdupdTable tsdupdTable s from at x))
+    scanned : (x : Scanned) → segmentAt s at ≡ x → Few at (afterTurn (readOn f s) (turnScan tables s from at x))
     scanned (End e) k = stepped e k step refl
     scanned (NotPermitted i) k = omega arith
     scanned Unended k = omega arith
     scanned Malformed k = omega arith
 
-    turned : Few at (afterTurn (readOn f s) (turnAt skdupdTable tsdupdTable s from at))
+    turned : Few at (afterTurn (readOn f s) (turnAt tables s from at))
     unfolding turnAt
     turned = scanned (segmentAt s at) refl
 

@@ -1,6 +1,8 @@
 -- Where a reading stands after some whole segments.
 -- Assumes nothing.
 use Rattle.parts.specs.declared.Part.{Part}
+use Rattle.messages.specs.declared.MessageType.{MessageType}
+use Rattle.messages.specs.declared.MessageType.the-variants.{Skdupd}
 use Rattle.placing.specs.declared.Place.{Place}
 use Prim.Native.Nat.{ℕ, _+_}
 use mathlib.Core.Bool.{Bool}
@@ -16,7 +18,7 @@ abbrev pub openingState : State
 openingState =
     record {
       phase = Opening;
-      kind = 0;
+      message = Skdupd;
       messages = 0;
       segments = 0;
       «opened_at» = 0;
@@ -35,7 +37,7 @@ abbrev pub openedState : State → ℕ → Part → State
 openedState st at p =
     record {
       phase = Between;
-      kind = st .kind;
+      message = st .message;
       messages = st .messages;
       segments = st .segments;
       «opened_at» = at;
@@ -45,12 +47,12 @@ openedState st at p =
       place = st .place;
     }
 
--- a UIH has come, with its table and its reference
-abbrev pub headedState : State → ℕ → ℕ → Part → State
-headedState st at kind p =
+-- a UIH has come, with its type and its reference
+abbrev pub headedState : State → ℕ → MessageType → Part → State
+headedState st at message p =
     record {
       phase = Inside;
-      kind = kind;
+      message = message;
       messages = st .messages;
       segments = 1;
       «opened_at» = st .«opened_at»;
@@ -60,62 +62,33 @@ headedState st at kind p =
       place = startPlace;
     }
 
--- a segment of the message is placed
-abbrev pub onwardState : State → Place → State
-onwardState st p =
+-- another phase, other counts and another place; the type and what was written are as they were
+abbrev pub withState : State → Phase → ℕ → ℕ → Place → State
+withState st phase messages segments p =
     record {
-      phase = Inside;
-      kind = st .kind;
-      messages = st .messages;
-      segments = oneMore (st .segments);
+      phase = phase;
+      message = st .message;
+      messages = messages;
+      segments = segments;
       «opened_at» = st .«opened_at»;
       dialogue = st .dialogue;
       «headed_at» = st .«headed_at»;
       reference = st .reference;
       place = p;
     }
+
+-- a segment of the message is placed
+abbrev pub onwardState : State → Place → State
+onwardState st p = withState st Inside (st .messages) (oneMore (st .segments)) p
 
 -- its UIT has come
 abbrev pub endedState : State → Place → State
-endedState st p =
-    record {
-      phase = Between;
-      kind = st .kind;
-      messages = oneMore (st .messages);
-      segments = oneMore (st .segments);
-      «opened_at» = st .«opened_at»;
-      dialogue = st .dialogue;
-      «headed_at» = st .«headed_at»;
-      reference = st .reference;
-      place = p;
-    }
+endedState st p = withState st Between (oneMore (st .messages)) (oneMore (st .segments)) p
 
 -- the UIZ has come
 abbrev pub closedState : State → State
-closedState st =
-    record {
-      phase = Closed;
-      kind = st .kind;
-      messages = st .messages;
-      segments = st .segments;
-      «opened_at» = st .«opened_at»;
-      dialogue = st .dialogue;
-      «headed_at» = st .«headed_at»;
-      reference = st .reference;
-      place = st .place;
-    }
+closedState st = withState st Closed (st .messages) (st .segments) (st .place)
 
 -- some segments of the message are placed: where they led, and how many its segments are then
 abbrev pub movedState : State → Place → ℕ → State
-movedState st p k =
-    record {
-      phase = st .phase;
-      kind = st .kind;
-      messages = st .messages;
-      segments = k;
-      «opened_at» = st .«opened_at»;
-      dialogue = st .dialogue;
-      «headed_at» = st .«headed_at»;
-      reference = st .reference;
-      place = p;
-    }
+movedState st p k = withState st (st .phase) (st .messages) k p

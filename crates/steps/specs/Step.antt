@@ -12,7 +12,9 @@ use Rattle.placing.specs.declared.Place.{Place}
 use Rattle.placing.specs.declared.Stepped.{Stepped}
 use Rattle.placing.specs.declared.Stepped.the-variants.{Placed, OutOfPlace}
 use Rattle.placing.specs.Table.{Table}
-use Rattle.placing.specs.Tags.{UIB, UIH, UIT, UIZ, POP}
+use Rattle.placing.specs.Tables.{tableIn}
+use Rattle.messages.specs.Tags.{UIB, UIH, UIT, UIZ}
+use Rattle.messages.specs.Types.{isPeriod}
 use Rattle.placing.specs.Rule.{stepOf, groupOf}
 use Rattle.envelope.specs.declared.Opened.{Opened}
 use Rattle.envelope.specs.declared.Opened.the-variants.{Dialogue, Wrong}
@@ -53,7 +55,7 @@ opening st at g = pick (eqb (tagNumber g) UIB) (opened st at g (uibOf g)) (wrong
 
 -- "A message is UIH to UIT."
 abbrev pub headed : State → ℕ → List ℕ → Headed → Answer Taken
-headed st at g (Message kind p) = done (taken (headedState st at kind p) (rowOf at g 0))
+headed st at g (Message m p) = done (taken (headedState st at m p) (rowOf at g 0))
 headed st at g Missing = wrongEnvelope at
 headed st at g Unknown = unknownType at
 
@@ -73,10 +75,7 @@ unfoldable pub trailing : State → ℕ → List ℕ → List ℕ → Place → 
 trailing st at g reference p group =
     pick (uitOf g reference (oneMore (st .segments))) (done (taken (endedState st p) (rowOf at g group))) (wrongEnvelope at)
 
--- "POP in group 4 of SKDUPD .. POP in other places is placed and not read."
-abbrev pub isPeriod : State → List ℕ → ℕ → Bool
-isPeriod st g group = both (eqb (st .kind) 0) (both (eqb (tagNumber g) POP) (eqb group 4))
-
+-- a period that is read
 abbrev pub judged : State → ℕ → List ℕ → Place → ℕ → Period → Answer Taken
 judged st at g p group (period.Good f n form) = done (taken (onwardState st p) (rowOf at g group))
 judged st at g p group (period.Wrong x) = wrongPeriod at
@@ -84,11 +83,7 @@ judged st at g p group (period.Wrong x) = wrongPeriod at
 unfoldable pub placed : State → ℕ → List ℕ → List ℕ → ℕ → Place → Answer Taken
 placed st at g reference group p =
     pick (eqb (tagNumber g) UIT) (trailing st at g reference p group)
-    (pick (isPeriod st g group) (judged st at g p group (periodOf g)) (done (taken (onwardState st p) (rowOf at g group))))
-
--- the message's own table
-abbrev pub tableOf : Table → Table → ℕ → Table
-tableOf skdupd tsdupd kind = pick (eqb kind 0) skdupd tsdupd
+    (pick (isPeriod (st .message) (tagNumber g) group) (judged st at g p group (periodOf g)) (done (taken (onwardState st p) (rowOf at g group))))
 
 -- in a message a segment is tested for 9 first, so that UIT is tested for 9 before 7 and a further UIH, UIB or UIZ is not read
 abbrev pub settled : Table → State → ℕ → List ℕ → List ℕ → Stepped → Answer Taken
@@ -98,12 +93,12 @@ settled t st at g reference OutOfPlace = outOfPlace at
 unfoldable pub inside : Table → State → ℕ → List ℕ → List ℕ → Answer Taken
 inside t st at g reference = settled t st at g reference (stepOf t (st .place) (tagNumber g))
 
--- the step of the segment g at an offset; dialogue and reference are the UIB's and the UIH's as written
-unfoldable pub stepBy : Table → Table → Phase → State → ℕ → List ℕ → List ℕ → List ℕ → Answer Taken
-stepBy skdupd tsdupd Opening st at g dialogue reference = opening st at g
-stepBy skdupd tsdupd Between st at g dialogue reference = between st at g dialogue
-stepBy skdupd tsdupd Inside st at g dialogue reference = inside (tableOf skdupd tsdupd (st .kind)) st at g reference
-stepBy skdupd tsdupd Closed st at g dialogue reference = wrongEnvelope at
+-- the step of the segment g at an offset, by the tables of all types; dialogue and reference are the UIB's and the UIH's as written
+unfoldable pub stepBy : Table → Phase → State → ℕ → List ℕ → List ℕ → List ℕ → Answer Taken
+stepBy tables Opening st at g dialogue reference = opening st at g
+stepBy tables Between st at g dialogue reference = between st at g dialogue
+stepBy tables Inside st at g dialogue reference = inside (tableIn tables (st .message)) st at g reference
+stepBy tables Closed st at g dialogue reference = wrongEnvelope at
 
-abbrev pub segmentStep : Table → Table → State → ℕ → List ℕ → List ℕ → List ℕ → Answer Taken
-segmentStep skdupd tsdupd st at g dialogue reference = stepBy skdupd tsdupd (st .phase) st at g dialogue reference
+abbrev pub segmentStep : Table → State → ℕ → List ℕ → List ℕ → List ℕ → Answer Taken
+segmentStep tables st at g dialogue reference = stepBy tables (st .phase) st at g dialogue reference

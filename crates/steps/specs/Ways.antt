@@ -19,7 +19,8 @@ use Rattle.parts.specs.declared.Part.{Part}
 use Rattle.placing.specs.declared.Place.{Place}
 use Rattle.placing.specs.declared.Stepped.the-variants.{Placed, OutOfPlace}
 use Rattle.placing.specs.Table.{Table}
-use Rattle.placing.specs.Tags.{UIB, UIH, UIT, UIZ, POP}
+use Rattle.messages.specs.Tags.{UIB, UIH, UIT, UIZ}
+use Rattle.messages.specs.Types.{isPeriod}
 use Rattle.placing.specs.Rule.{stepOf, groupOf}
 use Rattle.envelope.specs.declared.Opened.the-variants.{Dialogue, Wrong}
 use Rattle.envelope.specs.Envelope.{uibOf, uihOf, uitOf, uizOf}
@@ -31,7 +32,7 @@ use Rattle.steps.specs.declared.state.Row.{Row}
 use Rattle.steps.specs.declared.state.Step.{Step}
 use Rattle.steps.specs.declared.state.Step.the-variants.{Next, Refused}
 use Rattle.steps.specs.State.{oneMore, openedState, closedState, onwardState, endedState}
-use Rattle.steps.specs.Step.{Taken, taken, stepAnswer, rowOf, opening, headed, closing, between, trailing, isPeriod, judged, placed, inside, stepBy, segmentStep}
+use Rattle.steps.specs.Step.{Taken, taken, stepAnswer, rowOf, opening, headed, closing, between, trailing, judged, placed, inside, stepBy, segmentStep}
 
 pub next-is : {s t : State} {r q : Row} → s ≡ t → r ≡ q → done (taken s r) ≡ done (taken t q)
 next-is e f = cc
@@ -87,11 +88,11 @@ module _ (st : State) (at : ℕ) (g : List ℕ) where
     unfolding placed
     placed-uit h = rw (eq-eqb (tagNumber g) UIT h)
 
-    pub placed-period : (tagNumber g ≡ UIT → ⊥) → isPeriod st g group ≡ true → judged st at g p group (periodOf g) ≡ placed st at g reference group p
+    pub placed-period : (tagNumber g ≡ UIT → ⊥) → isPeriod (st .message) (tagNumber g) group ≡ true → judged st at g p group (periodOf g) ≡ placed st at g reference group p
     unfolding placed
     placed-period h e = rw (ne-eqb (tagNumber g) UIT h, e)
 
-    pub placed-other : (tagNumber g ≡ UIT → ⊥) → isPeriod st g group ≡ false → done (taken (onwardState st p) (rowOf at g group)) ≡ placed st at g reference group p
+    pub placed-other : (tagNumber g ≡ UIT → ⊥) → isPeriod (st .message) (tagNumber g) group ≡ false → done (taken (onwardState st p) (rowOf at g group)) ≡ placed st at g reference group p
     unfolding placed
     placed-other h e = rw (ne-eqb (tagNumber g) UIT h, e)
 
@@ -107,16 +108,6 @@ module _ (st : State) (at : ℕ) (g : List ℕ) where
 -- a segment's own bytes are all of its slice
 pub whole : (g : List ℕ) → bytesOf g (record { from = 0; to = length g }) ≡ g
 whole g = rw sub-zero (take-length g)
-
--- in a message, by its table
-module _ (skdupd tsdupd : Table) (st : State) (at : ℕ) (g dialogue reference : List ℕ) (e : st .phase ≡ Inside) where
-  pub in-skdupd : st .kind ≡ 0 → inside skdupd st at g reference ≡ segmentStep skdupd tsdupd st at g dialogue reference
-  unfolding stepBy
-  in-skdupd k = rw (e, eq-eqb (st .kind) 0 k)
-
-  pub in-tsdupd : (st .kind ≡ 0 → ⊥) → inside tsdupd st at g reference ≡ segmentStep skdupd tsdupd st at g dialogue reference
-  unfolding stepBy
-  in-tsdupd k = rw (e, ne-eqb (st .kind) 0 k)
 
 -- what a step answers fixes its case
 abbrev case : Answer Taken → Step

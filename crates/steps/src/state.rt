@@ -1,10 +1,11 @@
 //! Where a reading stands: numbers only, by value.
 
+use messages::MessageType;
 use parts::Part;
 use placing::Place;
 use syntax::segment::Refusal;
 ghost use mathlib.Core.Path.{_≡_};
-ghost use Rattle.steps.specs.State.{oneMore, openingState, openedState, headedState, onwardState, endedState, closedState, movedState};
+ghost use Rattle.steps.specs.State.{oneMore, openingState, openedState, headedState, onwardState, endedState, closedState, movedState, withState};
 
 /// What may come next.
 pub enum Phase {
@@ -21,8 +22,8 @@ pub enum Phase {
 /// A reading after some whole segments.
 pub struct State {
     pub phase: Phase,
-    /// The message's table: 0 SKDUPD, else TSDUPD.
-    pub kind: u8,
+    /// The message's type.
+    pub message: MessageType,
     /// Messages that are ended.
     pub messages: usize,
     /// Segments of the message, its UIH counted.
@@ -64,14 +65,14 @@ impl State {
         let place = Place::start();
         State {
             phase: Phase::Opening,
-            kind: 0,
+            message: MessageType::Skdupd,
             messages: 0,
             segments: 0,
             opened_at: 0,
             dialogue: Part { from: 0, to: 0 },
             headed_at: 0,
             reference: Part { from: 0, to: 0 },
-            place: place,
+            place,
         }
     }
 
@@ -79,37 +80,58 @@ impl State {
     pub(crate) fn opened(self, at: usize, dialogue: Part) -> Self
         ensures { λ r. ⌜ r ≡ openedState self at dialogue ⌝ }
     {
+        let message = self.message;
         let reference = self.reference;
         let place = self.place;
         State {
             phase: Phase::Between,
-            kind: self.kind,
+            message,
             messages: self.messages,
             segments: self.segments,
             opened_at: at,
-            dialogue: dialogue,
+            dialogue,
             headed_at: self.headed_at,
-            reference: reference,
-            place: place,
+            reference,
+            place,
         }
     }
 
     // A UIH at an offset has come.
-    pub(crate) fn headed(self, at: usize, kind: u8, reference: Part) -> Self
-        ensures { λ r. ⌜ r ≡ headedState self at kind reference ⌝ }
+    pub(crate) fn headed(self, at: usize, message: MessageType, reference: Part) -> Self
+        ensures { λ r. ⌜ r ≡ headedState self at message reference ⌝ }
     {
         let dialogue = self.dialogue;
         let place = Place::start();
         State {
             phase: Phase::Inside,
-            kind: kind,
+            message,
             messages: self.messages,
             segments: 1,
             opened_at: self.opened_at,
-            dialogue: dialogue,
+            dialogue,
             headed_at: at,
-            reference: reference,
-            place: place,
+            reference,
+            place,
+        }
+    }
+
+    // Another phase, other counts and another place; what was written is as it was.
+    fn with(self, phase: Phase, messages: usize, segments: usize, place: Place) -> Self
+        ensures { λ r. ⌜ r ≡ withState self phase messages segments place ⌝ }
+    {
+        let message = self.message;
+        let dialogue = self.dialogue;
+        let reference = self.reference;
+        State {
+            phase,
+            message,
+            messages,
+            segments,
+            opened_at: self.opened_at,
+            dialogue,
+            headed_at: self.headed_at,
+            reference,
+            place,
         }
     }
 
@@ -117,20 +139,7 @@ impl State {
     pub(crate) fn onward(self, place: Place) -> Self
         ensures { λ r. ⌜ r ≡ onwardState self place ⌝ }
     {
-        let dialogue = self.dialogue;
-        let reference = self.reference;
-        let segments = one_more(self.segments);
-        State {
-            phase: Phase::Inside,
-            kind: self.kind,
-            messages: self.messages,
-            segments: segments,
-            opened_at: self.opened_at,
-            dialogue: dialogue,
-            headed_at: self.headed_at,
-            reference: reference,
-            place: place,
-        }
+        self.with(Phase::Inside, self.messages, one_more(self.segments), place)
     }
 
     /// Some segments of the message are placed.
@@ -138,59 +147,23 @@ impl State {
         ensures { λ r. ⌜ r ≡ movedState self place segments ⌝ }
     {
         let phase = self.phase;
-        let dialogue = self.dialogue;
-        let reference = self.reference;
-        State {
-            phase: phase,
-            kind: self.kind,
-            messages: self.messages,
-            segments: segments,
-            opened_at: self.opened_at,
-            dialogue: dialogue,
-            headed_at: self.headed_at,
-            reference: reference,
-            place: place,
-        }
+        self.with(phase, self.messages, segments, place)
     }
 
     // The message's UIT has come.
     pub(crate) fn ended(self, place: Place) -> Self
         ensures { λ r. ⌜ r ≡ endedState self place ⌝ }
     {
-        let dialogue = self.dialogue;
-        let reference = self.reference;
         let messages = one_more(self.messages);
         let segments = one_more(self.segments);
-        State {
-            phase: Phase::Between,
-            kind: self.kind,
-            messages: messages,
-            segments: segments,
-            opened_at: self.opened_at,
-            dialogue: dialogue,
-            headed_at: self.headed_at,
-            reference: reference,
-            place: place,
-        }
+        self.with(Phase::Between, messages, segments, place)
     }
 
     // The UIZ has come.
     pub(crate) fn closed(self) -> Self
         ensures { λ r. ⌜ r ≡ closedState self ⌝ }
     {
-        let dialogue = self.dialogue;
-        let reference = self.reference;
         let place = self.place;
-        State {
-            phase: Phase::Closed,
-            kind: self.kind,
-            messages: self.messages,
-            segments: self.segments,
-            opened_at: self.opened_at,
-            dialogue: dialogue,
-            headed_at: self.headed_at,
-            reference: reference,
-            place: place,
-        }
+        self.with(Phase::Closed, self.messages, self.segments, place)
     }
 }

@@ -11,30 +11,24 @@ use envelope::check_uit;
 use envelope::check_uiz;
 use envelope::read_uib;
 use envelope::read_uih;
+use messages::UIB;
+use messages::UIH;
+use messages::UIT;
+use messages::UIZ;
+use messages::is_period;
 use parts::Part;
 use period::Period;
 use period::read_period;
 use placing::Place;
 use placing::Stepped;
+use placing::tables::table_of;
 use syntax::segment::Refusal;
 use syntax::segment::tag_at;
 ghost use mathlib.Core.Path.{_≡_};
-ghost use lib.Dec.{eqb};
-ghost use Rattle.laws.specs.Choice.{both};
 ghost use Rattle.answers.specs.Answers as answers;
 ghost use Rattle.envelope.specs.Envelope.{uihOf};
 ghost use Rattle.period.specs.Period.{periodOf};
 ghost use Rattle.steps.specs.Step.{stepAnswer, rowOf, opening, headed, closing, between, trailing, judged, placed, inside, segmentStep};
-
-const UIB: u32 = 0x554942;
-
-const UIH: u32 = 0x554948;
-
-const UIT: u32 = 0x554954;
-
-const UIZ: u32 = 0x55495a;
-
-const POP: u32 = 0x504f50;
 
 fn refused(number: u8, position: usize) -> Step
     ensures { λ r. ⌜ stepAnswer r ≡ answers.refused number position ⌝ }
@@ -70,8 +64,8 @@ fn head_message(st: State, at: usize, segment: &[u8]) -> Step
     ensures { λ r. ⌜ stepAnswer r ≡ headed st at (now (segment .entry)) (uihOf (now (segment .entry))) ⌝ }
 {
     match read_uih(segment) {
-        Headed::Message(kind, reference) => Step::Next(
-            st.headed(at, kind, reference),
+        Headed::Message(message, reference) => Step::Next(
+            st.headed(at, message, reference),
             row(at, segment, 0),
         ),
         Headed::Missing => refused(7, at),
@@ -123,19 +117,6 @@ fn end_message(
     refused(7, at)
 }
 
-/// Whether a segment is a period that is read: POP in group 4 of SKDUPD.
-pub fn is_period(kind: u8, tag: u32, group: u32) -> bool
-    ensures { λ r. ⌜ r ≡ both (eqb kind 0) (both (eqb tag 5263184) (eqb group 4)) ⌝ }
-{
-    if kind != 0 {
-        return false;
-    }
-    if tag != POP {
-        return false;
-    }
-    group == 4
-}
-
 // A period, placed.
 fn judge_period(st: State, at: usize, segment: &[u8], place: Place, group: u32) -> Step
     ensures { λ r. ⌜ stepAnswer r ≡ judged st at (now (segment .entry)) place group (periodOf (now (segment .entry))) ⌝ }
@@ -165,7 +146,8 @@ fn take_segment(
     if tag == UIT {
         return end_message(st, at, segment, reference, place, group);
     }
-    if is_period(st.kind, tag, group) {
+    let message = st.message;
+    if is_period(message, tag, group) {
         return judge_period(st, at, segment, place, group);
     }
     Step::Next(st.onward(place), row(at, segment, group))
@@ -190,20 +172,17 @@ pub fn step_segment(
     segment: &[u8],
     dialogue: &[u8],
     reference: &[u8],
-    skdupd: &[[u32; 8]],
-    tsdupd: &[[u32; 8]],
+    tables: &[[u32; 8]],
 ) -> Step
-    ensures { λ r. ⌜ stepAnswer r ≡ segmentStep (now (skdupd .entry)) (now (tsdupd .entry)) st at (now (segment .entry)) (now (dialogue .entry)) (now (reference .entry)) ⌝ }
+    ensures { λ r. ⌜ stepAnswer r ≡ segmentStep (now (tables .entry)) st at (now (segment .entry)) (now (dialogue .entry)) (now (reference .entry)) ⌝ }
 {
     let phase = st.phase;
     match phase {
         Phase::Opening => open_dialogue(st, at, segment),
         Phase::Between => next_message(st, at, segment, dialogue),
         Phase::Inside => {
-            if st.kind == 0 {
-                return next_segment(st, at, segment, reference, skdupd);
-            }
-            next_segment(st, at, segment, reference, tsdupd)
+            let message = st.message;
+            next_segment(st, at, segment, reference, table_of(tables, message))
         }
         Phase::Closed => refused(7, at),
     }

@@ -1,4 +1,7 @@
-//! Prints the two segment tables in the layout of document 000: position, tag, status, number, group.
+//! Prints the segment tables in the layout of document 000: position, tag, status, number, group.
+
+use messages::MessageType;
+use placing::tables::table_of;
 
 // The lowest four digits, as document 000 writes a position.
 fn print_position(position: u32) {
@@ -59,8 +62,9 @@ fn print_table(table: &[[u32; 8]]) {
 }
 
 fn main() {
+    let all = placing::tables::tables();
     io::write_all(1, b"SKDUPD\nPos\tTag\tS\tR\tGroup\n");
-    print_table(&placing::tables::skdupd());
+    print_table(table_of(&all, MessageType::Skdupd));
     io::write_all(1, b"TSDUPD\nPos\tTag\tS\tR\tGroup\n");
-    print_table(&placing::tables::tsdupd());
+    print_table(table_of(&all, MessageType::Tsdupd));
 }

@@ -2,12 +2,13 @@
 //! A line is a table (S for SKDUPD, T for TSDUPD, X for a made-up one), then tags; `RFR*000010` is ten RFR in a row.
 //! The line is copied, and below it stands for each tag the group and the position of the last one, with a full stop
 //! where the message may end there, or `out` and which one of them was out of place; the line is then left.
+use messages::MessageType;
 use placing::Place;
 use placing::Stepped;
+use placing::tables::table_of;
 ghost use mathlib.Core.Path.{_≡_};
-ghost use Prim.Native.Nat.{_≤_};
+ghost use Prim.Native.Nat.{_+_, _*_, _≤_};
 ghost use lib.ListN.{length};
-ghost use Rattle.placing.specs.Tags.{tagOf};
 
 enum Run {
     All(Place),
@@ -68,7 +69,7 @@ fn times(line: &[u8], at: usize) -> u32
 
 // A tag as the tables have it: its three bytes as one number.
 fn tag(a: u8, b: u8, c: u8) -> u32
-    ensures { λ r. ⌜ r ≡ tagOf a b c ⌝ }
+    ensures { λ r. ⌜ r ≡ a * 65536 + b * 256 + c ⌝ }
 {
     a as u32 * 65536 + b as u32 * 256 + c as u32
 }
@@ -191,28 +192,28 @@ fn run_tags(line: &[u8], table: &[[u32; 8]]) {
     }
 }
 
-fn run_line(line: &[u8], skdupd: &[[u32; 8]], tsdupd: &[[u32; 8]], other: &[[u32; 8]]) {
+fn run_line(line: &[u8], tables: &[[u32; 8]], other: &[[u32; 8]]) {
     io::write_all(1, line);
     io::write_all(1, b"\n");
     if line.len() == 0 {
         return;
     }
     if line[0] == b'S' {
-        run_tags(line, skdupd);
+        run_tags(line, table_of(tables, MessageType::Skdupd));
     }
     if line[0] == b'T' {
-        run_tags(line, tsdupd);
+        run_tags(line, table_of(tables, MessageType::Tsdupd));
     }
     if line[0] == b'X' {
         run_tags(line, other);
     }
 }
 
-fn run_text(text: &[u8], skdupd: &[[u32; 8]], tsdupd: &[[u32; 8]], other: &[[u32; 8]]) {
+fn run_text(text: &[u8], tables: &[[u32; 8]], other: &[[u32; 8]]) {
     let mut at = 0;
     while at < text.len() {
         let end = line_end(text, at);
-        run_line(&text[at..end], skdupd, tsdupd, other);
+        run_line(&text[at..end], tables, other);
         at = end + 1;
     }
 }
@@ -220,10 +221,5 @@ fn run_text(text: &[u8], skdupd: &[[u32; 8]], tsdupd: &[[u32; 8]], other: &[[u32
 fn main() {
     let mut buffer = [0u8; 65536];
     let n = io::read_full(0, &mut buffer);
-    run_text(
-        &buffer[..n],
-        &placing::tables::skdupd(),
-        &placing::tables::tsdupd(),
-        &made_up(),
-    );
+    run_text(&buffer[..n], &placing::tables::tables(), &made_up());
 }

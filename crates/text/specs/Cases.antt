@@ -3,17 +3,18 @@
 use mathlib.Core.Path.{_≡_, refl}
 use mathlib.Core.List.{List, [], _∷_}
 use Prim.Native.Nat.{ℕ}
+use Rattle.messages.specs.Tags.{UIB, UIH, MSD, UIT, UIZ}
 use Rattle.envelope.specs.Decimal.{decimalOn}
 use Rattle.text.specs.Text.{rowText, rowsText, tableText, refusalText}
 
 -- the five rows: UIB at 0, UIH at 13, MSD at 36, UIT at 47, UIZ at 55, each in no group
 abbrev printedRows : List ℕ
 printedRows =
-    0 ∷ 0 ∷ 5589314
-    ∷ 13 ∷ 0 ∷ 5589320
-    ∷ 36 ∷ 0 ∷ 5067588
-    ∷ 47 ∷ 0 ∷ 5589332
-    ∷ 55 ∷ 0 ∷ 5589338 ∷ []
+    0 ∷ 0 ∷ UIB
+    ∷ 13 ∷ 0 ∷ UIH
+    ∷ 36 ∷ 0 ∷ MSD
+    ∷ 47 ∷ 0 ∷ UIT
+    ∷ 55 ∷ 0 ∷ UIZ ∷ []
 
 pub printed-whole : tableText 5 printedRows
     ≡ 111 ∷ 102 ∷ 102 ∷ 115 ∷ 101 ∷ 116 ∷ 9 ∷ 103 ∷ 114 ∷ 111 ∷ 117 ∷ 112 ∷ 9 ∷ 116 ∷ 97 ∷ 103 ∷ 10

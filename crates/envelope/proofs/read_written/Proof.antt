@@ -18,14 +18,14 @@ unfolding besides
 returns c =
     let p = c .before .before in
     let a = p .before .before .args in
-    written-absent (a .kind) (now (a .segment)) (p .part-at .result) (p .part-at .ensures) (sym (c .before .is-absent .ensures) ∙ c .if1 .taken)
+    written-absent (a .message) (now (a .segment)) (p .part-at .result) (p .part-at .ensures) (sym (c .before .is-absent .ensures) ∙ c .if1 .taken)
 
 returns-2 : tie.Need-returns-2
 unfolding besides
 returns-2 c =
     let p = c .before .before in
     let a = p .before .before .args in
-    written-good (a .kind) (now (a .segment)) (p .part-at .result) (p .part-at .ensures) (sym (c .before .is-absent .ensures) ∙ c .if1 .left)
+    written-good (a .message) (now (a .segment)) (p .part-at .result) (p .part-at .ensures) (sym (c .before .is-absent .ensures) ∙ c .if1 .left)
 
 pub read-written-spec : {M : Type 1} → statement M
 read-written-spec = tie.close (tie.spec part-at-requires is-absent-requires returns returns-2)

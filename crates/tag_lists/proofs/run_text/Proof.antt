@@ -6,10 +6,10 @@ use Rattle.tag_lists.proofs.run_text.Statement.{statement}
 use Rattle.tag_lists.proofs.run_text.Tie as tie
 
 abbrev Inv-loop : tie.InvT-loop
-Inv-loop text skdupd tsdupd other at₀ at = at ≤ length text + 1
+Inv-loop text tables other at₀ at = at ≤ length text + 1
 
 abbrev μ-loop : tie.MeasureT-loop
-μ-loop text skdupd tsdupd other at₀ at = length text + 1 - at
+μ-loop text tables other at₀ at = length text + 1 - at
 
 loop-holds : tie.Need-loop-holds Inv-loop μ-loop
 loop-holds c = search needs

@@ -5,12 +5,13 @@ use native.Mathlib.Omega.{arith}
 use borrow.Author.Needs.{needs}
 use denote.Ref.{now}
 use lib.ListN.{length, length-replicate}
-use Rattle.interchange.specs.declared.reader.Gathered.{Gathered}
-use Rattle.interchange.specs.declared.reader.Gathered.the-variants.{Numbers, Full, Faulty}
+use Rattle.interchange.specs.declared.gather.Gathered.{Gathered}
+use Rattle.interchange.specs.declared.gather.Gathered.the-variants.{Numbers, Full, Faulty}
 use Rattle.interchange.specs.declared.reader.Reading.{Reading}
 use Rattle.interchange.specs.declared.reader.Reading.the-variants.{Rows, Refused}
 use Rattle.steps.specs.declared.state.State.{State}
 use Rattle.interchange.specs.Reader.{Outcome, accepted, readAnswer}
+use Rattle.interchange.specs.Room.{roomSize}
 use Rattle.interchange.specs.Chunks.{wholeFrom, Filled, Chunk, chunk-as}
 use Rattle.interchange.specs.Answers.{Behind, behind-fault, behind-short, behind-rows, behind-refused, behind-full, behind-fits}
 use borrow.Fn.Kinds.{In}
@@ -18,19 +19,19 @@ use borrow.Fn.PlainCycle.{Measures, is, falls, and}
 use Rattle.interchange.proofs.reader.read_on.Reads as read-on
 use Rattle.interchange.proofs.reader.read_on.Kinds as read-on-kinds
 use Rattle.interchange.proofs.reader.+read_on.Lts-read_on as read-on-lts
-use Rattle.interchange.proofs.reader.gather.Reads as gather-reads
+use Rattle.interchange.proofs.gather.gather.Reads as gather-reads
 use Rattle.interchange.proofs.rows.copy_rows.Reads as copy-rows-reads
 use Rattle.interchange.proofs.reader.+read_on.{statement}
 use Rattle.interchange.proofs.reader.+read_on.Tie.{close}
 
-abbrev μ-read-on : Measures 6 read-on-kinds.ps ℕ
-μ-read-on κs a = a .1 .1 .1 .1 .1 .1 .1 .1 .1 .0
+abbrev μ-read-on : Measures 4 read-on-kinds.ps ℕ
+μ-read-on κs a = a .1 .1 .1 .1 .1 .0
 
-abbrev read-on-at : ℕ → In 6 read-on-kinds.ps
-read-on-at t = and 6 read-on-kinds.ps (is 6 read-on-kinds.ps μ-read-on t) read-on.Pre
+abbrev read-on-at : ℕ → In 4 read-on-kinds.ps
+read-on-at t = and 4 read-on-kinds.ps (is 4 read-on-kinds.ps μ-read-on t) read-on.Pre
 
-abbrev read-on-below : ℕ → In 6 read-on-kinds.ps
-read-on-below t = and 6 read-on-kinds.ps (falls 6 read-on-kinds.ps _<_ μ-read-on t) read-on.Pre
+abbrev read-on-below : ℕ → In 4 read-on-kinds.ps
+read-on-below t = and 4 read-on-kinds.ps (falls 4 read-on-kinds.ps _<_ μ-read-on t) read-on.Pre
 
 -- what was gathered
 abbrev After-gather : ℕ → Type 0
@@ -58,15 +59,15 @@ module _ (t : ℕ) (g : After-gather t) where
   list = now (start .args .s)
 
   abbrev whole : Outcome
-  whole = wholeFrom list (start .args .st) (start .args .at)
+  whole = wholeFrom list (start .args .from .state) (start .args .from .at)
 
   abbrev room : List ℕ
-  room = g .gather .last .1 .1 .1 .1 .1 .1 .1 .0
+  room = g .gather .last .1 .1 .1 .1 .1 .0
 
-  chunk : (x : Gathered) → g .gather .result ≡ x → Chunk list (start .args .st) (start .args .at) x room
-  chunk x e = chunk-as list (start .args .st) (start .args .at) (g .gather .result) x room e (g .gather .ensures .0)
+  chunk : (x : Gathered) → g .gather .result ≡ x → Chunk list (start .args .from .state) (start .args .from .at) x room
+  chunk x e = chunk-as list (start .args .from .state) (start .args .from .at) (g .gather .result) x room e (g .gather .ensures .0)
 
-  size : length room ≡ 192
+  size : length room ≡ roomSize
   size = g .gather .ensures .1
 
 -- all rows are gathered
@@ -87,7 +88,7 @@ module _ (t : ℕ) (k : After-numbers t) where
   abbrev count : ℕ
   count = k .before .n .given .0 .0
 
-  all : Filled (whole t last) (record { rows = []; verdict = accepted }) count (room t last) × (count ≤ 192)
+  all : Filled (whole t last) (record { rows = []; verdict = accepted }) count (room t last) × (count ≤ roomSize)
   all = chunk t last (Numbers count) (k .before .n .given .1)
 
 -- the room is full
@@ -106,16 +107,16 @@ module _ (t : ℕ) (k : After-full t) where
   full = k .before .before .before .before
 
   abbrev next : State
-  next = k .before .next .given .0 .0
+  next = k .before .state .given .0 .0
 
   abbrev then : ℕ
-  then = k .before .next .given .0 .1 .0
+  then = k .before .state .given .0 .1 .0
 
   abbrev some : ℕ
-  some = k .before .next .given .0 .1 .1 .0
+  some = k .before .state .given .0 .1 .1 .0
 
-  part : Chunk (list t full) (start t full .args .st) (start t full .args .at) (Full next then some) (room t full)
-  part = chunk t full (Full next then some) (k .before .next .given .1)
+  part : Chunk (list t full) (start t full .args .from .state) (start t full .args .from .at) (Full next then some) (room t full)
+  part = chunk t full (Full next then some) (k .before .state .given .1)
 
 -- the rest was read
 abbrev After-rest : ℕ → Type 0
@@ -136,10 +137,10 @@ module _ (t : ℕ) (r : After-rest t) where
   lent = now (start t (full t filled) .args .rows)
 
   abbrev behind : ℕ
-  behind = start t (full t filled) .args .behind
+  behind = start t (full t filled) .args .from .numbers
 
   abbrev after : List ℕ
-  after = r .read-on .last .1 .1 .1 .1 .1 .1 .1 .0
+  after = r .read-on .last .1 .1 .1 .1 .0
 
   abbrev rest : Outcome
   rest = wholeFrom (list t (full t filled)) (next t filled) (then t filled)
@@ -167,7 +168,7 @@ read-on-gather-requires : (t : ℕ) → read-on-lts.Need-gather-requires (
 ) (read-on-at t) read-on.Post
 read-on-gather-requires t c κs =
     let p = c .before .before .before .before .before .pre .1 in
-    (p .0, p .1, p .2, p .3, p .4, length-replicate {A = ℕ} 192 0, p .5)
+    (p .0, p .1, p .2, length-replicate {A = ℕ} roomSize 0, p .3)
 
 read-on-enum-known-n : (t : ℕ) → read-on-lts.Need-enum-known-n (
   gather-reads.Asked,
@@ -204,7 +205,7 @@ read-on-returns : (t : ℕ) → read-on-lts.Need-returns (
 read-on-returns t c =
     let k = c .before in
     let g = last t k in
-    behind-short (start t g .args .behind) (whole t g) (now (start t g .args .rows)) (count t k) (room t g) (all t k .0) (c .if1 .taken)
+    behind-short (start t g .args .from .numbers) (whole t g) (now (start t g .args .rows)) (count t k) (room t g) (all t k .0) (c .if1 .taken)
 
 read-on-slice-aggregate-copy-rows : (t : ℕ) → read-on-lts.Need-slice-aggregate-copy-rows (
   gather-reads.Asked,
@@ -245,7 +246,7 @@ read-on-add-t23 t c =
     let a = all t k .1 in
     omega arith
 
-read-on-enum-known-next : (t : ℕ) → read-on-lts.Need-enum-known-next (
+read-on-enum-known-state : (t : ℕ) → read-on-lts.Need-enum-known-state (
   gather-reads.Asked,
   gather-reads.Learnt,
   copy-rows-reads.Asked,
@@ -253,9 +254,9 @@ read-on-enum-known-next : (t : ℕ) → read-on-lts.Need-enum-known-next (
   read-on-below t,
   read-on.Post,
 ) (read-on-at t) read-on.Post
-read-on-enum-known-next t c = search needs
+read-on-enum-known-state t c = search needs
 
-read-on-add-read-on : (t : ℕ) → read-on-lts.Need-add-read-on (
+read-on-add-numbers : (t : ℕ) → read-on-lts.Need-add-numbers (
   gather-reads.Asked,
   gather-reads.Learnt,
   copy-rows-reads.Asked,
@@ -263,10 +264,9 @@ read-on-add-read-on : (t : ℕ) → read-on-lts.Need-add-read-on (
   read-on-below t,
   read-on.Post,
 ) (read-on-at t) read-on.Post
-read-on-add-read-on t c =
-    let k = c .before in
-    let p = start t (full t k) .pre .1 in
-    let a = part t k .1 in
+read-on-add-numbers t c =
+    let p = start t (full t c) .pre .1 in
+    let a = part t c .1 in
     omega arith
 
 read-on-sub-read-on : (t : ℕ) → read-on-lts.Need-sub-read-on (
@@ -297,7 +297,7 @@ read-on-read-on-requires t c κs =
     let a = part t k in
     let b = a .3 in
     let d = a .4 in
-    (omega arith, (p .0, p .1, p .2, p .3, p .4, a .2, omega arith, omega arith))
+    (omega arith, (p .0, p .1, p .2, a .2, omega arith, omega arith))
 
 read-on-enum-known-m : (t : ℕ) → read-on-lts.Need-enum-known-m (
   gather-reads.Asked,
@@ -378,7 +378,7 @@ read-on-returns-2 t c =
     let e = r .before .before .before in
     let k = e .before in
     let g = last t k in
-    let b = behind-rows (start t g .args .behind) (whole t g) (now (start t g .args .rows)) (count t k) (room t g) (all t k .0) (e .if1 .left) in
+    let b = behind-rows (start t g .args .from .numbers) (whole t g) (now (start t g .args .rows)) (count t k) (room t g) (all t k .0) (e .if1 .left) in
     (b .0, r .copy-rows .ensures ∙ b .1)
 
 read-on-same-length-2 : (t : ℕ) → read-on-lts.Need-same-length-2 (
@@ -446,7 +446,7 @@ read-on-returns-5 : (t : ℕ) → read-on-lts.Need-returns-5 (
 read-on-returns-5 t c =
     let x = c .before .refusal2 .given in
     let g = c .before .before .before .before in
-    behind-fault (start t g .args .behind) (whole t g) (now (start t g .args .rows)) (x .0 .0) (chunk t g (Faulty (x .0 .0)) (x .1))
+    behind-fault (start t g .args .from .numbers) (whole t g) (now (start t g .args .rows)) (x .0 .0) (chunk t g (Faulty (x .0 .0)) (x .1))
 
 pub +read-on-spec : {M : Type 1} → statement M
 +read-on-spec = close μ-read-on λ t. read-on-lts.spec (
@@ -467,8 +467,8 @@ pub +read-on-spec : {M : Type 1} → statement M
     (read-on-slice-aggregate-copy-rows t)
     (read-on-copy-rows-requires t)
     (read-on-add-t23 t)
-    (read-on-enum-known-next t)
-    (read-on-add-read-on t)
+    (read-on-enum-known-state t)
+    (read-on-add-numbers t)
     (read-on-sub-read-on t)
     (read-on-read-on-requires t)
     (read-on-enum-known-m t)

@@ -3,12 +3,10 @@ use Rattle.interchange.proofs.reader.read_sized.Statement.{statement}
 use Rattle.interchange.proofs.reader.read_sized.Tie as tie
 use Rattle.interchange.proofs.reader.read_sized.Reads as reads
 use Rattle.interchange.proofs.reader.read_sized.Lts as lts
-use Rattle.hints.proofs.tables.skdupd_hints.Reads as skdupd-hints-reads
-use Rattle.hints.proofs.tables.tsdupd_hints.Reads as tsdupd-hints-reads
+use Rattle.hints.proofs.tables.hints.Reads as hints-reads
 use Rattle.interchange.proofs.reader.read_on.Reads as read-on-reads
 use Rattle.steps.proofs.state.State.opening.Reads as opening-reads
-use Rattle.placing.proofs.tables.skdupd.Reads as skdupd-reads
-use Rattle.placing.proofs.tables.tsdupd.Reads as tsdupd-reads
+use Rattle.placing.proofs.tables.tables.Reads as tables-reads
 use mathlib.Core.Path.{ap}
 use denote.Ref.{now}
 use Rattle.steps.specs.declared.state.State.{State}
@@ -17,17 +15,11 @@ use Rattle.interchange.specs.Reader.{readAnswer}
 use Rattle.interchange.specs.Chunks.{wholeFrom}
 use Rattle.interchange.specs.Answers.{right-same, right-behind}
 
-skdupd-requires : tie.Need-skdupd-requires
-skdupd-requires c κs = search needs
+tables-requires : tie.Need-tables-requires
+tables-requires c κs = search needs
 
-tsdupd-requires : tie.Need-tsdupd-requires
-tsdupd-requires c κs = search needs
-
-skdupd-hints-requires : tie.Need-skdupd-hints-requires
-skdupd-hints-requires c κs = search needs
-
-tsdupd-hints-requires : tie.Need-tsdupd-hints-requires
-tsdupd-hints-requires c κs = search needs
+hints-requires : tie.Need-hints-requires
+hints-requires c κs = search needs
 
 opening-requires : tie.Need-opening-requires
 opening-requires c κs = search needs
@@ -38,12 +30,6 @@ slice-aggregate-read-on c = search needs
 slice-aggregate-read-on-2 : tie.Need-slice-aggregate-read-on-2
 slice-aggregate-read-on-2 c = search needs
 
-slice-aggregate-read-on-3 : tie.Need-slice-aggregate-read-on-3
-slice-aggregate-read-on-3 c = search needs
-
-slice-aggregate-read-on-4 : tie.Need-slice-aggregate-read-on-4
-slice-aggregate-read-on-4 c = search needs
-
 read-on-requires : tie.Need-read-on-requires
 read-on-requires c κs = search needs
 
@@ -53,11 +39,11 @@ same-length c = search needs
 returns : tie.Need-returns
 returns c =
     let r = c .before .before in
-    let o = r .before .before .before .before .before .before in
-    let a = o .before .before .before .before .before .before .before .args in
+    let o = r .before .before .before .before in
+    let a = o .before .before .before .before .before .args in
     let list = now (a .s) in
     let lent = now (a .rows) in
-    let after = r .read-on .last .1 .1 .1 .1 .1 .1 .1 .0 in
+    let after = r .read-on .last .1 .1 .1 .1 .0 in
     right-same (wholeFrom list (o .opening .result) 0) (wholeFrom list openingState 0) lent (readAnswer (r .read-on .result)) after
     (ap (λ (st : State). wholeFrom list st 0) (o .opening .ensures))
     (right-behind (wholeFrom list (o .opening .result) 0) lent (readAnswer (r .read-on .result)) after (r .read-on .ensures))
@@ -66,15 +52,11 @@ pub read-sized-spec : {M : Type 1} → statement M
 read-sized-spec =
     tie.close
     (tie.spec
-    skdupd-requires
-    tsdupd-requires
-    skdupd-hints-requires
-    tsdupd-hints-requires
+    tables-requires
+    hints-requires
     opening-requires
     slice-aggregate-read-on
     slice-aggregate-read-on-2
-    slice-aggregate-read-on-3
-    slice-aggregate-read-on-4
     read-on-requires
     same-length
     returns)

@@ -3,7 +3,7 @@ use Rattle.interchange.proofs.run.is_good.Statement.{statement}
 use Rattle.interchange.proofs.run.is_good.Tie as tie
 use Rattle.interchange.proofs.run.is_good.Reads as reads
 use Rattle.interchange.proofs.run.is_good.Lts as lts
-use Rattle.steps.proofs.step.is_period.Reads as is-period-reads
+use Rattle.messages.proofs.is_period.Reads as is-period-reads
 use Rattle.period.proofs.read_period.Reads as read-period-reads
 use mathlib.Core.Path.{_≡_, sym, ap, _∙_}
 use mathlib.Core.List.{List}
@@ -22,7 +22,7 @@ is-period-requires c κs = search needs
 returns : tie.Need-returns
 returns c =
     let a = c .before .before .before .args in
-    good-other (a .kind) (a .tag) (a .group) (bodyAt (now (a .s)) (a .at)) (sym (c .before .is-period .ensures) ∙ not-true (c .before .is-period .result) (c .if1 .taken))
+    good-other (a .message) (a .tag) (a .group) (bodyAt (now (a .s)) (a .at)) (sym (c .before .is-period .ensures) ∙ not-true (c .before .is-period .result) (c .if1 .taken))
 
 read-period-requires : tie.Need-read-period-requires
 read-period-requires c κs = search needs
@@ -41,9 +41,9 @@ module _ (r : tie.After-read-period) where
   abbrev list : List ℕ
   list = now (start .args .s)
 
-  told : (x : Period) → r .read-period .result ≡ x → isGood x ≡ goodPart (start .args .kind) (start .args .tag) (start .args .group) (bodyAt list (start .args .at))
+  told : (x : Period) → r .read-period .result ≡ x → isGood x ≡ goodPart (start .args .message) (start .args .tag) (start .args .group) (bodyAt list (start .args .at))
   told x e =
-      good-read (start .args .kind) (start .args .tag) (start .args .group) (bodyAt list (start .args .at))
+      good-read (start .args .message) (start .args .tag) (start .args .group) (bodyAt list (start .args .at))
       (sym (r .before .before .is-period .ensures) ∙ not-false (r .before .before .is-period .result) (r .before .if1 .left)) x
       (sym (ap periodOf (part-is list (start .args .at) (start .args .end) (start .pre))) ∙ sym (r .read-period .ensures .0) ∙ e)
 

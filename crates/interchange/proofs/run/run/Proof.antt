@@ -23,20 +23,21 @@ use Rattle.syntax.specs.Ends.{end-within}
 use Rattle.placing.specs.declared.Place.{Place}
 use Rattle.placing.specs.declared.Stepped.the-variants.{Placed}
 use Rattle.steps.specs.State.{movedState}
+use Rattle.interchange.specs.Room.{roomSize}
 use Rattle.interchange.specs.Moves.{Moved, moved-none, moved-as}
 use Rattle.interchange.specs.Runs.{moved-inside}
 
 abbrev Inv-loop : tie.InvT-loop
-Inv-loop s st from table hints room₀ gathered place₀ segments₀ at₀ numbers₀ room place segments at numbers =
-    Moved s st from gathered room₀ (movedState st place segments) at numbers room × (numbers ≤ 192)
+Inv-loop s table hints room₀ st place₀ segments₀ at₀ numbers₀ room place segments at numbers =
+    Moved s st at₀ numbers₀ room₀ (movedState st place segments) at numbers room × (numbers ≤ roomSize)
 
 abbrev μ-loop : tie.MeasureT-loop
-μ-loop s st from table hints room₀ gathered place₀ segments₀ at₀ numbers₀ room place segments at numbers = 192 - numbers
+μ-loop s table hints room₀ st place₀ segments₀ at₀ numbers₀ room place segments at numbers = roomSize - numbers
 
 -- where the loop stands
 module _ (o : tie.At-loop Inv-loop μ-loop) where
   abbrev start : tie.Start Inv-loop μ-loop
-  start = o .before .before .before .before .before
+  start = o .before .before .before .before .before .before
 
   abbrev list : List ℕ
   list = now (start .args .s)
@@ -55,13 +56,13 @@ module _ (t : tie.After-tag-at Inv-loop μ-loop) where
   within : (own .loop .at + 3 ≤ last) × (last < length (list own))
   within = end-within (list own) (own .loop .at) last ended
 
-  size : length (own .loop .room) ≡ 192
+  size : length (own .loop .room) ≡ roomSize
   size = own .loop .inv .0 .sized ∙ start own .pre .4
 
 loop-holds : tie.Need-loop-holds Inv-loop μ-loop
 loop-holds c =
-    let a = c .before .before .before .before .args in
-    (moved-none (now (a .s)) (a .st) (a .from) (a .gathered) (now (a .room)), c .before .before .before .before .pre .5)
+    let a = c .before .before .before .before .before .args in
+    (moved-none (now (a .s)) (a .from .state) (a .from .at) (a .from .numbers) (now (a .room)), c .before .before .before .before .before .pre .5)
 
 read-segment-requires : tie.Need-read-segment-requires Inv-loop μ-loop
 read-segment-requires c κs = search needs
@@ -153,8 +154,8 @@ loop-again c =
     let p = start o .pre in
     let w = size t in
     let l = t .before .before .before .before .before .loop-test .taken in (
-      moved-as (now (a .s)) (ap (movedState (a .st) (n .next .given .0 .0)) (c .one-more .ensures)) refl
-          (moved-inside (now (a .s)) (a .st) (a .from) (a .gathered) (now (a .room)) (a .st) (p .0)
+      moved-as (now (a .s)) (ap (movedState (a .from .state) (n .next .given .0 .0)) (c .one-more .ensures)) refl
+          (moved-inside (now (a .s)) (a .from .state) (a .from .at) (a .from .numbers) (now (a .room)) (a .from .state) (p .0)
           (o .loop .place) (o .loop .segments) (o .loop .at) (o .loop .numbers) (o .loop .room) (o .loop .inv .0)
           (last t) (ended t) (now (a .table)) (p .1) (t .tag-at .result) (t .tag-at .ensures) (n .before .before .before .if1 .left)
           (n .next .given .0 .0) (sym (p .2 (o .loop .place) (t .tag-at .result)) ∙ sym (n .before .before .quick-step .ensures .0) ∙ n .next .given .1) (j .group .result) (j .group .ensures)

@@ -15,8 +15,8 @@ use Rattle.steps.proofs.step.row.Reads as row-reads
 read-uih-requires : tie.Need-read-uih-requires
 read-uih-requires c κs = search needs
 
-enum-known-kind : tie.Need-enum-known-kind
-enum-known-kind c = search needs
+enum-known-message : tie.Need-enum-known-message
+enum-known-message c = search needs
 
 headed-requires : tie.Need-headed-requires
 headed-requires c κs = search needs
@@ -41,7 +41,7 @@ returns c =
     let k = c .before .before .before in
     let u = k .before .before in
     let a = u .before .before .args in
-    next-is (c .before .headed .ensures) (c .row .ensures) ∙ ap (headed (a .st) (a .at) (now (a .segment))) (sym (k .kind .given .1) ∙ u .read-uih .ensures .0)
+    next-is (c .before .headed .ensures) (c .row .ensures) ∙ ap (headed (a .st) (a .at) (now (a .segment))) (sym (k .message .given .1) ∙ u .read-uih .ensures .0)
 
 returns-2 : tie.Need-returns-2
 returns-2 c =
@@ -60,7 +60,7 @@ head-message-spec =
     tie.close
     (tie.spec
     read-uih-requires
-    enum-known-kind
+    enum-known-message
     headed-requires
     row-requires
     enum-told

@@ -1,17 +1,16 @@
-use Rattle.steps.specs.Ways.{in-skdupd, in-tsdupd}
 use mathlib.Core.Path.{_≡_, sym, ap, _∙_}
-use Prim.Native.Nat.{ℕ}
-use borrow.Author.Tests.{eq-eqb, ne-eqb}
 use denote.Ref.{now}
+use Rattle.answers.specs.Answers.{Answer}
+use Rattle.placing.specs.Table.{Table}
 use Rattle.steps.specs.declared.state.Phase.{Phase}
 use Rattle.steps.specs.declared.state.Phase.the-variants.{Opening, Between, Inside, Closed}
-use Rattle.answers.specs.Answers.{Answer}
-use Rattle.steps.specs.Step.{Taken, stepBy, segmentStep}
+use Rattle.steps.specs.Step.{Taken, inside, stepBy}
 use borrow.Author.Needs.{needs}
 use Rattle.steps.proofs.step.step_segment.Statement.{statement}
 use Rattle.steps.proofs.step.step_segment.Tie as tie
 use Rattle.steps.proofs.step.step_segment.Reads as reads
 use Rattle.steps.proofs.step.step_segment.Lts as lts
+use Rattle.placing.proofs.tables.table_of.Reads as table-of-reads
 use Rattle.steps.proofs.step.next_message.Reads as next-message-reads
 use Rattle.steps.proofs.step.next_segment.Reads as next-segment-reads
 use Rattle.steps.proofs.step.open_dialogue.Reads as open-dialogue-reads
@@ -22,7 +21,7 @@ module _ (s : tie.After-shared-slice-known3) where
   abbrev by : Phase → Answer Taken
   by f =
       let a = s .before .before .before .args in
-      stepBy (now (a .skdupd)) (now (a .tsdupd)) f (a .st) (a .at) (now (a .segment)) (now (a .dialogue)) (now (a .reference))
+      stepBy (now (a .tables)) f (a .st) (a .at) (now (a .segment)) (now (a .dialogue)) (now (a .reference))
 
   known : (f : Phase) → s .before .before .before .args .st .phase ≡ f → by f ≡ by (s .before .before .before .args .st .phase)
   known f e = ap by (sym e)
@@ -42,18 +41,11 @@ next-message-requires c κs = search needs
 enum-told-3 : tie.Need-enum-told-3
 enum-told-3 c = search needs
 
+table-of-requires : tie.Need-table-of-requires
+table-of-requires c κs = search needs
+
 next-segment-requires : tie.Need-next-segment-requires
 next-segment-requires c κs = search needs
-
-returns : tie.Need-returns
-returns c =
-    let e = c .before .before .before in
-    let a = e .before .before .before .before .before .args in
-    c .next-segment .ensures
-    ∙ in-skdupd (now (a .skdupd)) (now (a .tsdupd)) (a .st) (a .at) (now (a .segment)) (now (a .dialogue)) (now (a .reference)) (e .enum-told3 .given .1) (c .before .if1 .taken)
-
-next-segment-requires-2 : tie.Need-next-segment-requires-2
-next-segment-requires-2 c κs = search needs
 
 enum-told-4 : tie.Need-enum-told-4
 enum-told-4 c = search needs
@@ -61,28 +53,30 @@ enum-told-4 c = search needs
 refused-requires : tie.Need-refused-requires
 refused-requires c κs = search needs
 
+returns : tie.Need-returns
+unfolding stepBy
+returns c =
+    let e = c .before in
+    c .open-dialogue .ensures ∙ known (e .before .before) Opening (e .enum-told .given .1)
+
 returns-2 : tie.Need-returns-2
 unfolding stepBy
 returns-2 c =
     let e = c .before in
-    c .open-dialogue .ensures ∙ known (e .before .before) Opening (e .enum-told .given .1)
+    c .next-message .ensures ∙ known (e .before .before) Between (e .enum-told2 .given .1)
 
 returns-3 : tie.Need-returns-3
 unfolding stepBy
 returns-3 c =
-    let e = c .before in
-    c .next-message .ensures ∙ known (e .before .before) Between (e .enum-told2 .given .1)
+    let e = c .before .before in
+    let a = e .before .before .before .before .before .args in
+    c .next-segment .ensures
+    ∙ ap (λ (t : Table). inside t (a .st) (a .at) (now (a .segment)) (now (a .reference))) (c .before .table-of .ensures)
+    ∙ known (e .before .before) Inside (e .enum-told3 .given .1)
 
 returns-4 : tie.Need-returns-4
-returns-4 c =
-    let e = c .before .before .before in
-    let a = e .before .before .before .before .before .args in
-    c .next-segment2 .ensures
-    ∙ in-tsdupd (now (a .skdupd)) (now (a .tsdupd)) (a .st) (a .at) (now (a .segment)) (now (a .dialogue)) (now (a .reference)) (e .enum-told3 .given .1) (c .before .if1 .left)
-
-returns-5 : tie.Need-returns-5
 unfolding stepBy
-returns-5 c =
+returns-4 c =
     let e = c .before in
     c .refused .ensures ∙ known (e .before .before) Closed (e .enum-told4 .given .1)
 
@@ -95,12 +89,11 @@ step-segment-spec =
     enum-told-2
     next-message-requires
     enum-told-3
+    table-of-requires
     next-segment-requires
-    returns
-    next-segment-requires-2
     enum-told-4
     refused-requires
+    returns
     returns-2
     returns-3
-    returns-4
-    returns-5)
+    returns-4)

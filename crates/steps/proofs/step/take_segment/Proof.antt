@@ -1,10 +1,9 @@
 use mathlib.Core.Path.{_≡_, sym, ap, _∙_}
 use mathlib.Core.Bool.{Bool}
 use Prim.Native.Nat.{ℕ}
-use lib.Dec.{eqb}
 use denote.Ref.{now}
-use Rattle.laws.specs.Choice.{both}
-use Rattle.steps.specs.Step.{isPeriod}
+use Rattle.messages.specs.Types.{isPeriod}
+use Rattle.syntax.specs.Segment.{tagNumber}
 use Rattle.steps.specs.Ways.{next-is, placed-uit, placed-period, placed-other}
 use borrow.Author.Needs.{needs}
 use Rattle.steps.proofs.step.take_segment.Statement.{statement}
@@ -13,7 +12,7 @@ use Rattle.steps.proofs.step.take_segment.Reads as reads
 use Rattle.steps.proofs.step.take_segment.Lts as lts
 use Rattle.steps.proofs.state.State.onward.Reads as onward-reads
 use Rattle.steps.proofs.step.end_message.Reads as end-message-reads
-use Rattle.steps.proofs.step.is_period.Reads as is-period-reads
+use Rattle.messages.proofs.is_period.Reads as is-period-reads
 use Rattle.steps.proofs.step.judge_period.Reads as judge-period-reads
 use Rattle.steps.proofs.step.row.Reads as row-reads
 use Rattle.syntax.proofs.segment.tag_at.Reads as tag-at-reads
@@ -28,10 +27,10 @@ module _ (u : tie.After-is-period) where
   abbrev tag : tie.After-tag-at
   tag = u .before .before
 
-  told : u .is-period .result ≡ isPeriod (tag .before .before .before .args .st) (now (tag .before .before .before .args .segment)) (tag .before .before .before .args .group)
+  told : u .is-period .result ≡ isPeriod (tag .before .before .before .args .st .message) (tagNumber (now (tag .before .before .before .args .segment))) (tag .before .before .before .args .group)
   told =
       let a = tag .before .before .before .args in
-      u .is-period .ensures ∙ ap (λ (x : ℕ). both (eqb (a .st .kind) 0) (both (eqb x 5263184) (eqb (a .group) 4))) (tag .tag-at .ensures)
+      u .is-period .ensures ∙ ap (λ (x : ℕ). isPeriod (a .st .message) x (a .group)) (tag .tag-at .ensures)
 
 returns : tie.Need-returns
 returns c =

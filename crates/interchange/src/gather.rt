@@ -1,0 +1,123 @@
+//! Some rows of a reading, gathered in a room of the reader's own.
+
+use crate::rows::put_row;
+use crate::run::FULL;
+use crate::run::Ran;
+use crate::run::run;
+use crate::standing::Standing;
+use crate::standing::is_closed;
+use crate::standing::is_inside;
+use crate::turn::Turn;
+use crate::turn::take_turn;
+use hints::tables::hints_of;
+use placing::tables::table_of;
+use steps::state::Phase;
+use steps::state::State;
+use syntax::segment::Refusal;
+ghost use mathlib.Core.Path.{_≡_};
+ghost use Prim.Native.Nat.{_≤_};
+ghost use lib.ListN.{length};
+ghost use Rattle.placing.specs.Tables as placing;
+ghost use Rattle.hints.specs.Hints as hinting;
+ghost use Rattle.steps.specs.State.{movedState};
+ghost use Rattle.interchange.specs.Reader.{isClosed};
+ghost use Rattle.interchange.specs.Room.{roomSize};
+ghost use Rattle.interchange.specs.Moves.{Moved};
+ghost use Rattle.interchange.specs.Chunks.{endedAt, Chunk};
+
+/// What is gathered of a reading.
+pub(crate) enum Gathered {
+    /// All its rows: how many numbers they are.
+    Numbers(usize),
+    /// The room is full: the state and the offset from which the rest is to be read, and how many numbers are gathered.
+    Full(State, usize, usize),
+    Faulty(Refusal),
+}
+
+// The input is at its end.
+fn ended(phase: Phase, numbers: usize, size: usize) -> Gathered
+    ensures { λ r. ⌜ r ≡ endedAt (isClosed phase) numbers size ⌝ }
+{
+    if is_closed(phase) {
+        return Gathered::Numbers(numbers);
+    }
+    Gathered::Faulty(Refusal {
+        number: 7,
+        position: size,
+    })
+}
+
+// Where a message stands, its segments that only move its place on; elsewhere none.
+fn run_on(s: &[u8], from: Standing, tables: &[[u32; 8]], hints: &[u64], room: &mut [u32]) -> Ran
+    requires { ⌜ (now tables ≡ placing.tables) × (now hints ≡ hinting.hints) × (length (now s) ≤ 60000) × (length (now room) ≡ roomSize) × (from .numbers ≤ roomSize) ⌝ }
+    ensures { λ r. ⌜ Moved (now (s .entry)) (from .state) (from .at) (from .numbers) (now (room .entry)) (movedState (from .state) (r .place) (r .segments)) (r .at) (r .numbers) (now (room .exit)) × (r .numbers ≤ roomSize) ⌝ }
+{
+    let st = from.state;
+    let phase = st.phase;
+    if !is_inside(phase) {
+        let place = st.place;
+        return Ran {
+            place,
+            segments: st.segments,
+            at: from.at,
+            numbers: from.numbers,
+        };
+    }
+    let message = st.message;
+    run(
+        s,
+        from,
+        table_of(tables, message),
+        hints_of(hints, message),
+        room,
+    )
+}
+
+/// The segments one after the other, their rows into a room of the reader's own, until it is full.
+pub(crate) fn gather(
+    s: &[u8],
+    start: State,
+    from: usize,
+    tables: &[[u32; 8]],
+    hints: &[u64],
+    room: &mut [u32],
+) -> Gathered
+    requires { ⌜ (now tables ≡ placing.tables) × (now hints ≡ hinting.hints) × (length (now s) ≤ 60000) × (length (now room) ≡ roomSize) × (from ≤ length (now s)) ⌝ }
+    ensures { λ r. ⌜ Chunk (now (s .entry)) start from r (now (room .exit)) × (length (now (room .exit)) ≡ roomSize) ⌝ }
+{
+    let mut st = start;
+    let mut at = from;
+    let mut numbers = 0;
+    while numbers < FULL {
+        let phase = st.phase;
+        if s.len() <= at {
+            return ended(phase, numbers, s.len());
+        }
+        if is_closed(phase) {
+            return Gathered::Faulty(Refusal {
+                number: 7,
+                position: at,
+            });
+        }
+        match take_turn(s, st, at, tables) {
+            Turn::On(next, row, then) => {
+                put_row(room, numbers, at as u32, row);
+                let gathered = numbers + 3;
+                let after = Standing {
+                    state: next,
+                    at: then,
+                    numbers: gathered,
+                };
+                let ran = run_on(s, after, tables, hints, room);
+                let place = ran.place;
+                st = next.moved(place, ran.segments);
+                at = ran.at;
+                numbers = ran.numbers;
+            }
+            Turn::Stop(refusal) => {
+                return Gathered::Faulty(refusal);
+            }
+        }
+    }
+    Gathered::Full(st, at, numbers)
+}

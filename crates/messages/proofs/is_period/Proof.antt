@@ -1,0 +1,24 @@
+-- `messages::is_period` meets its contract. Assumes nothing.
+use borrow.Author.Needs.{needs}
+use borrow.Author.Tests.{eq-eqb, ne-eqb}
+use Rattle.messages.specs.Tags.{POP}
+use Rattle.messages.proofs.is_period.Statement.{statement}
+use Rattle.messages.proofs.is_period.Tie as tie
+
+enum-told : tie.Need-enum-told
+enum-told c = search needs
+
+returns : tie.Need-returns
+returns c = rw (c .before .enum-told .given .1, ne-eqb _ POP (c .if1 .taken))
+
+enum-told-2 : tie.Need-enum-told-2
+enum-told-2 c = search needs
+
+returns-2 : tie.Need-returns-2
+returns-2 c = rw (c .before .enum-told .given .1, eq-eqb _ POP (c .if1 .left))
+
+returns-3 : tie.Need-returns-3
+returns-3 c = search needs
+
+pub is-period-spec : {M : Type 1} → statement M
+is-period-spec = tie.close (tie.spec enum-told returns enum-told-2 returns-2 returns-3)
