@@ -7,7 +7,7 @@ use Prim.Native.Nat.{ℕ, _+_, _-_, _*_, _≤_, _<_}
 use native.Mathlib.Omega.{arith}
 use lib.ListN.{length, take}
 use Rattle.laws.specs.Choice.{pick}
-use Rattle.answers.specs.Answers.{wrongEnvelope}
+use Rattle.answers.specs.Answers.{Answer, done, refused, wrongEnvelope}
 use Rattle.syntax.specs.declared.segment.Refusal.{Refusal}
 use Rattle.placing.specs.Tables.{tables}
 use Rattle.steps.specs.declared.state.Phase.{Phase}
@@ -27,10 +27,14 @@ use Rattle.interchange.specs.Room.{roomSize, fullFrom}
 abbrev pub wholeFrom : List ℕ → State → ℕ → Outcome
 wholeFrom s st at = readOn (length s + 1) s st at
 
+-- all rows, or a fault
+abbrev pub gatheredBy : Answer ℕ → Gathered
+gatheredBy (done n) = Numbers n
+gatheredBy (refused number position) = Faulty (record { number = number; position = position })
+
 -- what is told at the input's end
 abbrev pub endedAt : Bool → ℕ → ℕ → Gathered
-endedAt true n size = Numbers n
-endedAt false n size = Faulty (record { number = 7; position = size })
+endedAt closed n size = gatheredBy (pick closed (done n) (wrongEnvelope size))
 
 -- what is gathered of a reading: all its rows; those before the room was full, the rest being read from another state on; or its fault
 pub record Filled (w rest : Outcome) (n : ℕ) (room : List ℕ) : Type 0 where
@@ -66,7 +70,7 @@ module _ (s : List ℕ) (st₀ : State) (at₀ : ℕ) (room₀ : List ℕ) (st :
       }
 
   module _ (h : at < length s) where
-    pub chunk-past : isClosed (st .phase) ≡ true → Chunk s st₀ at₀ (Faulty (record { number = 7; position = at })) room
+    pub chunk-past : isClosed (st .phase) ≡ true → Chunk s st₀ at₀ (gatheredBy (wrongEnvelope at)) room
     chunk-past c = sym (filled (fault (wrongEnvelope at)) (read-past enough s st at h (left .enough) c) .verdict)
 
     pub chunk-stop : isClosed (st .phase) ≡ false → (x : Refusal) → turnAt tables s st at ≡ Stop x → Chunk s st₀ at₀ (Faulty x) room

@@ -2,10 +2,11 @@
 -- "UIH is the first place of a message and UIT the last. Inside a message a further UIH, UIB or UIZ is out of place" (01)
 use mathlib.Core.Path.{_≡_, refl, ap}
 use mathlib.Core.Bool.{Bool, true, false}
+use mathlib.Core.List.{List, [], _∷_}
 use Prim.Native.Nat.{ℕ, _+_, _≤_}
 use native.Mathlib.Omega.{arith}
 use borrow.Author.Tests.{le-ltb}
-use lib.Dec.{T, eqb, leb}
+use lib.Dec.{T, eqb, leb, eqb→eq}
 use Rattle.laws.specs.Choice.{either}
 use Rattle.laws.specs.Sweep.{below}
 use Rattle.placing.specs.declared.Place.{Place}
@@ -15,8 +16,8 @@ use Rattle.placing.specs.Place.{startPlace}
 use Rattle.placing.specs.Rule.{reachable, again, laterOnes, choicesFrom, firstOf, stepOf, groupOf, isPlaced, mayEnd}
 use Rattle.placing.specs.Walks.{after-grows, places-past}
 use Rattle.placing.specs.Laws.{absent, onlyAt, absent-out, only-there, placed-row, placed-segment}
-use Rattle.placing.specs.Formed.{group-none, group-inside}
-use Rattle.placing.specs.WellFormed.{isNot, wellFormed, skdupd-formed, tsdupd-formed}
+use Rattle.placing.specs.Formed.{nth, group-none, group-inside}
+use Rattle.placing.specs.WellFormed.{isNot, every, wellFormed, skdupd-formed, tsdupd-formed}
 use Rattle.placing.specs.Message.{InMessage, start-in, first-out}
 use Rattle.messages.specs.Tags.{UIH, UIT, UIB, UIZ}
 use Rattle.placing.specs.Skdupd.{skdupdTable}
@@ -41,41 +42,49 @@ pub record MessageTable (t : Table) (last : ℕ) : Type 0 where
   pub uib-none : T (absent t UIB)
   pub uiz-none : T (absent t UIZ)
 
+-- the same as tests, for any table that is well formed
+abbrev messageTests : Table → ℕ → List Bool
+messageTests t last =
+    eqb (rows t) (last + 1)
+    ∷ eqb (tagAt t 0) UIH
+    ∷ onlyAt t UIH 0
+    ∷ eqb (most t 0) 1
+    ∷ eqb (tagAt t last) UIT
+    ∷ onlyAt t UIT last
+    ∷ eqb (most t last) 1
+    ∷ eqb (levelOf t last) 0
+    ∷ below (apart t last) (rows t)
+    ∷ absent t UIB
+    ∷ absent t UIZ
+    ∷ []
+
+tested : (t : Table) (last : ℕ) → T (wellFormed t) → T (every (messageTests t last)) → MessageTable t last
+tested t last w h =
+    let l = messageTests t last in
+    record {
+      well = w;
+      long = eqb→eq (rows t) (last + 1) (nth l 0 h);
+      uih = eqb→eq (tagAt t 0) UIH (nth l 1 h);
+      uih-only = nth l 2 h;
+      uih-once = eqb→eq (most t 0) 1 (nth l 3 h);
+      uit = eqb→eq (tagAt t last) UIT (nth l 4 h);
+      uit-only = nth l 5 h;
+      uit-once = eqb→eq (most t last) 1 (nth l 6 h);
+      uit-free = eqb→eq (levelOf t last) 0 (nth l 7 h);
+      uit-apart = nth l 8 h;
+      uib-none = nth l 9 h;
+      uiz-none = nth l 10 h;
+    }
+
+-- every type's table is one
+
 pub skdupd-messages : MessageTable skdupdTable 54
 unfolding skdupdTable entryOf afterOf
-skdupd-messages =
-    record {
-      well = skdupd-formed;
-      long = refl;
-      uih = refl;
-      uih-only = tt;
-      uih-once = refl;
-      uit = refl;
-      uit-only = tt;
-      uit-once = refl;
-      uit-free = refl;
-      uit-apart = tt;
-      uib-none = tt;
-      uiz-none = tt;
-    }
+skdupd-messages = tested skdupdTable 54 skdupd-formed tt
 
 pub tsdupd-messages : MessageTable tsdupdTable 48
 unfolding tsdupdTable entryOf afterOf
-tsdupd-messages =
-    record {
-      well = tsdupd-formed;
-      long = refl;
-      uih = refl;
-      uih-only = tt;
-      uih-once = refl;
-      uit = refl;
-      uit-only = tt;
-      uit-once = refl;
-      uit-free = refl;
-      uit-apart = tt;
-      uib-none = tt;
-      uiz-none = tt;
-    }
+tsdupd-messages = tested tsdupdTable 48 tsdupd-formed tt
 
 module _ (t : Table) (last : ℕ) (m : MessageTable t last) where
   pub begins : InMessage t startPlace
