@@ -3,7 +3,8 @@
 use dates::Date;
 use dates::Made;
 use dates::Number;
-use libc::STDOUT_FILENO;
+use lines::say;
+use lines::say_number;
 
 fn digit(number: usize) -> u8 {
     48 + (number % 10) as u8
@@ -56,24 +57,24 @@ fn refused(line: &[u8]) -> bool {
     }
 }
 
-fn print(name: &[u8], lines: u64, held: u64) {
-    io::write_all(STDOUT_FILENO, name);
-    io::print_decimal(STDOUT_FILENO, held);
-    io::write_all(STDOUT_FILENO, b" of ");
-    io::print_decimal(STDOUT_FILENO, lines);
-    io::write_all(STDOUT_FILENO, b"\n");
+fn print(name: &[u8], lines: usize, held: usize) {
+    say(name);
+    say_number(held);
+    say(b" of ");
+    say_number(lines);
+    say(b"\n");
 }
 
 // How many lines were read, and how many of them are as they should be.
 struct Tally {
-    lines: u64,
-    held: u64,
+    lines: usize,
+    held: usize,
 }
 
 fn counted(tally: Tally, ok: bool) -> Tally {
     Tally {
-        lines: std::num::wrapping_add_u64(tally.lines, 1),
-        held: std::num::wrapping_add_u64(tally.held, ok as u64),
+        lines: std::num::wrapping_add_usize(tally.lines, 1),
+        held: std::num::wrapping_add_usize(tally.held, ok as usize),
     }
 }
 
@@ -142,32 +143,32 @@ fn no_dates() {
 }
 
 // Bytes that end before the tenth, and an offset past the end.
-fn short() -> u64 {
-    let mut held = 0u64;
+fn short() -> usize {
+    let mut held = 0usize;
     if refused(b"") {
-        held = std::num::wrapping_add_u64(held, 1);
+        held = std::num::wrapping_add_usize(held, 1);
     }
     if refused(b"2000-08-0") {
-        held = std::num::wrapping_add_u64(held, 1);
+        held = std::num::wrapping_add_usize(held, 1);
     }
     match dates::read_date(b"2000-08-01", 1) {
         Made::Valid(_) => held,
-        Made::NoDate => std::num::wrapping_add_u64(held, 1),
+        Made::NoDate => std::num::wrapping_add_usize(held, 1),
     }
 }
 
 // The number after the last date's has no date.
-fn past_last() -> u64 {
+fn past_last() -> usize {
     match Date::from_number(40177) {
         Made::Valid(_) => 0,
         Made::NoDate => 1,
     }
 }
 
-fn number_of(made: Made) -> u64 {
+fn number_of(made: Made) -> usize {
     match made {
         Made::Valid(date) => match date.day_number() {
-            Number::Day(n) => n as u64,
+            Number::Day(n) => n as usize,
             Number::NoDay => 99999,
         },
         Made::NoDate => 99999,
@@ -179,9 +180,9 @@ fn main() {
     no_dates();
     print(b"refused for its length: ", 3, short());
     print(b"refused past the last: ", 1, past_last());
-    io::write_all(STDOUT_FILENO, b"first and last: ");
-    io::print_decimal(STDOUT_FILENO, number_of(Made::Valid(Date::FIRST)));
-    io::write_all(STDOUT_FILENO, b" ");
-    io::print_decimal(STDOUT_FILENO, number_of(Made::Valid(Date::LAST)));
-    io::write_all(STDOUT_FILENO, b"\n");
+    say(b"first and last: ");
+    say_number(number_of(Made::Valid(Date::FIRST)));
+    say(b" ");
+    say_number(number_of(Made::Valid(Date::LAST)));
+    say(b"\n");
 }

@@ -6,37 +6,17 @@ use dates::Date;
 use dates::Made;
 use dates::Number;
 use joining::Joined;
-use libc::STDOUT_FILENO;
+use lines::past;
+use lines::piece_at;
+use lines::read_input;
+use lines::say;
+use lines::say_number;
 use parts::Part;
 use period::Fault;
 use period::Period;
 use syntax::segment::Scanned;
 use syntax::segment::read_segment;
 ghost use mathlib.Core.Path.{_≡_};
-ghost use Prim.Native.Nat.{_<_, _≤_};
-ghost use lib.ListN.{length};
-
-fn line_end(s: &[u8], from: usize) -> usize
-    requires { ⌜ from < length (now s) ⌝ }
-    ensures { λ r. ⌜ (from ≤ r) × (r ≤ length (now (s .entry))) ⌝ }
-{
-    let mut i = from;
-    while i < s.len() {
-        if s[i] == b'\n' {
-            return i;
-        }
-        i += 1;
-    }
-    i
-}
-
-fn say(words: &[u8]) {
-    io::write_all(STDOUT_FILENO, words);
-}
-
-fn print_number(n: usize) {
-    io::print_decimal(STDOUT_FILENO, n as u64);
-}
 
 fn print_date(number: usize) {
     let Made::Valid(date) = Date::from_number(number) else {
@@ -86,7 +66,7 @@ fn print_days(s: &[u8], segment: Part, period: Period, n: usize) {
 
 fn refuse(fault: Fault) {
     say(b"refused 10 ");
-    print_number(fault.number() as usize);
+    say_number(fault.number() as usize);
 }
 
 fn answer_period(line: &[u8], segment: Part) {
@@ -163,7 +143,7 @@ fn answer_join(line: &[u8], origin: usize) {
     print_window(days);
 }
 
-fn answer_line(line: &[u8]) {
+fn answer_pop(line: &[u8]) {
     if line.len() == 0 {
         return;
     }
@@ -182,17 +162,16 @@ fn answer_line(line: &[u8]) {
     say(b"\n");
 }
 
-fn answer_all(s: &[u8]) {
-    let mut i = 0;
-    while i < s.len() {
-        let end = line_end(s, i);
-        answer_line(&s[i..end]);
-        i = end + 1;
+fn answer_all(text: &[u8]) {
+    let mut at = 0;
+    while at < text.len() {
+        answer_pop(piece_at(text, at, b'\n'));
+        at = past(text, at, b'\n');
     }
 }
 
 fn main() {
     let mut buffer = [0u8; 60000];
-    let n = io::read_full(0, &mut buffer);
+    let n = read_input(&mut buffer);
     answer_all(&buffer[..n]);
 }

@@ -3,7 +3,8 @@
 
 use interchange::reader::Reading;
 use interchange::reader::read;
-use libc::STDOUT_FILENO;
+use lines::read_input;
+use lines::say;
 use parts::Part;
 use parts::bytes_of;
 use text::Written;
@@ -11,7 +12,7 @@ use text::write_refusal;
 use text::write_table;
 
 fn print(out: &[u8], n: usize) {
-    io::write_all(STDOUT_FILENO, bytes_of(out, Part { from: 0, to: n }));
+    say(bytes_of(out, Part { from: 0, to: n }));
 }
 
 // 15,000 rows of at most 13 bytes and a heading fit.
@@ -33,7 +34,7 @@ fn print_refusal(number: u8, position: usize) {
 
 fn main() {
     let mut input = [0u8; 60001];
-    let n = io::read_full(0, &mut input);
+    let n = read_input(&mut input);
     let mut rows = [0u32; 45000];
     match read(&input[..n], &mut rows) {
         Reading::Rows(k) => print_rows(&rows, k),

@@ -6,90 +6,31 @@
 
 use interchange::reader::Reading;
 use interchange::reader::read;
-use libc::STDOUT_FILENO;
+use lines::number;
+use lines::past;
+use lines::piece_at;
+use lines::read_input;
+use lines::say;
+use lines::say_line;
+use lines::say_number;
+use lines::sign_at;
 use parts::Part;
 use parts::bytes_of;
 use text::Written;
 use text::write_refusal;
 use text::write_table;
-ghost use Prim.Native.Nat.{_<_, _≤_};
+ghost use Prim.Native.Nat.{_<_};
 ghost use lib.ListN.{length};
 
-// Where a byte next stands, or the end.
-fn find(s: &[u8], from: usize, byte: u8) -> usize
-    requires { ⌜ from ≤ length (now s) ⌝ }
-    ensures { λ r. ⌜ (from ≤ r) × (r ≤ length (now (s .entry))) ⌝ }
-{
-    let mut i = from;
-    while i < s.len() {
-        if s[i] == byte {
-            return i;
-        }
-        i += 1;
-    }
-    i
-}
-
-fn number(line: &[u8], from: usize) -> usize {
-    let mut i = from;
-    let mut value = 0;
-    while i < line.len() {
-        let b = line[i];
-        if b < b'0' {
-            return value;
-        }
-        if b'9' < b {
-            return value;
-        }
-        value = (value % 1000000) * 10 + (b - b'0') as usize;
-        i += 1;
-    }
-    value
-}
-
-fn hexadecimal(b: u8) -> u8 {
-    if b < b'0' {
-        return 0;
-    }
-    if b <= b'9' {
-        return b - b'0';
-    }
-    if b < b'A' {
-        return 0;
-    }
-    if b <= b'F' {
-        return b - b'A' + 10;
-    }
-    0
-}
-
-// The byte that stands or is named at an index.
-fn byte_at(line: &[u8], i: usize) -> u8
-    requires { ⌜ i < length (now line) ⌝ }
-{
-    if line[i] != b'~' {
-        return line[i];
-    }
-    if line.len() - i < 3 {
-        return 0;
-    }
-    let high = hexadecimal(line[i + 1]) % 16;
-    let low = hexadecimal(line[i + 2]) % 16;
-    high * 16 + low
-}
-
 // Where the notation goes on past the sign at an index.
-fn past(line: &[u8], i: usize) -> usize
+fn after(line: &[u8], i: usize) -> usize
     requires { ⌜ i < length (now line) ⌝ }
     ensures { λ r. ⌜ i < r ⌝ }
 {
     if line[i] == b'{' {
-        return find(line, i, b'|') + 1;
+        return past(line, i, b'|');
     }
-    if line[i] == b'~' {
-        return i + 3;
-    }
-    i + 1
+    sign_at(line, i).next
 }
 
 fn put(out: &mut [u8], at: usize, b: u8) -> usize {
@@ -152,7 +93,7 @@ fn take(line: &[u8], i: usize, said: Said, out: &mut [u8]) -> Said
         };
     }
     Said {
-        bytes: put(out, n, byte_at(line, i)),
+        bytes: put(out, n, sign_at(line, i).byte),
         start: said.start,
         times: said.times,
     }
@@ -168,17 +109,9 @@ fn expand(line: &[u8], from: usize, out: &mut [u8]) -> usize {
     let mut i = from;
     while i < line.len() {
         said = take(line, i, said, out);
-        i = past(line, i);
+        i = after(line, i);
     }
     said.bytes
-}
-
-fn say(words: &[u8]) {
-    io::write_all(STDOUT_FILENO, words);
-}
-
-fn print_number(n: usize) {
-    io::print_decimal(STDOUT_FILENO, n as u64);
 }
 
 fn one_more(r: usize, b: u8) -> usize {
@@ -202,11 +135,11 @@ fn print_table(text: &[u8], rows: usize) {
         return;
     }
     say(b"long\t");
-    print_number(rows);
+    say_number(rows);
     say(b"\t");
-    print_number(text.len());
+    say_number(text.len());
     say(b"\t");
-    print_number(remainder(text));
+    say_number(remainder(text));
     say(b"\n");
 }
 
@@ -246,12 +179,11 @@ fn answer_line(line: &[u8]) {
         return;
     }
     if line[0] == b'#' {
-        say(line);
-        say(b"\n");
+        say_line(line);
         return;
     }
     let mut interchange = [0u8; 60001];
-    let n = expand(line, find(line, 0, b'\t') + 1, &mut interchange);
+    let n = expand(line, past(line, 0, b'\t'), &mut interchange);
     let mut rows = [0u32; 45000];
     answer_in(
         bytes_of(&interchange, Part { from: 0, to: n }),
@@ -260,18 +192,17 @@ fn answer_line(line: &[u8]) {
     );
 }
 
-fn answer_all(s: &[u8]) {
-    let mut i = 0;
-    while i < s.len() {
-        let end = find(s, i, b'\n');
-        answer_line(&s[i..end]);
-        i = end + 1;
+fn answer_all(text: &[u8]) {
+    let mut at = 0;
+    while at < text.len() {
+        answer_line(piece_at(text, at, b'\n'));
+        at = past(text, at, b'\n');
     }
 }
 
 fn main() {
     let mut buffer = [0u8; 65536];
-    let n = io::read_full(0, &mut buffer);
+    let n = read_input(&mut buffer);
     answer_all(&buffer[..n]);
     // The largest numbers that are printed; and rows that the buffer does not hold are none.
     answer_refusal(255, 18446744073709551615);

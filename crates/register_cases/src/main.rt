@@ -10,7 +10,14 @@
 
 use checking::is_register;
 use dates::Date;
-use libc::STDOUT_FILENO;
+use lines::decode;
+use lines::field;
+use lines::past;
+use lines::piece_at;
+use lines::read_input;
+use lines::say;
+use lines::say_line;
+use lines::say_number;
 use parts::Part;
 use parts::bytes_of;
 use register::Opened;
@@ -18,8 +25,6 @@ use register::Released;
 use register::Shown;
 use register::Withdrawn;
 use staging::Staged;
-ghost use Prim.Native.Nat.{_<_, _≤_};
-ghost use lib.ListN.{length};
 
 // What a command comes to, in document 01's numbers.
 struct Told {
@@ -46,98 +51,13 @@ fn refused(number: usize) -> Told {
 
 // ---- reading a line
 
-// Where a byte next stands, or the end.
-fn find(s: &[u8], from: usize, byte: u8) -> usize
-    requires { ⌜ from ≤ length (now s) ⌝ }
-    ensures { λ r. ⌜ (from ≤ r) × (r ≤ length (now (s .entry))) ⌝ }
-{
-    let mut i = from;
-    while i < s.len() {
-        if s[i] == byte {
-            return i;
-        }
-        i += 1;
-    }
-    i
-}
-
-// Where a field begins, counted from 0, or the end.
-fn field(line: &[u8], k: usize) -> usize
-    ensures { λ r. ⌜ r ≤ length (now (line .entry)) ⌝ }
-{
-    let mut at = 0;
-    let mut left = k;
-    while 0 < left {
-        at = find(line, at, b'\t');
-        if line.len() <= at {
-            return line.len();
-        }
-        at += 1;
-        left -= 1;
-    }
-    at
-}
-
-fn digit(b: u8) -> usize {
-    if b < b'0' {
-        return 10;
-    }
-    if b'9' < b {
-        return 10;
-    }
-    (b - b'0') as usize
-}
-
-// The number that a field says.
+// The number that the field k says.
 fn number(line: &[u8], k: usize) -> usize {
-    let mut i = field(line, k);
-    let mut value = 0;
-    while i < line.len() {
-        let d = digit(line[i]);
-        if 9 < d {
-            return value;
-        }
-        value = (value % 1000000000000000000) * 10 + d;
-        i += 1;
-    }
-    value
+    lines::number(line, field(line, k))
 }
 
 fn small(n: usize) -> u8 {
     (n % 256) as u8
-}
-
-fn hexadecimal(b: u8) -> u8 {
-    if b < b'A' {
-        return small(digit(b)) % 16;
-    }
-    (b - b'A') % 6 + 10
-}
-
-// The byte that stands or is named at an index.
-fn byte_at(line: &[u8], i: usize) -> u8
-    requires { ⌜ i < length (now line) ⌝ }
-{
-    if line[i] != b'~' {
-        return line[i];
-    }
-    if line.len() - i < 3 {
-        return 0;
-    }
-    let high = hexadecimal(line[i + 1]) % 16;
-    let low = hexadecimal(line[i + 2]) % 16;
-    high * 16 + low
-}
-
-// Where the notation goes on past the sign at an index.
-fn past(line: &[u8], i: usize) -> usize
-    requires { ⌜ i < length (now line) ⌝ }
-    ensures { λ r. ⌜ i < r ⌝ }
-{
-    if line[i] == b'~' {
-        return i + 3;
-    }
-    i + 1
 }
 
 fn put(out: &mut [u8], at: usize, b: u8) {
@@ -146,19 +66,9 @@ fn put(out: &mut [u8], at: usize, b: u8) {
     }
 }
 
-// What the notation of a field says, over the front of the bytes lent; how many bytes it has.
+// What the field k says, over the front of the bytes lent; how many bytes it has.
 fn expand(line: &[u8], k: usize, out: &mut [u8]) -> usize {
-    let mut n = 0;
-    let mut i = field(line, k);
-    while i < line.len() {
-        if line[i] == b'\t' {
-            return n;
-        }
-        put(out, n, byte_at(line, i));
-        i = past(line, i);
-        n += 1;
-    }
-    n
+    decode(piece_at(line, field(line, k), b'\t'), out)
 }
 
 // ---- the calls
@@ -288,22 +198,14 @@ fn fill_noise(store: &mut [u8], line: &[u8]) {
 
 // ---- what is written
 
-fn say(words: &[u8]) {
-    io::write_all(STDOUT_FILENO, words);
-}
-
-fn print_number(n: usize) {
-    io::print_decimal(STDOUT_FILENO, n as u64);
-}
-
 fn print_told(told: Told, store: &[u8]) {
-    print_number(told.number);
+    say_number(told.number);
     say(b"\t");
-    print_number(told.position);
+    say_number(told.position);
     say(b"\t");
-    print_number(told.value);
+    say_number(told.value);
     say(b"\t");
-    print_number(digest(store));
+    say_number(digest(store));
 }
 
 fn show_part(b: &[u8], line: &[u8], out: &mut [u8]) -> Told {
@@ -320,7 +222,7 @@ fn answer_show(store: &[u8], lent: usize, line: &[u8]) {
     let n = told.value;
     print_told(told, store);
     say(b"\t");
-    print_number(digest(&out));
+    say_number(digest(&out));
     say(b"\n");
     say(bytes_of(&out, Part { from: 0, to: n }));
 }
@@ -358,8 +260,7 @@ fn answer_call(store: &mut [u8], lent: usize, line: &[u8], command: u8) {
 fn answer_command(store: &mut [u8], lent: usize, line: &[u8], command: u8) -> usize {
     match command {
         b'#' => {
-            say(line);
-            say(b"\n");
+            say_line(line);
             return lent;
         }
         b'p' => {
@@ -376,20 +277,19 @@ fn answer_command(store: &mut [u8], lent: usize, line: &[u8], command: u8) -> us
     lent
 }
 
-fn answer_all(s: &[u8], store: &mut [u8]) {
+fn answer_all(text: &[u8], store: &mut [u8]) {
     let mut lent = 35858;
-    let mut i = 0;
-    while i < s.len() {
-        let end = find(s, i, b'\n');
-        let command = s[i];
-        lent = answer_command(store, lent, &s[i..end], command);
-        i = end + 1;
+    let mut at = 0;
+    while at < text.len() {
+        let command = text[at];
+        lent = answer_command(store, lent, piece_at(text, at, b'\n'), command);
+        at = past(text, at, b'\n');
     }
 }
 
 fn main() {
     let mut store = [0u8; 35860];
     let mut buffer = [0u8; 120000];
-    let n = io::read_full(0, &mut buffer);
+    let n = read_input(&mut buffer);
     answer_all(&buffer[..n], &mut store);
 }

@@ -4,7 +4,12 @@
 
 use interchange::reader::Reading;
 use interchange::reader::read;
-use libc::STDOUT_FILENO;
+use lines::past;
+use lines::piece_at;
+use lines::read_input;
+use lines::say;
+use lines::say_number;
+use lines::say_refusal;
 use parts::bytes_of;
 use services::Counted;
 use services::Found;
@@ -13,31 +18,6 @@ use services::Service;
 use services::next_period;
 use services::next_service;
 use services::test_services;
-use syntax::segment::Refusal;
-ghost use Prim.Native.Nat.{_<_, _≤_};
-ghost use lib.ListN.{length};
-
-fn line_end(s: &[u8], from: usize) -> usize
-    requires { ⌜ from < length (now s) ⌝ }
-    ensures { λ r. ⌜ (from ≤ r) × (r ≤ length (now (s .entry))) ⌝ }
-{
-    let mut i = from;
-    while i < s.len() {
-        if s[i] == b'\n' {
-            return i;
-        }
-        i += 1;
-    }
-    i
-}
-
-fn say(words: &[u8]) {
-    io::write_all(STDOUT_FILENO, words);
-}
-
-fn print_number(n: usize) {
-    io::print_decimal(STDOUT_FILENO, n as u64);
-}
 
 fn print_periods(rows: &[u32], from: usize, to: usize) {
     let mut i = from;
@@ -45,7 +25,7 @@ fn print_periods(rows: &[u32], from: usize, to: usize) {
         match next_period(rows, i, to) {
             FoundPeriod::Pop(k, offset) => {
                 say(b" ");
-                print_number(offset);
+                say_number(offset);
                 if k < i {
                     return;
                 }
@@ -62,7 +42,7 @@ fn print_periods(rows: &[u32], from: usize, to: usize) {
 }
 
 fn print_service(s: &[u8], rows: &[u32], service: Service) {
-    print_number(service.prd);
+    say_number(service.prd);
     say(b" ");
     let number = service.number;
     say(bytes_of(s, number));
@@ -97,45 +77,36 @@ fn print_services(s: &[u8], rows: &[u32], n: usize) {
     }
 }
 
-fn print_refusal(refusal: Refusal) {
-    say(b"refused ");
-    print_number(refusal.number as usize);
-    say(b" ");
-    print_number(refusal.position);
-    say(b"\n");
-}
-
 fn answer_rows(s: &[u8], rows: &[u32], n: usize) {
     print_services(s, rows, n);
     match test_services(s, rows, n) {
         Counted::Services(k) => {
             say(b"services ");
-            print_number(k);
+            say_number(k);
             say(b"\n");
         }
-        Counted::Refused(refusal) => print_refusal(refusal),
+        Counted::Refused(refusal) => say_refusal(refusal.number, refusal.position),
     }
 }
 
-fn answer_line(s: &[u8]) {
+fn answer_interchange(s: &[u8]) {
     let mut rows = [0u32; 45000];
     match read(s, &mut rows) {
         Reading::Rows(n) => answer_rows(s, &rows, n),
-        Reading::Refused(refusal) => print_refusal(refusal),
+        Reading::Refused(refusal) => say_refusal(refusal.number, refusal.position),
     }
 }
 
-fn answer_all(s: &[u8]) {
-    let mut i = 0;
-    while i < s.len() {
-        let end = line_end(s, i);
-        answer_line(&s[i..end]);
-        i = end + 1;
+fn answer_all(text: &[u8]) {
+    let mut at = 0;
+    while at < text.len() {
+        answer_interchange(piece_at(text, at, b'\n'));
+        at = past(text, at, b'\n');
     }
 }
 
 fn main() {
     let mut buffer = [0u8; 60000];
-    let n = io::read_full(0, &mut buffer);
+    let n = read_input(&mut buffer);
     answer_all(&buffer[..n]);
 }

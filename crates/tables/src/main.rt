@@ -1,56 +1,44 @@
 //! Prints the segment tables in the layout of document 000: position, tag, status, number, group.
 
+use lines::four_digits;
+use lines::letters;
+use lines::say;
+use lines::say_number;
 use messages::MessageType;
 use placing::tables::table_of;
-
-// The lowest four digits, as document 000 writes a position.
-fn print_position(position: u32) {
-    let digits = [
-        48 + (position / 1000 % 10) as u8,
-        48 + (position / 100 % 10) as u8,
-        48 + (position / 10 % 10) as u8,
-        48 + (position % 10) as u8,
-    ];
-    io::write_all(1, &digits);
-}
 
 // The three letters of a tag; document 000 has a dashed line where a group stands.
 fn print_tag(tag: u32) {
     if tag == 0 {
-        io::write_all(1, b"-----");
+        say(b"-----");
         return;
     }
-    let letters = [
-        (tag / 65536 % 256) as u8,
-        (tag / 256 % 256) as u8,
-        (tag % 256) as u8,
-    ];
-    io::write_all(1, &letters);
+    say(&letters(tag));
 }
 
 fn print_status(mandatory: u32) {
     if mandatory == 0 {
-        io::write_all(1, b"C");
+        say(b"C");
     } else {
-        io::write_all(1, b"M");
+        say(b"M");
     }
 }
 
-fn print_number(n: u32) {
-    io::print_decimal(1, n as u64);
+fn print_count(n: u32) {
+    say_number(n as usize);
 }
 
 fn print_row(row: [u32; 8]) {
-    print_position(row[0]);
-    io::write_all(1, b"\t");
+    say(&four_digits(row[0]));
+    say(b"\t");
     print_tag(row[1]);
-    io::write_all(1, b"\t");
+    say(b"\t");
     print_status(row[2]);
-    io::write_all(1, b"\t");
-    print_number(row[3]);
-    io::write_all(1, b"\t");
-    print_number(row[4]);
-    io::write_all(1, b"\n");
+    say(b"\t");
+    print_count(row[3]);
+    say(b"\t");
+    print_count(row[4]);
+    say(b"\n");
 }
 
 fn print_table(table: &[[u32; 8]]) {
@@ -63,8 +51,8 @@ fn print_table(table: &[[u32; 8]]) {
 
 fn main() {
     let all = placing::tables::tables();
-    io::write_all(1, b"SKDUPD\nPos\tTag\tS\tR\tGroup\n");
+    say(b"SKDUPD\nPos\tTag\tS\tR\tGroup\n");
     print_table(table_of(&all, MessageType::Skdupd));
-    io::write_all(1, b"TSDUPD\nPos\tTag\tS\tR\tGroup\n");
+    say(b"TSDUPD\nPos\tTag\tS\tR\tGroup\n");
     print_table(table_of(&all, MessageType::Tsdupd));
 }

@@ -2,34 +2,23 @@
 // What it must write was made by another implementation, with Python's datetime.
 use calendar::Written;
 use dates::Date;
-use libc::STDOUT_FILENO;
-ghost use Prim.Native.Nat.{_≤_, _<_};
-ghost use lib.ListN.{length};
-
-fn digit(line: &[u8], at: usize) -> u8
-    ensures { λ r. ⌜ r < 10 ⌝ }
-{
-    if at < line.len() {
-        line[at] % 48 % 10
-    } else {
-        0
-    }
-}
-
-fn two_digits(line: &[u8], at: u8) -> u8
-    ensures { λ r. ⌜ r < 100 ⌝ }
-{
-    digit(line, at as usize) * 10 + digit(line, at as usize + 1)
-}
+use lines::number;
+use lines::past;
+use lines::piece_at;
+use lines::read_input;
+use lines::say;
+use lines::say_line;
+use lines::say_number;
+ghost use Prim.Native.Nat.{_≤_};
 
 // The date as it is written, whether it is one or not.
-fn date(line: &[u8], at: u8) -> Date
+fn date(line: &[u8], at: usize) -> Date
     requires { ⌜ at ≤ 100 ⌝ }
 {
     Date {
-        year: two_digits(line, at) as u16 * 100 + two_digits(line, at + 2) as u16,
-        month: two_digits(line, at + 5),
-        day: two_digits(line, at + 8),
+        year: (number(line, at) % 65536) as u16,
+        month: (number(line, at + 5) % 256) as u8,
+        day: (number(line, at + 8) % 256) as u8,
     }
 }
 
@@ -48,18 +37,17 @@ fn mark_all(days: &mut [u8], line: &[u8]) {
     }
 }
 
-fn refused(number: u64) {
-    io::write_all(STDOUT_FILENO, b"refused ");
-    io::print_decimal(STDOUT_FILENO, number);
-    io::write_all(STDOUT_FILENO, b"\n");
+fn refused(number: usize) {
+    say(b"refused ");
+    say_number(number);
+    say(b"\n");
 }
 
 fn print(out: &[u8], n: usize) {
     if out.len() < n {
         return;
     }
-    io::write_all(STDOUT_FILENO, &out[..n]);
-    io::write_all(STDOUT_FILENO, b"\n");
+    say_line(&out[..n]);
 }
 
 // What was written, or document 01's number.
@@ -102,35 +90,17 @@ fn handle(line: &[u8]) {
     forms(&days, date(line, 0), date(line, 11));
 }
 
-fn line_end(text: &[u8], from: usize) -> usize
-    requires { ⌜ from ≤ length (now text) ⌝ }
-    ensures { λ r. ⌜ (from ≤ r) × (r ≤ length (now (text .entry))) ⌝ }
-{
-    let mut at = from;
-    while at < text.len() {
-        if text[at] == b'\n' {
-            return at;
-        }
-        at += 1;
-    }
-    at
-}
-
 fn all_lines(text: &[u8]) {
     let mut at = 0;
     while at < text.len() {
-        let end = line_end(text, at);
-        handle(&text[at..end]);
-        if text.len() <= end {
-            return;
-        }
-        at = end + 1;
+        handle(piece_at(text, at, b'\n'));
+        at = past(text, at, b'\n');
     }
 }
 
 fn main() {
-    let mut buffer = io::large_buffer();
-    let n = io::read_full(0, &mut buffer);
+    let mut buffer = [0u8; 65536];
+    let n = read_input(&mut buffer);
     all_lines(&buffer[..n]);
     forms(b"", Date::FIRST, Date::FIRST);
 }

@@ -1,44 +1,40 @@
--- `register_cases::answer_all` is safe and ends.
+-- `register_cases::answer_all` is safe and ends: past a line stands less of the text.
 -- Assumes nothing.
 use Prim.Native.Nat.{_-_}
 use mathlib.Core.Path.{_≡_}
+use native.Mathlib.Omega.{arith}
 use lib.ListN.{length}
 use borrow.Author.Needs.{needs}
+use Rattle.lines.specs.Lines.{past-forward}
 use Rattle.register_cases.proofs.answer_all.Statement.{statement}
 use Rattle.register_cases.proofs.answer_all.Tie as tie
 
 abbrev Inv-loop : tie.InvT-loop
-Inv-loop s store₀ lent₀ i₀ store lent i = length store ≡ length store₀
+Inv-loop text store₀ lent₀ at₀ store lent at = length store ≡ length store₀
 
 abbrev μ-loop : tie.MeasureT-loop
-μ-loop s store₀ lent₀ i₀ store lent i = length s - i
+μ-loop text store₀ lent₀ at₀ store lent at = length text - at
 
 loop-holds : tie.Need-loop-holds Inv-loop μ-loop
 loop-holds c = search needs
 
-find-requires : tie.Need-find-requires Inv-loop μ-loop
-find-requires c κs = search needs
-
 shared-slice-read-command : tie.Need-shared-slice-read-command Inv-loop μ-loop
 shared-slice-read-command c = search needs
 
-sub-answer-command : tie.Need-sub-answer-command Inv-loop μ-loop
-sub-answer-command c = search needs
-
-part-answer-command-start : tie.Need-part-answer-command-start Inv-loop μ-loop
-part-answer-command-start c = search needs
-
-part-answer-command-end : tie.Need-part-answer-command-end Inv-loop μ-loop
-part-answer-command-end c = search needs
+piece-at-requires : tie.Need-piece-at-requires Inv-loop μ-loop
+piece-at-requires c κs = search needs
 
 answer-command-requires : tie.Need-answer-command-requires Inv-loop μ-loop
 answer-command-requires c κs = search needs
 
-add-i : tie.Need-add-i Inv-loop μ-loop
-add-i c = search needs
+past-requires : tie.Need-past-requires Inv-loop μ-loop
+past-requires c κs = search needs
 
 loop-less : tie.Need-loop-less Inv-loop μ-loop
-loop-less c = search needs
+loop-less c =
+    let h = past-forward (c .before .before .before .before .before .before .before .before .before .before .before .args .text .now) (c .before .before .before .before .before .before .before .before .loop .at) 10 (omega arith) in
+    let e = c .past .ensures in
+    omega arith
 
 loop-again : tie.Need-loop-again Inv-loop μ-loop
 loop-again c = search needs
@@ -56,13 +52,10 @@ answer-all-spec =
     Inv-loop
     μ-loop
     loop-holds
-    find-requires
     shared-slice-read-command
-    sub-answer-command
-    part-answer-command-start
-    part-answer-command-end
+    piece-at-requires
     answer-command-requires
-    add-i
+    past-requires
     loop-less
     loop-again
     same-length

@@ -26,8 +26,8 @@ slice-aggregate-say c = search needs
 say-requires : tie.Need-say-requires Inv-loop μ-loop
 say-requires c κs = search needs
 
-print-number-requires : tie.Need-print-number-requires Inv-loop μ-loop
-print-number-requires c κs = search needs
+say-number-requires : tie.Need-say-number-requires Inv-loop μ-loop
+say-number-requires c κs = search needs
 
 returns : tie.Need-returns Inv-loop μ-loop
 returns c = search needs
@@ -64,7 +64,7 @@ print-periods-spec =
     enum-known-k
     slice-aggregate-say
     say-requires
-    print-number-requires
+    say-number-requires
     returns
     returns-2
     add-i

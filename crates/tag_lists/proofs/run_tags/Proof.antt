@@ -1,30 +1,42 @@
--- `tag_lists::run_tags` is safe and ends: the measure is what is left of the line. Assumes nothing.
-use Prim.Native.Nat.{_≤_, _-_}
+-- `tag_lists::run_tags` is safe and ends: past a word stands less of the line.
+-- Assumes nothing.
+use Prim.Native.Nat.{_-_}
+use native.Mathlib.Omega.{arith}
 use lib.ListN.{length}
 use borrow.Author.Needs.{needs}
+use Rattle.lines.specs.Lines.{past-forward}
 use Rattle.tag_lists.proofs.run_tags.Statement.{statement}
 use Rattle.tag_lists.proofs.run_tags.Tie as tie
 
 abbrev Inv-loop : tie.InvT-loop
-Inv-loop line table place₀ at₀ t8 t9 place at = at ≤ length line
+Inv-loop line table place₀ at₀ t9 t10 place at = Unit {0}
 
 abbrev μ-loop : tie.MeasureT-loop
-μ-loop line table place₀ at₀ t8 t9 place at = length line - at
+μ-loop line table place₀ at₀ t9 t10 place at = length line - at
 
 start-requires : tie.Need-start-requires Inv-loop μ-loop
 start-requires c κs = search needs
 
-next-word-requires : tie.Need-next-word-requires Inv-loop μ-loop
-next-word-requires c κs = search needs
+past-requires : tie.Need-past-requires Inv-loop μ-loop
+past-requires c κs = search needs
 
 loop-holds : tie.Need-loop-holds Inv-loop μ-loop
 loop-holds c = search needs
 
-tag-at-requires : tie.Need-tag-at-requires Inv-loop μ-loop
-tag-at-requires c κs = search needs
+piece-at-requires : tie.Need-piece-at-requires Inv-loop μ-loop
+piece-at-requires c κs = search needs
 
-print-tag-requires : tie.Need-print-tag-requires Inv-loop μ-loop
-print-tag-requires c κs = search needs
+tag-of-requires : tie.Need-tag-of-requires Inv-loop μ-loop
+tag-of-requires c κs = search needs
+
+letters-requires : tie.Need-letters-requires Inv-loop μ-loop
+letters-requires c κs = search needs
+
+slice-aggregate-say : tie.Need-slice-aggregate-say Inv-loop μ-loop
+slice-aggregate-say c = search needs
+
+say-requires : tie.Need-say-requires Inv-loop μ-loop
+say-requires c κs = search needs
 
 times-requires : tie.Need-times-requires Inv-loop μ-loop
 times-requires c κs = search needs
@@ -38,14 +50,14 @@ enum-known-q c = search needs
 print-place-requires : tie.Need-print-place-requires Inv-loop μ-loop
 print-place-requires c κs = search needs
 
-add-next-word : tie.Need-add-next-word Inv-loop μ-loop
-add-next-word c = search needs
-
-next-word-requires-2 : tie.Need-next-word-requires-2 Inv-loop μ-loop
-next-word-requires-2 c κs = search needs
+past-requires-2 : tie.Need-past-requires-2 Inv-loop μ-loop
+past-requires-2 c κs = search needs
 
 loop-less : tie.Need-loop-less Inv-loop μ-loop
-loop-less c = search needs
+loop-less c =
+    let h = past-forward (c .before .before .before .before .before .before .before .before .before .before .before .before .before .before .before .before .before .args .line .now) (c .before .before .before .before .before .before .before .before .before .before .before .before .before .loop .at) 32 (omega arith) in
+    let e = c .past2 .ensures in
+    omega arith
 
 loop-again : tie.Need-loop-again Inv-loop μ-loop
 loop-again c = search needs
@@ -53,20 +65,20 @@ loop-again c = search needs
 enum-known-k : tie.Need-enum-known-k Inv-loop μ-loop
 enum-known-k c = search needs
 
-slice-aggregate-write-all : tie.Need-slice-aggregate-write-all Inv-loop μ-loop
-slice-aggregate-write-all c = search needs
+slice-aggregate-say-2 : tie.Need-slice-aggregate-say-2 Inv-loop μ-loop
+slice-aggregate-say-2 c = search needs
 
-write-all-requires : tie.Need-write-all-requires Inv-loop μ-loop
-write-all-requires c κs = search needs
+say-requires-2 : tie.Need-say-requires-2 Inv-loop μ-loop
+say-requires-2 c κs = search needs
 
-print-number-requires : tie.Need-print-number-requires Inv-loop μ-loop
-print-number-requires c κs = search needs
+say-number-requires : tie.Need-say-number-requires Inv-loop μ-loop
+say-number-requires c κs = search needs
 
-slice-aggregate-write-all-2 : tie.Need-slice-aggregate-write-all-2 Inv-loop μ-loop
-slice-aggregate-write-all-2 c = search needs
+slice-aggregate-say-3 : tie.Need-slice-aggregate-say-3 Inv-loop μ-loop
+slice-aggregate-say-3 c = search needs
 
-write-all-requires-2 : tie.Need-write-all-requires-2 Inv-loop μ-loop
-write-all-requires-2 c κs = search needs
+say-requires-3 : tie.Need-say-requires-3 Inv-loop μ-loop
+say-requires-3 c κs = search needs
 
 returns : tie.Need-returns Inv-loop μ-loop
 returns c = search needs
@@ -81,23 +93,25 @@ run-tags-spec =
     Inv-loop
     μ-loop
     start-requires
-    next-word-requires
+    past-requires
     loop-holds
-    tag-at-requires
-    print-tag-requires
+    piece-at-requires
+    tag-of-requires
+    letters-requires
+    slice-aggregate-say
+    say-requires
     times-requires
     repeated-requires
     enum-known-q
     print-place-requires
-    add-next-word
-    next-word-requires-2
+    past-requires-2
     loop-less
     loop-again
     enum-known-k
-    slice-aggregate-write-all
-    write-all-requires
-    print-number-requires
-    slice-aggregate-write-all-2
-    write-all-requires-2
+    slice-aggregate-say-2
+    say-requires-2
+    say-number-requires
+    slice-aggregate-say-3
+    say-requires-3
     returns
     returns-2)

@@ -1,39 +1,36 @@
--- `tag_lists::run_text` is safe and ends: the measure is what is left of the text. Assumes nothing.
-use Prim.Native.Nat.{_≤_, _-_, _+_}
+-- `tag_lists::run_text` is safe and ends: past a line stands less of the text.
+-- Assumes nothing.
+use Prim.Native.Nat.{_-_}
+use native.Mathlib.Omega.{arith}
 use lib.ListN.{length}
 use borrow.Author.Needs.{needs}
+use Rattle.lines.specs.Lines.{past-forward}
 use Rattle.tag_lists.proofs.run_text.Statement.{statement}
 use Rattle.tag_lists.proofs.run_text.Tie as tie
 
 abbrev Inv-loop : tie.InvT-loop
-Inv-loop text tables other at₀ at = at ≤ length text + 1
+Inv-loop text tables other at₀ at = Unit {0}
 
 abbrev μ-loop : tie.MeasureT-loop
-μ-loop text tables other at₀ at = length text + 1 - at
+μ-loop text tables other at₀ at = length text - at
 
 loop-holds : tie.Need-loop-holds Inv-loop μ-loop
 loop-holds c = search needs
 
-line-end-requires : tie.Need-line-end-requires Inv-loop μ-loop
-line-end-requires c κs = search needs
-
-sub-run-line : tie.Need-sub-run-line Inv-loop μ-loop
-sub-run-line c = search needs
-
-part-run-line-start : tie.Need-part-run-line-start Inv-loop μ-loop
-part-run-line-start c = search needs
-
-part-run-line-end : tie.Need-part-run-line-end Inv-loop μ-loop
-part-run-line-end c = search needs
+piece-at-requires : tie.Need-piece-at-requires Inv-loop μ-loop
+piece-at-requires c κs = search needs
 
 run-line-requires : tie.Need-run-line-requires Inv-loop μ-loop
 run-line-requires c κs = search needs
 
-add-at : tie.Need-add-at Inv-loop μ-loop
-add-at c = search needs
+past-requires : tie.Need-past-requires Inv-loop μ-loop
+past-requires c κs = search needs
 
 loop-less : tie.Need-loop-less Inv-loop μ-loop
-loop-less c = search needs
+loop-less c =
+    let h = past-forward (c .before .before .before .before .before .before .args .text .now) (c .before .before .before .before .loop .at) 10 (omega arith) in
+    let e = c .past .ensures in
+    omega arith
 
 loop-again : tie.Need-loop-again Inv-loop μ-loop
 loop-again c = search needs
@@ -48,12 +45,9 @@ run-text-spec =
     Inv-loop
     μ-loop
     loop-holds
-    line-end-requires
-    sub-run-line
-    part-run-line-start
-    part-run-line-end
+    piece-at-requires
     run-line-requires
-    add-at
+    past-requires
     loop-less
     loop-again
     returns)

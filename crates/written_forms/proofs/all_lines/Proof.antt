@@ -1,64 +1,43 @@
--- `all_lines` is safe and ends.
+-- `written_forms::all_lines` is safe and ends: past a line stands less of the text.
 -- Assumes nothing.
-use Prim.Native.Nat.{_-_, _≤_}
+use Prim.Native.Nat.{_-_}
 use native.Mathlib.Omega.{arith}
 use lib.ListN.{length}
+use denote.Ref.{now}
+use borrow.Author.Needs.{needs}
+use Rattle.lines.specs.Lines.{past-forward}
 use Rattle.written_forms.proofs.all_lines.Statement.{statement}
 use Rattle.written_forms.proofs.all_lines.Tie as tie
 
 abbrev Inv-loop : tie.InvT-loop
-Inv-loop text at₀ at = at ≤ length text
+Inv-loop text at₀ at = Unit {0}
 
 abbrev μ-loop : tie.MeasureT-loop
 μ-loop text at₀ at = length text - at
 
 loop-holds : tie.Need-loop-holds Inv-loop μ-loop
-loop-holds c = omega arith
+loop-holds c = search needs
 
-line-end-requires : tie.Need-line-end-requires Inv-loop μ-loop
-line-end-requires c κs = omega arith
-
-sub-handle : tie.Need-sub-handle Inv-loop μ-loop
-sub-handle c = omega (arith, c .line-end .ensures)
-
-part-handle-start : tie.Need-part-handle-start Inv-loop μ-loop
-part-handle-start c = omega (arith, c .line-end .ensures)
-
-part-handle-end : tie.Need-part-handle-end Inv-loop μ-loop
-part-handle-end c = omega (arith, c .line-end .ensures)
+piece-at-requires : tie.Need-piece-at-requires Inv-loop μ-loop
+piece-at-requires c κs = search needs
 
 handle-requires : tie.Need-handle-requires Inv-loop μ-loop
-handle-requires c κs = tt
+handle-requires c κs = search needs
 
-returns : tie.Need-returns Inv-loop μ-loop
-returns c = tt
-
-add-at : tie.Need-add-at Inv-loop μ-loop
-add-at c = omega arith
+past-requires : tie.Need-past-requires Inv-loop μ-loop
+past-requires c κs = search needs
 
 loop-less : tie.Need-loop-less Inv-loop μ-loop
-loop-less c = omega arith
+loop-less c =
+    let h = past-forward (now (c .before .before .before .before .before .before .args .text)) (c .before .before .before .before .loop .at) 10 (c .before .before .before .loop-test .taken) in
+    let e = c .past .ensures in
+    omega arith
 
 loop-again : tie.Need-loop-again Inv-loop μ-loop
-loop-again c = omega arith
+loop-again c = search needs
 
-returns-2 : tie.Need-returns-2 Inv-loop μ-loop
-returns-2 c = tt
+returns : tie.Need-returns Inv-loop μ-loop
+returns c = search needs
 
 pub all-lines-spec : {M : Type 1} → statement M
-all-lines-spec =
-    tie.close
-    (tie.spec
-    Inv-loop
-    μ-loop
-    loop-holds
-    line-end-requires
-    sub-handle
-    part-handle-start
-    part-handle-end
-    handle-requires
-    returns
-    add-at
-    loop-less
-    loop-again
-    returns-2)
+all-lines-spec = tie.close (tie.spec Inv-loop μ-loop loop-holds piece-at-requires handle-requires past-requires loop-less loop-again returns)

@@ -10,17 +10,11 @@ use Rattle.written_forms.proofs.print.Tie as tie
 returns : tie.Need-returns
 returns c = search needs
 
-slice-aggregate-write-all : tie.Need-slice-aggregate-write-all
-slice-aggregate-write-all c = sym (length-take-le (c .before .before .before .args .n) (now (c .before .before .before .args .out)) (c .before .if1 .left))
+slice-aggregate-say-line : tie.Need-slice-aggregate-say-line
+slice-aggregate-say-line c = sym (length-take-le (c .before .before .before .args .n) (now (c .before .before .before .args .out)) (c .before .if1 .left))
 
-write-all-requires : tie.Need-write-all-requires
-write-all-requires c κs = search needs
-
-slice-aggregate-write-all-2 : tie.Need-slice-aggregate-write-all-2
-slice-aggregate-write-all-2 c = search needs
-
-write-all-requires-2 : tie.Need-write-all-requires-2
-write-all-requires-2 c κs = search needs
+say-line-requires : tie.Need-say-line-requires
+say-line-requires c κs = search needs
 
 returns-2 : tie.Need-returns-2
 returns-2 c = search needs
@@ -30,8 +24,6 @@ print-spec =
     tie.close
     (tie.spec
     returns
-    slice-aggregate-write-all
-    write-all-requires
-    slice-aggregate-write-all-2
-    write-all-requires-2
+    slice-aggregate-say-line
+    say-line-requires
     returns-2)

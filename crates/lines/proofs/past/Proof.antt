@@ -1,0 +1,27 @@
+use Prim.Native.Nat.{ℕ, _+_, _-_, _<_, _≤_}
+use mathlib.Core.Path.{_≡_, refl, sym, ap, _∙_}
+use lib.ListN.{length, drop}
+use denote.Ref.{now}
+use native.Mathlib.Omega.{arith}
+use Rattle.lines.specs.Lines.{past-some, past-none}
+use borrow.Author.Needs.{needs}
+use Rattle.lines.proofs.past.Statement.{statement}
+use Rattle.lines.proofs.past.Tie as tie
+use Rattle.lines.proofs.past.Reads as reads
+use Rattle.lines.proofs.past.Lts as lts
+use Rattle.lines.proofs.end_at.Reads as end-at-reads
+
+end-at-requires : tie.Need-end-at-requires
+end-at-requires c κs = search needs
+
+add-result : tie.Need-add-result
+add-result c = search needs
+
+returns : tie.Need-returns
+returns c = let a = c .before .before .before .args in past-some (now (a .s)) (a .from) (a .mark) _ (c .before .end-at .ensures) (c .if1 .taken)
+
+returns-2 : tie.Need-returns-2
+returns-2 c = let a = c .before .before .before .args in past-none (now (a .s)) (a .from) (a .mark) _ (c .before .end-at .ensures) (c .if1 .left)
+
+pub past-spec : {M : Type 1} → statement M
+past-spec = tie.close (tie.spec end-at-requires add-result returns returns-2)
