@@ -14,7 +14,7 @@ use Rattle.placing.specs.Table.{entryOf, afterOf, endOf, placesOn}
 use Rattle.placing.specs.Rule.{reachable, firstFit, inGroup, again, laterOnes, choicesFrom, firstOf, stepOf}
 use Rattle.placing.specs.Skdupd.{skdupdTable}
 use Rattle.placing.specs.Tsdupd.{tsdupdTable}
-use Rattle.envelope.specs.Decimal.{decimalOn}
+use Rattle.laws.specs.Decimal.{decimalOn}
 use Rattle.envelope.specs.Envelope.{uibOf, uihOf, trailerOf}
 use Rattle.answers.specs.Answers.{refused}
 use Rattle.steps.specs.Step.{opening, between, closing, trailing, placed, inside, stepBy}

@@ -6,7 +6,7 @@ ghost use mathlib.Core.Bool.{not};
 ghost use Prim.Native.Nat.{_+_, _-_, _≤_, _%_, min};
 ghost use lib.ListN.{take, length};
 ghost use Rattle.laws.specs.Choice.{pick, either};
-ghost use Rattle.dates.specs.Text.{putAt};
+ghost use Rattle.laws.specs.Put.{putAt};
 ghost use Rattle.calendar.specs.Days.{hasBit, withBit, day, withDay, join};
 ghost use Rattle.calendar.specs.Written.{writtenAnswer, anyDay, spanOf, checkedOf, start, dayCharacter, dayCharacters, dayStringText, textAnswer, dayStringAnswer, dayStringBytes, allOn, digitsFrom, namedText, weekdayAnswer, weekdayBytes};
 ghost use Rattle.calendar.specs.Week.{mark, weekOf};
@@ -167,12 +167,12 @@ fn put_start(first: Date, last: Date, out: &mut [u8])
     if out.len() < 29 {
         return;
     }
-    dates::put_bytes(out, 0, b"POP+273:");
+    bytes::put_bytes(out, 0, b"POP+273:");
     let from = first.text();
-    dates::put_bytes(out, 8, &from);
-    dates::put_bytes(out, 18, b"/");
+    bytes::put_bytes(out, 8, &from);
+    bytes::put_bytes(out, 18, b"/");
     let to = last.text();
-    dates::put_bytes(out, 19, &to);
+    bytes::put_bytes(out, 19, &to);
 }
 
 // The segment with the first n characters of the day string.
@@ -186,9 +186,9 @@ fn write_characters(days: &[u8], first: Date, last: Date, n: usize, out: &mut [u
         return Written::NoRoom;
     }
     put_start(first, last, out);
-    dates::put_bytes(out, 29, b"::");
+    bytes::put_bytes(out, 29, b"::");
     put_days(days, n, out, 31);
-    dates::put_bytes(out, 31 + n, b"'");
+    bytes::put_bytes(out, 31 + n, b"'");
     Written::Bytes(32 + n)
 }
 
@@ -286,9 +286,9 @@ fn write_named(first: Date, last: Date, weekdays: &[u8], out: &mut [u8]) -> Writ
         return Written::NoRoom;
     }
     put_start(first, last, out);
-    dates::put_bytes(out, 29, b"+");
-    dates::put_bytes(out, 30, weekdays);
-    dates::put_bytes(out, 30 + n, b"'");
+    bytes::put_bytes(out, 29, b"+");
+    bytes::put_bytes(out, 30, weekdays);
+    bytes::put_bytes(out, 30 + n, b"'");
     Written::Bytes(31 + n)
 }
 

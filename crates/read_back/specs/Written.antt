@@ -12,7 +12,8 @@ use Rattle.laws.specs.Choice.{pick, both, either, all}
 use Rattle.syntax.specs.Segment.{bodyAt, segmentAt}
 use Rattle.syntax.specs.declared.segment.Scanned.the-variants.{End}
 use Rattle.dates.specs.Dates.{number}
-use Rattle.dates.specs.Text.{digit, dateText}
+use Rattle.laws.specs.Decimal.{digit}
+use Rattle.dates.specs.Text.{dateText}
 use Rattle.dates.specs.Again.{read-text}
 use Rattle.dates.specs.declared.Date.{Date}
 use Rattle.calendar.specs.Days.{day}

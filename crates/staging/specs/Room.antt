@@ -3,12 +3,11 @@
 use Prim.Native.Nat.{ℕ, _+_, _*_, _/_}
 use mathlib.Core.Bool.{Bool, not}
 use mathlib.Core.List.{List, [], _∷_}
-use lib.Dec.{eqb, leb, ltb}
+use lib.Dec.{eqb, leb}
 use lib.ListN.{length, getD, replicate}
 use Rattle.laws.specs.Choice.{pick}
-use Rattle.laws.specs.Lists.{over}
 use Rattle.answers.specs.Answers.{Answer, done, refused, overQuota}
-use Rattle.dates.specs.Text.{putAt}
+use Rattle.laws.specs.Put.{putAt}
 use Rattle.slots.specs.declared.Found.{Found}
 use Rattle.slots.specs.declared.Found.the-variants.{At, Gap}
 use Rattle.slots.specs.Slots.{slotsOf}
@@ -25,7 +24,7 @@ use Rattle.staging.specs.Tests.{testAll, noTotals}
 
 -- a number as it stands in a slot: ten bytes; one that is longer has none there
 unfoldable pub numberBytes : List ℕ → List ℕ
-numberBytes x = pick (ltb 10 (length x)) (replicate 10 0) (over x (replicate 10 0))
+numberBytes x = putAt (replicate 10 0) 0 x
 
 -- the flags of the slot at an index
 unfoldable pub knownAt : List ℕ → ℕ → Known

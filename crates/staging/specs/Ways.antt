@@ -11,15 +11,14 @@ use borrow.Author.Tests.{lt-leb, le-leb, eq-eqb, ne-eqb, ltb-true, ltb-false}
 use lib.ListN.{length, getD, set, take, drop, replicate}
 use lib.Seq.{take-all}
 use Rattle.laws.specs.Choice.{pick, both, both-true, choose}
-use Rattle.laws.specs.Lists.{over, drop-past}
+use Rattle.laws.specs.Lists.{drop-past}
 use Rattle.answers.specs.Answers.{Answer, done, refused}
 use Rattle.answers.specs.Laws.{refused≢done}
 use Rattle.syntax.specs.Bytes.{plain}
 use Rattle.syntax.specs.Segment.{bodyAt}
 use Rattle.parts.specs.declared.Part.{Part}
 use Rattle.parts.specs.Places.{bytesOf}
-use Rattle.dates.specs.Text.{putAt}
-use Rattle.dates.specs.Put.{put-room}
+use Rattle.laws.specs.Put.{putAt, put-room}
 use Rattle.period.specs.declared.Period.{Period}
 use Rattle.period.specs.Period.{periodOf}
 use Rattle.joining.specs.Joined.{inWindow, joined, joinAll}
@@ -207,9 +206,9 @@ module _ (first : ℕ) (s rows : List ℕ) (look : List ℕ → Known) where
 
 -- ---- numbers and slots
 
-pub number-copied : (x y last : List ℕ) → y ≡ x → last ≡ pick (ltb 10 (length (plain y))) (replicate 10 0) (over (plain y) (replicate 10 0)) → last ≡ numberBytes (plain x)
+pub number-copied : (x y last : List ℕ) → y ≡ x → last ≡ putAt (replicate 10 0) 0 (plain y) → last ≡ numberBytes (plain x)
 unfolding numberBytes
-number-copied x y last e q = q ∙ ap (λ (z : List ℕ). pick (ltb 10 (length (plain z))) (replicate 10 0) (over (plain z) (replicate 10 0))) e
+number-copied x y last e q = q ∙ ap (λ (z : List ℕ). putAt (replicate 10 0) 0 (plain z)) e
 
 pub known-is : (room : List ℕ) (at : ℕ) → known.Record (not (eqb (getD room (at + 10) 0) 0)) (eqb (getD room (at + 75) 0) 2) ≡ knownAt room at
 unfolding knownAt

@@ -6,7 +6,7 @@ use Prim.Native.Nat.{ℕ}
 use borrow.Author.Tests.{not-true, not-false}
 use denote.Ref.{now}
 use Rattle.syntax.specs.Bytes.{plain}
-use Rattle.envelope.specs.Decimal.{decimalOf}
+use Rattle.laws.specs.Decimal.{decimalOf}
 use Rattle.envelope.specs.Envelope.{present, says, valueOf, trailerOf}
 use borrow.Author.Needs.{needs}
 use Rattle.envelope.proofs.check_trailer.Statement.{statement}
