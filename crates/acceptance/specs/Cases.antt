@@ -16,7 +16,7 @@ use Rattle.messages.specs.Tags.{UIB, UIH, MSD, UIT, UIZ}
 use Rattle.placing.specs.Skdupd.{skdupdTable}
 use Rattle.placing.specs.Tsdupd.{tsdupdTable}
 use Rattle.placing.specs.Tables.{tables, tableIn}
-use Rattle.envelope.specs.Decimal.{decimalOn}
+use Rattle.laws.specs.Decimal.{decimalOn}
 use Rattle.envelope.specs.Envelope.{uibOf, uihOf, trailerOf}
 use Rattle.answers.specs.Answers.{refused}
 use Rattle.steps.specs.Step.{opening, between, closing, trailing, placed, inside, stepBy}

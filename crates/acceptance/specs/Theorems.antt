@@ -8,12 +8,13 @@ use Prim.Native.Nat.{ℕ, _+_, _-_, _*_, _≤_, _<_}
 use native.Mathlib.Omega.{arith}
 use lib.ListN.{length, drop}
 use borrow.Author.Tests.{le-ltb}
-use Rattle.laws.specs.Lists.{over}
+use Rattle.laws.specs.Put.{put-front}
 use Rattle.answers.specs.Answers.{done, refused}
 use Rattle.answers.specs.Laws.{refused≢done}
 use Rattle.steps.specs.declared.state.State.{State}
 use Rattle.steps.specs.declared.state.Row.{Row}
 use Rattle.interchange.specs.Reader.{Outcome, Verdict, accepted, readOn, readingOf, numbers, answerBy, answerOf, rowsAfter}
+use Rattle.interchange.specs.Laws.{length-numbers}
 use Rattle.acceptance.specs.Interchange.{written, Interchange, segmentsOf, holds, IsInterchange, rowsOf}
 use Rattle.acceptance.specs.Onward.{Goes, precede, reading-goes-on}
 use Rattle.acceptance.specs.When.{reads-all}
@@ -55,9 +56,11 @@ module _ (s : List ℕ) (i : IsInterchange s) where
   unfolding answerOf
   answered-when room h = ap (λ (o : Outcome). answerOf o room) (rows-when s i) ∙ rw (le-ltb room (3 * length (rowsOf (i .parts))) h)
 
-  pub written-when : (lent : List ℕ) → 3 * length (rowsOf (i .parts)) ≤ length lent → rowsAfter (readingOf s) lent ≡ over (numbers (rowsOf (i .parts))) lent
+  pub written-when : (lent : List ℕ) → 3 * length (rowsOf (i .parts)) ≤ length lent → rowsAfter (readingOf s) lent ≡ numbers (rowsOf (i .parts)) ++ drop (length (numbers (rowsOf (i .parts)))) lent
   unfolding rowsAfter
-  written-when lent h = ap (λ (o : Outcome). rowsAfter o lent) (rows-when s i) ∙ rw (le-ltb (length lent) (3 * length (rowsOf (i .parts))) h)
+  written-when lent h =
+      let e = length-numbers (rowsOf (i .parts)) in
+      ap (λ (o : Outcome). rowsAfter o lent) (rows-when s i) ∙ put-front lent (numbers (rowsOf (i .parts))) (omega arith)
 
 pub accepted-exactly : (s : List ℕ) → (readingOf s .verdict ≡ accepted) ↔ IsInterchange s
 accepted-exactly s = (only-when s, λ i. ap (λ (o : Outcome). o .verdict) (rows-when s i))

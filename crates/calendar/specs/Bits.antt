@@ -2,11 +2,12 @@
 -- Assumes nothing.
 use mathlib.Core.Path.{_≡_, refl, ap, _∙_}
 use mathlib.Core.Bool.{Bool, true, false}
-use Prim.Native.Nat.{ℕ, _*_, _/_, _%_, _^_, _<_, max}
+use Prim.Native.Nat.{ℕ, zero, suc, _*_, _/_, _%_, _^_, _<_, max}
 use native.Mathlib.Omega.{arith}
 use lib.Dec.{eqb, eqb→eq}
 use lib.Bits.{bitOr, or-shr, or-step}
 use borrow.Author.Tests.{eq-eqb, ne-eqb}
+use Rattle.laws.specs.Choice.{either}
 use Rattle.laws.specs.Sweep.{below, at, agree}
 use Rattle.calendar.specs.Days.{bit, hasBit, withBit}
 
@@ -31,6 +32,20 @@ test i j = eqb (bit (2 ^ i) j) (oneIf (eqb i j))
 pow-bit : (i j : ℕ) → i < 8 → j < 8 → bit (2 ^ i) j ≡ oneIf (eqb i j)
 unfolding test
 pow-bit i j hi hj = eqb→eq _ _ (at (test i) 8 (at (λ i. below (test i) 8) 8 tt i hi) j hj)
+
+-- of two digits
+max-either : (x y : ℕ) → x < 2 → y < 2 → eqb (max x y) 1 ≡ either (eqb x 1) (eqb y 1)
+max-either zero zero hx hy = refl
+max-either zero (suc zero) hx hy = refl
+max-either zero (suc (suc y)) hx hy = absurd (omega arith)
+max-either (suc zero) zero hx hy = refl
+max-either (suc zero) (suc zero) hx hy = refl
+max-either (suc zero) (suc (suc y)) hx hy = absurd (omega arith)
+max-either (suc (suc x)) y hx hy = absurd (omega arith)
+
+pub bit-or : (a b j : ℕ) → hasBit (bitOr a b) j ≡ either (hasBit a j) (hasBit b j)
+unfolding hasBit
+bit-or a b j = rw or-bit (max-either (bit a j) (bit b j) (omega arith) (omega arith))
 
 pub bit-none : (j : ℕ) → j < 8 → hasBit 0 j ≡ false
 unfolding hasBit

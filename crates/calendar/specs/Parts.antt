@@ -5,13 +5,14 @@ use mathlib.Core.Bool.{true, false}
 use mathlib.Core.List.{List, [], _∷_, _++_}
 use Prim.Native.Nat.{ℕ, _+_, _<_, _≤_}
 use native.Mathlib.Omega.{arith}
+use native.Mathlib.Nat.{zero-add}
 use lib.ListN.{length, length-append}
 use borrow.Author.Tests.{le-leb, lt-leb}
 use Rattle.laws.specs.Text.{bytes}
 use Rattle.answers.specs.Answers.{Answer, done, outputTooShort, badCalendar, noWeekdayForm}
 use Rattle.dates.specs.Laws.{number-below}
-use Rattle.dates.specs.Text.{dateText, putAt}
-use Rattle.dates.specs.Put.{put-put, put-no-room}
+use Rattle.laws.specs.Put.{putAt, put-behind, put-no-room}
+use Rattle.dates.specs.Text.{dateText}
 use Rattle.dates.specs.Again.{length-text}
 use Rattle.dates.specs.declared.Date.{Date}
 use Rattle.calendar.specs.Written.{anyDay, checkedOf, start, dayCharacters, dayStringText, textAnswer, dayStringAnswer, dayStringBytes, named, allOn, weekdayForm, digitsFrom, namedText, weekdayAnswer, weekdayBytes}
@@ -23,12 +24,6 @@ use Rattle.calendar.specs.Good.{good-facts}
 use Rattle.calendar.specs.Empty.{week-none, week-some}
 use Rattle.calendar.specs.Steps.{length-characters}
 use Rattle.calendar.specs.declared.Span.the-variants.{Days, Bad}
-
--- a part put behind what stands at the front
-pub behind : (o s t : List ℕ) {p q u : List ℕ} (j : ℕ) → p ≡ putAt o 0 s → q ≡ putAt p j u → u ≡ t → j ≡ length s
-    → length s + length t ≤ length o → q ≡ putAt o 0 (s ++ t)
-behind o s t {p} {q} {u} j ep eq eu e h =
-    eq ∙ ap (λ (l : List ℕ). putAt l j u) ep ∙ ap (putAt (putAt o 0 s) j) eu ∙ put-put o 0 s j t (omega arith) (omega arith)
 
 pub length-start : (first last : Date) → length (start first last) ≡ 29
 unfolding start bytes
@@ -42,9 +37,9 @@ pub start-put : (first last : Date) (o : List ℕ) {p q r s f t : List ℕ} → 
     → r ≡ putAt q 18 (47 ∷ []) → t ≡ dateText last → s ≡ putAt r 19 t → s ≡ putAt o 0 (start first last)
 unfolding start bytes
 start-put first last o h e₁ f e₂ e₃ t e₄ =
-    let a = behind o (80 ∷ 79 ∷ 80 ∷ 43 ∷ 50 ∷ 55 ∷ 51 ∷ 58 ∷ []) (dateText first) 8 e₁ e₂ f refl (rw length-text (omega arith)) in
-    let b = behind o ((80 ∷ 79 ∷ 80 ∷ 43 ∷ 50 ∷ 55 ∷ 51 ∷ 58 ∷ []) ++ dateText first) (47 ∷ []) 18 a e₃ refl (simp length-text) (simp length-text (omega arith)) in
-    behind o ((80 ∷ 79 ∷ 80 ∷ 43 ∷ 50 ∷ 55 ∷ 51 ∷ 58 ∷ []) ++ dateText first ++ (47 ∷ [])) (dateText last) 19 b e₄ t (simp (length-append, length-text)) (simp (length-append, length-text) (omega arith))
+    let a = put-behind o 0 (80 ∷ 79 ∷ 80 ∷ 43 ∷ 50 ∷ 55 ∷ 51 ∷ 58 ∷ []) (dateText first) 8 e₁ e₂ f refl (rw length-text (omega arith)) in
+    let b = put-behind o 0 ((80 ∷ 79 ∷ 80 ∷ 43 ∷ 50 ∷ 55 ∷ 51 ∷ 58 ∷ []) ++ dateText first) (47 ∷ []) 18 a e₃ refl (simp length-text) (simp length-text (omega arith)) in
+    put-behind o 0 ((80 ∷ 79 ∷ 80 ∷ 43 ∷ 50 ∷ 55 ∷ 51 ∷ 58 ∷ []) ++ dateText first ++ (47 ∷ [])) (dateText last) 19 b e₄ t (simp (length-append, length-text)) (simp (length-append, length-text) (omega arith))
 
 -- a text that fits, and one that does not
 pub text-fits : (text o : List ℕ) (m : ℕ) → length text ≡ m → m ≤ length o → done m ≡ textAnswer text o
@@ -68,10 +63,10 @@ module _ (c : List ℕ) (first last : Date) (n : ℕ) (o : List ℕ) where
       → (done (32 + n) ≡ textAnswer (dayStringText c first last n) o) × (s ≡ putAt o 0 (dayStringText c first last n))
   unfolding dayStringText bytes
   characters-put h e₁ e₂ e₃ e₄ =
-      let a = behind o (start first last) (58 ∷ 58 ∷ []) 29 e₁ e₂ refl (simp length-start) (simp length-start (omega arith)) in
-      let b = behind o (start first last ++ (58 ∷ 58 ∷ [])) (dayCharacters c 0 n) 31 a e₃ refl (simp (length-append, length-start)) (simp (length-append, length-start, length-characters) (omega arith)) in (
+      let a = put-behind o 0 (start first last) (58 ∷ 58 ∷ []) 29 e₁ e₂ refl (simp length-start) (simp length-start (omega arith)) in
+      let b = put-behind o 0 (start first last ++ (58 ∷ 58 ∷ [])) (dayCharacters c 0 n) 31 a e₃ refl (simp (length-append, length-start)) (simp (length-append, length-start, length-characters) (omega arith)) in (
         text-fits (dayStringText c first last n) o (32 + n) length-day-string h,
-        behind o (start first last ++ (58 ∷ 58 ∷ []) ++ dayCharacters c 0 n) (39 ∷ []) (31 + n) b e₄ refl (simp (length-append, length-start, length-characters)) (simp (length-append, length-start, length-characters) (omega arith)),
+        put-behind o 0 (start first last ++ (58 ∷ 58 ∷ []) ++ dayCharacters c 0 n) (39 ∷ []) (31 + n) b e₄ refl (simp (length-append, length-start, length-characters, zero-add)) (simp (length-append, length-start, length-characters) (omega arith)),
       )
 
 module _ (c : List ℕ) (first last : Date) (o : List ℕ) where
@@ -101,10 +96,10 @@ module _ (first last : Date) (w o : List ℕ) where
       → (done (31 + length w) ≡ textAnswer (namedText first last w) o) × (s ≡ putAt o 0 (namedText first last w))
   unfolding namedText bytes
   named-put h e₁ e₂ e₃ e₄ =
-      let a = behind o (start first last) (43 ∷ []) 29 e₁ e₂ refl (simp length-start) (simp length-start (omega arith)) in
-      let b = behind o (start first last ++ (43 ∷ [])) w 30 a e₃ refl (simp (length-append, length-start)) (simp (length-append, length-start) (omega arith)) in (
+      let a = put-behind o 0 (start first last) (43 ∷ []) 29 e₁ e₂ refl (simp length-start) (simp length-start (omega arith)) in
+      let b = put-behind o 0 (start first last ++ (43 ∷ [])) w 30 a e₃ refl (simp (length-append, length-start)) (simp (length-append, length-start) (omega arith)) in (
         text-fits (namedText first last w) o (31 + length w) length-named h,
-        behind o (start first last ++ (43 ∷ []) ++ w) (39 ∷ []) (30 + length w) b e₄ refl (simp (length-append, length-start)) (simp (length-append, length-start) (omega arith)),
+        put-behind o 0 (start first last ++ (43 ∷ []) ++ w) (39 ∷ []) (30 + length w) b e₄ refl (simp (length-append, length-start, zero-add)) (simp (length-append, length-start) (omega arith)),
       )
 
 -- a good calendar's numbers are small

@@ -8,8 +8,7 @@ use native.Mathlib.Omega.{arith}
 use native.Mathlib.Nat.{not-suc-le-zero}
 use lib.ListN.{length, getD, set}
 use lib.Seq.{paste}
-use Rattle.dates.specs.Text.{putAt}
-use Rattle.dates.specs.Put.{put-room, put-no-room, copied}
+use Rattle.laws.specs.Put.{putAt, put-room, put-no-room, copied}
 use Rattle.calendar.specs.Days.{day}
 use Rattle.calendar.specs.Written.{anyDay, dayCharacter, dayCharacters}
 

@@ -10,7 +10,8 @@ use Rattle.laws.specs.Text.{bytes}
 use Rattle.answers.specs.Answers.{Answer, done, outputTooShort, badCalendar, noWeekdayForm}
 use Rattle.dates.specs.Days.{weekdayOf}
 use Rattle.dates.specs.Dates.{valid, number}
-use Rattle.dates.specs.Text.{dateText, putAt}
+use Rattle.laws.specs.Put.{putAt}
+use Rattle.dates.specs.Text.{dateText}
 use Rattle.dates.specs.declared.Date.{Date}
 use Rattle.calendar.specs.Days.{day}
 use Rattle.calendar.specs.declared.Written.{Written}

@@ -7,7 +7,7 @@ use crate::spans::check;
 use crate::start::put_start;
 use dates::Date;
 ghost use mathlib.Core.Path.{_≡_};
-ghost use Rattle.dates.specs.Text.{putAt};
+ghost use Rattle.laws.specs.Put.{putAt};
 ghost use Rattle.calendar.specs.Written.{writtenAnswer, dayCharacter, dayCharacters, dayStringText, textAnswer, dayStringAnswer, dayStringBytes};
 
 // The character of day k.
@@ -45,9 +45,9 @@ fn write_characters(days: &[u8], first: Date, last: Date, n: usize, out: &mut [u
         return Written::NoRoom;
     }
     put_start(first, last, out);
-    dates::put_bytes(out, 29, b"::");
+    bytes::put_bytes(out, 29, b"::");
     put_days(days, n, out, 31);
-    dates::put_bytes(out, 31 + n, b"'");
+    bytes::put_bytes(out, 31 + n, b"'");
     Written::Bytes(32 + n)
 }
 

@@ -2,7 +2,7 @@
 
 use dates::Date;
 ghost use mathlib.Core.Path.{_≡_};
-ghost use Rattle.dates.specs.Text.{putAt};
+ghost use Rattle.laws.specs.Put.{putAt};
 ghost use Rattle.calendar.specs.Written.{start};
 
 // POP+273:first/last at the front, where there is room for it.
@@ -12,10 +12,10 @@ pub(crate) fn put_start(first: Date, last: Date, out: &mut [u8])
     if out.len() < 29 {
         return;
     }
-    dates::put_bytes(out, 0, b"POP+273:");
+    bytes::put_bytes(out, 0, b"POP+273:");
     let from = first.text();
-    dates::put_bytes(out, 8, &from);
-    dates::put_bytes(out, 18, b"/");
+    bytes::put_bytes(out, 8, &from);
+    bytes::put_bytes(out, 18, b"/");
     let to = last.text();
-    dates::put_bytes(out, 19, &to);
+    bytes::put_bytes(out, 19, &to);
 }

@@ -13,7 +13,7 @@ ghost use mathlib.Core.Bool.{not};
 ghost use Prim.Native.Nat.{_+_, _≤_, _%_};
 ghost use lib.ListN.{take, length};
 ghost use Rattle.laws.specs.Choice.{pick, either};
-ghost use Rattle.dates.specs.Text.{putAt};
+ghost use Rattle.laws.specs.Put.{putAt};
 ghost use Rattle.calendar.specs.Days.{hasBit, day};
 ghost use Rattle.calendar.specs.Written.{writtenAnswer, textAnswer, allOn, digitsFrom, namedText, weekdayAnswer, weekdayBytes};
 ghost use Rattle.calendar.specs.Week.{mark, weekOf};
@@ -109,9 +109,9 @@ fn write_named(first: Date, last: Date, weekdays: &[u8], out: &mut [u8]) -> Writ
         return Written::NoRoom;
     }
     put_start(first, last, out);
-    dates::put_bytes(out, 29, b"+");
-    dates::put_bytes(out, 30, weekdays);
-    dates::put_bytes(out, 30 + n, b"'");
+    bytes::put_bytes(out, 29, b"+");
+    bytes::put_bytes(out, 30, weekdays);
+    bytes::put_bytes(out, 30 + n, b"'");
     Written::Bytes(31 + n)
 }
 

@@ -31,7 +31,7 @@ use Rattle.placing.specs.Rule.{reachable, firstFit, inGroup, again, laterOnes, 
 use Rattle.placing.specs.Skdupd.{skdupdTable}
 use Rattle.placing.specs.Tsdupd.{tsdupdTable}
 use Rattle.placing.specs.Tables.{tables, tableIn}
-use Rattle.envelope.specs.Decimal.{decimalOn}
+use Rattle.laws.specs.Decimal.{decimalOn}
 use Rattle.envelope.specs.Envelope.{uibOf, uihOf, trailerOf}
 use Rattle.steps.specs.Step.{opening, between, closing, trailing, placed, inside, stepBy}
 use Rattle.interchange.specs.Reader.{turnAt, readOn, readingOf, numbers}
@@ -102,5 +102,5 @@ table =
     ∷ []
 
 pub cases : T (all holds table)
-unfolding bytes table holds comesOf expected permittedOf plainOn first later partOf tagged componentFits occurrenceFits elementFits withinLimits wellFormed scanOf sameText leapYear monthLength isDate monthDays yearDays dayNumber weekdayOf madeOf twoDigits digitsAt dateAt goodPeriod daysSpan spanIn dayString rising formedOf restGood periodOf runsBy runsIn sameAnswer keeps callHolds lists.joined lists.total spanOf countedAt elementAt withBit withDay entryOf afterOf endOf placesOn reachable firstFit inGroup again laterOnes choicesFrom firstOf stepOf skdupdTable tsdupdTable tables tableIn decimalOn uibOf uihOf trailerOf opening between closing trailing placed inside stepBy turnAt readOn readingOf numbers marked windowDays joined joinAll rows.offsetAt rows.isRow rows.firstOf rows.listOf numberOf saysRemoval removes serviceAt hasPeriod isWrong saysNumber isSame isTwice contents.goodNumber contents.isCalendar contents.goodEntries contents.goodRecord contents.comesBefore contents.inOrder contents.goodAccount contents.goodAccounts contents.goodQuotas contents.good written.filledUp written.liveBytes written.pendingBytes written.slotOf written.roomBytes written.roomsBytes lookup changed withdrawOf viewOf withRecords firstOutside daysOf entry enterKnown enter enterAll stageOf inContents
+unfolding table holds comesOf expected permittedOf plainOn first later partOf tagged componentFits occurrenceFits elementFits withinLimits wellFormed scanOf sameText leapYear monthLength isDate monthDays yearDays dayNumber weekdayOf madeOf twoDigits digitsAt dateAt goodPeriod daysSpan spanIn dayString rising formedOf restGood periodOf runsBy runsIn sameAnswer keeps callHolds lists.joined lists.total spanOf countedAt elementAt withBit withDay entryOf afterOf endOf placesOn reachable firstFit inGroup again laterOnes choicesFrom firstOf stepOf skdupdTable tsdupdTable tables tableIn decimalOn uibOf uihOf trailerOf opening between closing trailing placed inside stepBy turnAt readOn readingOf numbers marked windowDays joined joinAll rows.offsetAt rows.isRow rows.firstOf rows.listOf numberOf saysRemoval removes serviceAt hasPeriod isWrong saysNumber isSame isTwice contents.goodNumber contents.isCalendar contents.goodEntries contents.goodRecord contents.comesBefore contents.inOrder contents.goodAccount contents.goodAccounts contents.goodQuotas contents.good written.filledUp written.liveBytes written.pendingBytes written.slotOf written.roomBytes written.roomsBytes lookup changed withdrawOf viewOf withRecords firstOutside daysOf entry enterKnown enter enterAll stageOf inContents
 cases = tt

@@ -8,7 +8,8 @@ use mathlib.Core.Option.{Option, none, some}
 use lib.Dec.{eqb, leb}
 use lib.ListN.{length, getD, set, replicate}
 use Rattle.laws.specs.Choice.{pick, both}
-use Rattle.laws.specs.Lists.{over}
+use Rattle.laws.specs.Put.{putAt}
+use Rattle.laws.specs.Text.{bytes}
 use Rattle.answers.specs.Answers.{Answer, done, notRegister, badAccount, nothingPending, noRecord, outputTooShort, badOpening}
 use Rattle.values.specs.Values.{sameText}
 use Rattle.dates.specs.Dates.{valid, number}
@@ -102,13 +103,13 @@ windowText c = dayCharacters c 0 512
 -- `live`, `put`, `del`
 unfoldable pub liveLine : List ℕ → Option (List ℕ) → List ℕ
 liveLine number none = []
-liveLine number (some c) = lineOf number (108 ∷ 105 ∷ 118 ∷ 101 ∷ []) (windowText c)
+liveLine number (some c) = lineOf number (bytes "live") (windowText c)
 
 -- "(empty for `del`)"
 unfoldable pub pendingLine : List ℕ → Pending → List ℕ
 pendingLine number nothing = []
-pendingLine number (put c) = lineOf number (112 ∷ 117 ∷ 116 ∷ []) (windowText c)
-pendingLine number removal = lineOf number (100 ∷ 101 ∷ 108 ∷ []) []
+pendingLine number (put c) = lineOf number (bytes "put") (windowText c)
+pendingLine number removal = lineOf number (bytes "del") []
 
 -- "Live first."
 unfoldable pub recordText : Record → List ℕ
@@ -126,7 +127,7 @@ shownAnswer out (some r) = pick (leb (length (recordText r)) (length out)) (done
 
 abbrev pub shownBytes : List ℕ → Option Record → List ℕ
 shownBytes out none = out
-shownBytes out (some r) = pick (leb (length (recordText r)) (length out)) (over (recordText r) out) out
+shownBytes out (some r) = putAt out 0 (recordText r)
 
 unfoldable pub showAnswer : ℕ → List ℕ → View → Answer ℕ
 showAnswer k out v = shownAnswer out (recordAt k (v .records))

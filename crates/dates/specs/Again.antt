@@ -10,14 +10,14 @@ use lib.ListN.{length, getD, take, drop, length-take, length-drop}
 use lib.Seq.{getD-take, getD-drop}
 use borrow.Author.Tests.{le-leb}
 use Rattle.laws.specs.Choice.{pick, both}
+use Rattle.laws.specs.Decimal.{digit}
 use Rattle.dates.specs.Dates.{madeOf, valid}
 use Rattle.dates.specs.Facts.{date-facts, month-at-most}
-use Rattle.dates.specs.Put.{put-take}
-use Rattle.dates.specs.Text.{digit, dateText, twoDigits, digitsAt, dateAt, putAt, writeAnswer, writeBytes}
+use Rattle.laws.specs.Put.{putAt, put-take}
+use Rattle.dates.specs.Text.{dateText, twoDigits, digitsAt, dateAt}
 use Rattle.dates.specs.declared.Date.{Date}
 use Rattle.dates.specs.declared.Made.the-variants.{Valid}
-use Rattle.dates.specs.declared.DateWritten.the-variants.{Done, BadDate, NoRoom}
-use Rattle.dates.specs.declared.Digits.the-variants.{Value, NoDigits}
+use Rattle.dates.specs.declared.reading.Digits.the-variants.{Value, NoDigits}
 
 bound : (p q r s : Bool) (t o n : ℕ) → (T q → t ≤ 57) → (T s → o ≤ 57) → pick (both (both p q) (both r s)) (Value ((t - 48) * 10 + (o - 48))) NoDigits ≡ Value n → n ≤ 99
 bound true true true true t o n f g e =
@@ -38,24 +38,6 @@ digits-small s i {n} e =
 pub length-text : (a : Date) → length (dateText a) ≡ 10
 unfolding dateText
 length-text a = refl
-
-module _ (a : Date) (o : List ℕ) (at : ℕ) where
-  pub bad : valid a ≡ false → (BadDate ≡ writeAnswer a o at) × (o ≡ writeBytes a o at)
-  unfolding writeAnswer writeBytes
-  bad v = (rw v, rw v)
-
-  module _ (v : valid a ≡ true) {t last : List ℕ} (e : t ≡ dateText a) (w : last ≡ putAt o at t) where
-    pub done : leb (at + length t) (length o) ≡ true → (Done ≡ writeAnswer a o at) × (last ≡ writeBytes a o at)
-    unfolding writeAnswer writeBytes
-    done h =
-        let k : leb (at + 10) (length o) ≡ true = rw length-text at (rw e at h) in
-        (rw (v, k), rw v (w ∙ ap (putAt o at) e))
-
-    pub no-room : leb (at + length t) (length o) ≡ false → (NoRoom ≡ writeAnswer a o at) × (last ≡ writeBytes a o at)
-    unfolding writeAnswer writeBytes
-    no-room h =
-        let k : leb (at + 10) (length o) ≡ false = rw length-text at (rw e at h) in
-        (rw (v, k), rw v (w ∙ ap (putAt o at) e))
 
 -- two digits of a number below a hundred
 pair : (n t o : ℕ) → n < 100 → t ≡ digit (n / 10) → o ≡ digit n → twoDigits t o ≡ Value n
@@ -93,7 +75,6 @@ module _ (a : Date) (v : valid a ≡ true) (s : List ℕ) (at : ℕ) (e : take 1
       rw (le-leb (at + 10) (length s) room, byte 4 (omega arith), byte 7 (omega arith), rw z at c, y, m, d, k, v)
 
 -- what is written reads back as the same date
-pub written-again : (a : Date) → valid a ≡ true → (o : List ℕ) (at : ℕ) → at + 10 ≤ length o → dateAt (writeBytes a o at) at ≡ Valid a
-unfolding writeBytes
+pub written-again : (a : Date) → valid a ≡ true → (o : List ℕ) (at : ℕ) → at + 10 ≤ length o → dateAt (putAt o at (dateText a)) at ≡ Valid a
 written-again a v o at h =
-    rw v (read-text a v (putAt o at (dateText a)) at (rw length-text at (put-take o at (dateText a) (rw length-text h))))
+    read-text a v (putAt o at (dateText a)) at (rw length-text at (put-take o at (dateText a) (rw length-text h)))

@@ -4,7 +4,6 @@ pub mod Facts
 pub mod Laws
 pub mod Back
 pub mod Text
-pub mod Put
 pub mod Again
 pub mod Read
 pub mod Starts

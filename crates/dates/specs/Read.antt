@@ -9,7 +9,7 @@ use Rattle.dates.specs.Dates.{madeOf}
 use Rattle.dates.specs.Text.{digitsAt, fourDigits, dateAt}
 use Rattle.dates.specs.declared.Made.{Made}
 use Rattle.dates.specs.declared.Made.the-variants.{NoDate}
-use Rattle.dates.specs.declared.Digits.the-variants.{Value, NoDigits}
+use Rattle.dates.specs.declared.reading.Digits.the-variants.{Value, NoDigits}
 
 module _ (s : List ℕ) (at : ℕ) where
   pub no-room-to-read : length s < at + 10 → NoDate ≡ dateAt s at

@@ -5,22 +5,16 @@ use mathlib.Core.Bool.{Bool}
 use mathlib.Core.List.{List, [], _∷_}
 use lib.Dec.{eqb, leb}
 use lib.ListN.{getD, length}
-use lib.Seq.{paste}
 use Rattle.laws.specs.Choice.{pick, both}
-use Rattle.dates.specs.Dates.{madeOf, valid}
+use Rattle.laws.specs.Decimal.{digit}
+use Rattle.dates.specs.Dates.{madeOf}
 use Rattle.dates.specs.declared.Date.{Date}
 use Rattle.dates.specs.declared.Made.{Made}
 use Rattle.dates.specs.declared.Made.the-variants.{NoDate}
-use Rattle.dates.specs.declared.Digits.{Digits}
-use Rattle.dates.specs.declared.Digits.the-variants.{Value, NoDigits}
-use Rattle.dates.specs.declared.DateWritten.{DateWritten}
-use Rattle.dates.specs.declared.DateWritten.the-variants.{Done, BadDate, NoRoom}
+use Rattle.dates.specs.declared.reading.Digits.{Digits}
+use Rattle.dates.specs.declared.reading.Digits.the-variants.{Value, NoDigits}
 
--- the last decimal digit of a number, as a byte; the bytes of 0 and 9 are 48 and 57
-abbrev pub digit : ℕ → ℕ
-digit n = 48 + n % 10
-
--- the ten bytes; 45 is the hyphen
+-- the ten bytes; 45 is the hyphen, 48 and 57 are the bytes of 0 and 9
 unfoldable pub dateText : Date → List ℕ
 dateText a =
     digit (a .year / 1000) ∷ digit (a .year / 100) ∷ digit (a .year / 10) ∷ digit (a .year) ∷ 45
@@ -58,14 +52,3 @@ dateAt s at =
     madeOf year month day))))
     NoDate)
     NoDate
-
--- bytes put at an offset, where there is room for all of them
-unfoldable pub putAt : List ℕ → ℕ → List ℕ → List ℕ
-putAt o at s = pick (leb (at + length s) (length o)) (paste o at s (length s)) o
-
--- writing a date: what is no date is not written, nor is one for which there is no room
-unfoldable pub writeAnswer : Date → List ℕ → ℕ → DateWritten
-writeAnswer a o at = pick (valid a) (pick (leb (at + 10) (length o)) Done NoRoom) BadDate
-
-unfoldable pub writeBytes : Date → List ℕ → ℕ → List ℕ
-writeBytes a o at = pick (valid a) (putAt o at (dateText a)) o

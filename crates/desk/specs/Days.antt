@@ -15,8 +15,7 @@ use Rattle.dates.specs.Dates.{valid, number, numberOf}
 use Rattle.dates.specs.declared.Number.{Number}
 use Rattle.dates.specs.declared.Number.the-variants.{Day, NoDay}
 use Rattle.dates.specs.Laws.{number-known, number-unknown}
-use Rattle.dates.specs.Text.{putAt}
-use Rattle.dates.specs.Put.{put-front}
+use Rattle.laws.specs.Put.{putAt, put-front}
 use Rattle.dates.specs.declared.Date.{Date}
 use Rattle.stages.specs.Stage.{firstOutside, daysOf}
 

@@ -7,7 +7,7 @@ use mathlib.Core.List.{List}
 use lib.Dec.{ltb}
 use lib.ListN.{length}
 use Rattle.laws.specs.Choice.{pick, choose}
-use Rattle.laws.specs.Lists.{over}
+use Rattle.laws.specs.Put.{putAt}
 use Rattle.answers.specs.Answers.{Answer, done, outputTooShort}
 use Rattle.syntax.specs.Bytes.{plain}
 use Rattle.parts.specs.declared.Part.{Part}
@@ -46,7 +46,7 @@ abbrev pub numberAnswer : List ℕ → Part → List ℕ → Answer ℕ
 numberAnswer s p out = pick (ltb (length out) (length (plain (bytesOf s p)))) outputTooShort (done (length (plain (bytesOf s p))))
 
 abbrev pub numberBytes : List ℕ → Part → List ℕ → List ℕ
-numberBytes s p out = pick (ltb (length out) (length (plain (bytesOf s p)))) out (over (plain (bytesOf s p)) out)
+numberBytes s p out = putAt out 0 (plain (bytesOf s p))
 
 -- ---- for `drumcallisto_number`: p is the part's bytes, w what came of copying them
 
@@ -54,5 +54,5 @@ module _ (s : List ℕ) (part : Part) (out p : List ℕ) (e : p ≡ bytesOf s pa
   pub number-told : (w : Copied) → w ≡ copiedOf (length (plain p)) (length out) → copiedAnswer w ≡ numberAnswer s part out
   number-told w q = rw (q, e) (choose (ltb (length out) (length (plain (bytesOf s part)))) (λ t. rw t) (λ t. rw t))
 
-  pub number-left : (last : List ℕ) → last ≡ pick (ltb (length out) (length (plain p))) out (over (plain p) out) → last ≡ numberBytes s part out
+  pub number-left : (last : List ℕ) → last ≡ putAt out 0 (plain p) → last ≡ numberBytes s part out
   number-left last q = q ∙ rw e

@@ -96,7 +96,7 @@ fn write_days(s: &[u8], rows: &[u32], from: usize, to: usize, day: usize, days: 
     match test_window(day, s, rows, from, to) {
         Window::Inside => {
             let found = days_of(day, s, rows, from, to);
-            dates::put_bytes(days, 0, &found);
+            bytes::put_bytes(days, 0, &found);
             done(0)
         }
         Window::Outside(at) => refused(13, at),

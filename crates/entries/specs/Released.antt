@@ -11,8 +11,7 @@ use lib.ListN.{length, getD, take, drop, replicate, length-append, length-replic
 use lib.Seq.{getD-take, getD-drop, take-take, drop-drop, drop-cons, take-length, length-take-le, paste, paste-zero, take-paste, drop-paste}
 use Rattle.laws.specs.Choice.{choose}
 use Rattle.laws.specs.Lists.{drop-take}
-use Rattle.dates.specs.Text.{putAt}
-use Rattle.dates.specs.Put.{put-room, put-front, put-put}
+use Rattle.laws.specs.Put.{putAt, put-room, put-front, put-put}
 use Rattle.gaps.specs.Zero.{zeroFrom}
 use Rattle.slots.specs.Slots.{slotsOf, length-slots, slot-at}
 use Rattle.slots.specs.Rising.{leading}

@@ -10,8 +10,7 @@ use borrow.Author.Tests.{eq-eqb, ne-eqb, le-leb, lt-leb}
 use lib.ListN.{length, getD, drop, replicate, length-replicate}
 use Rattle.laws.specs.Choice.{all}
 use Rattle.laws.specs.Lists.{drop-here, drop-past}
-use Rattle.dates.specs.Text.{putAt}
-use Rattle.dates.specs.Put.{put-room, put-front}
+use Rattle.laws.specs.Put.{putAt, put-room, put-front}
 use Rattle.gaps.specs.Move.{closedIn, closed-fits}
 use Rattle.slots.specs.declared.Found.{Found}
 use Rattle.slots.specs.declared.Found.the-variants.{At, Gap}

@@ -33,7 +33,7 @@ fn whole_slot(room: &[u8], at: usize) -> [u8; 140]
 {
     let mut slot = [0u8; 140];
     let end = at + SLOT;
-    dates::put_bytes(&mut slot, 0, &room[at..end]);
+    bytes::put_bytes(&mut slot, 0, &room[at..end]);
     slot
 }
 
@@ -46,9 +46,9 @@ fn made_live(room: &[u8], at: usize) -> [u8; 140]
     let live = at + LIVE;
     let days = at + PENDING + 1;
     let end = at + SLOT;
-    dates::put_bytes(&mut slot, 0, &room[at..live]);
-    dates::put_bytes(&mut slot, LIVE, b"\x01");
-    dates::put_bytes(&mut slot, LIVE + 1, &room[days..end]);
+    bytes::put_bytes(&mut slot, 0, &room[at..live]);
+    bytes::put_bytes(&mut slot, LIVE, b"\x01");
+    bytes::put_bytes(&mut slot, LIVE + 1, &room[days..end]);
     slot
 }
 
@@ -73,7 +73,7 @@ fn settle(room: &mut [u8], from: usize, to: usize) -> usize
         return 0;
     }
     let slot = kept_slot(room, from);
-    dates::put_bytes(room, to, &slot);
+    bytes::put_bytes(room, to, &slot);
     SLOT
 }
 
@@ -127,7 +127,7 @@ fn filled_up(number: &[u8]) -> [u8; 10]
     ensures { λ r. ⌜ r ≡ filledUp 10 (now (number .entry)) ⌝ }
 {
     let mut filled = [0u8; 10];
-    dates::put_bytes(&mut filled, 0, number);
+    bytes::put_bytes(&mut filled, 0, number);
     filled
 }
 
@@ -145,7 +145,7 @@ fn withdraw_at(room: &mut [u8], at: usize) -> bool
         return true;
     }
     let nothing = [0u8; 65];
-    dates::put_bytes(room, at + PENDING, &nothing);
+    bytes::put_bytes(room, at + PENDING, &nothing);
     true
 }
 

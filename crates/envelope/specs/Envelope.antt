@@ -6,6 +6,7 @@ use mathlib.Core.Bool.{Bool, true, false, not}
 use mathlib.Core.List.{List, [], _∷_}
 use lib.ListN.{length}
 use Rattle.laws.specs.Choice.{pick, both, all}
+use Rattle.laws.specs.Text.{bytes}
 use Rattle.answers.specs.Answers.{Answer, done, wrongEnvelope, unknownType}
 use Rattle.syntax.specs.Bytes.{plain}
 use Rattle.syntax.specs.Pieces.{partOf}
@@ -18,7 +19,7 @@ use Rattle.envelope.specs.declared.Opened.{Opened}
 use Rattle.envelope.specs.declared.Opened.the-variants.{Dialogue, Wrong}
 use Rattle.envelope.specs.declared.Headed.{Headed}
 use Rattle.envelope.specs.declared.Headed.the-variants.{Message, Missing, Unknown}
-use Rattle.envelope.specs.Decimal.{decimalOf}
+use Rattle.laws.specs.Decimal.{decimalOf}
 
 -- ".. compared after release": whether a part as written says the text
 abbrev pub says : List ℕ → List ℕ → Bool
@@ -35,25 +36,25 @@ placeOf g e c = partAt g (record { from = 0; to = length g }) e 1 c
 
 -- the texts that the segments name
 abbrev pub UNOB : List ℕ
-UNOB = 85 ∷ 78 ∷ 79 ∷ 66 ∷ []
+UNOB = bytes "UNOB"
 
 abbrev pub version4 : List ℕ
-version4 = 52 ∷ []
+version4 = bytes "4"
 
 abbrev pub SKDUPD : List ℕ
-SKDUPD = 83 ∷ 75 ∷ 68 ∷ 85 ∷ 80 ∷ 68 ∷ []
+SKDUPD = bytes "SKDUPD"
 
 abbrev pub TSDUPD : List ℕ
-TSDUPD = 84 ∷ 83 ∷ 68 ∷ 85 ∷ 80 ∷ 68 ∷ []
+TSDUPD = bytes "TSDUPD"
 
 abbrev pub versionD : List ℕ
-versionD = 68 ∷ []
+versionD = bytes "D"
 
 abbrev pub release04A : List ℕ
-release04A = 48 ∷ 52 ∷ 65 ∷ []
+release04A = bytes "04A"
 
 abbrev pub agencyUN : List ℕ
-agencyUN = 85 ∷ 78 ∷ []
+agencyUN = bytes "UN"
 
 -- "UIB begins `UNOB:4`", and "the dialogue reference of UIB" is the first component of its second element: 7 where one of the three is absent or, of the first two, another
 abbrev pub opens : List ℕ → Bool

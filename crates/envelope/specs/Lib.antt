@@ -1,4 +1,3 @@
-pub mod Decimal
 pub mod Envelope
 pub mod Said
 pub mod Laws

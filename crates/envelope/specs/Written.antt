@@ -10,6 +10,7 @@ use lib.Dec.{eqb, leb}
 use lib.ListN.{length, drop, getD}
 use Rattle.laws.specs.Choice.{pick, both, both-false, both-parts, false≢true, choose}
 use Rattle.laws.specs.Lists.{drop-here, drop-past}
+use Rattle.laws.specs.Text.{bytes}
 use Rattle.syntax.specs.Bytes.{plainOn}
 use Rattle.syntax.specs.Pieces.{first, later, partOf}
 use Rattle.values.specs.Values.{sameText}
@@ -56,12 +57,12 @@ begins-split (b ∷ g) (t ∷ text) q =
     let w = both-parts (eqb b t) (beginsWith g text) q in
     rw (eqb-true b t (w .0)) (ap (λ (x : List ℕ). t ∷ x) (begins-split g text (w .1)))
 
--- `UIH+SKDUPD:D:04A::UN+` and `UIH+TSDUPD:D:04A::UN+`
+-- the two types, as they are mostly written
 abbrev pub headSKDUPD : List ℕ
-headSKDUPD = 85 ∷ 73 ∷ 72 ∷ 43 ∷ 83 ∷ 75 ∷ 68 ∷ 85 ∷ 80 ∷ 68 ∷ 58 ∷ 68 ∷ 58 ∷ 48 ∷ 52 ∷ 65 ∷ 58 ∷ 58 ∷ 85 ∷ 78 ∷ 43 ∷ []
+headSKDUPD = bytes "UIH+SKDUPD:D:04A::UN+"
 
 abbrev pub headTSDUPD : List ℕ
-headTSDUPD = 85 ∷ 73 ∷ 72 ∷ 43 ∷ 84 ∷ 83 ∷ 68 ∷ 85 ∷ 80 ∷ 68 ∷ 58 ∷ 68 ∷ 58 ∷ 48 ∷ 52 ∷ 65 ∷ 58 ∷ 58 ∷ 85 ∷ 78 ∷ 43 ∷ []
+headTSDUPD = bytes "UIH+TSDUPD:D:04A::UN+"
 
 -- From the `+` at index 20 on, 0340 is the first element: its place is found without passing what is known.
 unfoldable pub besides : List ℕ → Part

@@ -4,14 +4,14 @@
 use messages::MessageType;
 use parts::Part;
 ghost use mathlib.Core.Path.{_≡_};
-ghost use Prim.Native.Nat.{ℕ, _%_, _≤_};
-ghost use lib.ListN.{length, drop};
+ghost use Prim.Native.Nat.{ℕ, _≤_};
+ghost use lib.ListN.{length, take};
 ghost use mathlib.Core.List.{[], _∷_};
 ghost use Rattle.laws.specs.Choice.{all};
+ghost use Rattle.laws.specs.Decimal.{decimalOf};
 ghost use Rattle.syntax.specs.Bytes.{plain};
 ghost use Rattle.parts.specs.Places.{present};
 ghost use Rattle.values.specs.Values.{sameText};
-ghost use Rattle.envelope.specs.Decimal.{decimalOf, digitOf};
 ghost use Rattle.envelope.specs.Envelope.{valueOf, placeOf, directory, typed, uibOf, uihOf, trailerOf, uitOf, uizOf, openedAnswer, headedAnswer, trailerAnswer, uibAnswer, uihAnswer, uitAnswer, uizAnswer};
 ghost use Rattle.envelope.specs.Laws.{occurrenceOf};
 ghost use Rattle.envelope.specs.Written.{beginsWith, writtenOf};
@@ -34,19 +34,12 @@ pub enum Headed {
     Unknown,
 }
 
-// The byte of a digit.
-fn digit(n: usize) -> u8
-    ensures { λ r. ⌜ r ≡ digitOf (n % 10) ⌝ }
+// Whether a part says the first n of the digits.
+fn says_first(part: &[u8], digits: &[u8], n: usize) -> bool
+    requires { ⌜ n ≤ length (now digits) ⌝ }
+    ensures { λ r. ⌜ r ≡ sameText (plain (now (part .entry))) (take n (now (digits .entry))) ⌝ }
 {
-    (n % 10) as u8 + 48
-}
-
-// Whether a part says the digits that stand from an index on.
-fn says_from(part: &[u8], digits: &[u8], from: usize) -> bool
-    requires { ⌜ from ≤ length (now digits) ⌝ }
-    ensures { λ r. ⌜ r ≡ sameText (plain (now (part .entry))) (drop from (now (digits .entry))) ⌝ }
-{
-    values::equals(part, &digits[from..])
+    values::equals(part, &digits[0..n])
 }
 
 /// Whether a part says a number in decimal digits, with no leading zero.
@@ -54,17 +47,8 @@ pub fn is_decimal(part: &[u8], n: usize) -> bool
     ensures { λ r. ⌜ r ≡ sameText (plain (now (part .entry))) (decimalOf n) ⌝ }
 {
     let mut digits = [0u8; 20];
-    let mut from: usize = 20;
-    let mut left = n;
-    while 0 < from {
-        from -= 1;
-        digits[from] = digit(left);
-        if left < 10 {
-            return says_from(part, &digits, from);
-        }
-        left /= 10;
-    }
-    values::equals(part, &digits)
+    let count = bytes::put_decimal(&mut digits, 0, n);
+    says_first(part, &digits, count)
 }
 
 // Where component c of element e stands, in its first occurrence.

@@ -2,15 +2,15 @@
 -- Assumes nothing.
 use mathlib.Core.Path.{_≡_, refl, sym, ap, _∙_}
 use mathlib.Core.Bool.{Bool, true, false}
-use mathlib.Core.List.{List, [], _∷_, _++_, append-nil, append-assoc}
+use mathlib.Core.List.{List, [], _∷_, append-nil}
 use Prim.Native.Nat.{ℕ, _+_, _*_, _/_, _≤_, _<_}
 use native.Mathlib.Omega.{arith}
 use lib.Dec.{eqb, ltb}
-use borrow.Author.Tests.{eq-eqb, ne-eqb, lt-ltb, le-ltb, ltb-false}
-use lib.ListN.{length, take, drop, length-append, length-drop}
+use borrow.Author.Tests.{eq-eqb, ne-eqb, lt-ltb, le-ltb, ltb-true, ltb-false}
+use lib.ListN.{length, take}
 use Rattle.laws.specs.Choice.{pick, either, either-true, choose}
-use lib.Seq.{take-append-le, drop-append-seam, take-take, length-take-le}
-use Rattle.laws.specs.Lists.{over, onto, onto-start}
+use lib.Seq.{length-take-le}
+use Rattle.laws.specs.Put.{putAt, length-put, put-no-room, put-before}
 use Rattle.syntax.specs.declared.segment.Refusal.{Refusal}
 use Rattle.steps.specs.declared.state.State.{State}
 use Rattle.steps.specs.declared.state.Row.{Row}
@@ -51,7 +51,7 @@ answerBehind n rows room (done _) = pick (ltb room (n + 3 * length rows)) output
 answerBehind n rows room (refused number position) = refused number position
 
 abbrev pub rowsBehind : ℕ → List Row → List ℕ → Verdict → List ℕ
-rowsBehind n rows lent (done _) = pick (ltb (length lent) (n + 3 * length rows)) lent (onto lent n (numbers rows))
+rowsBehind n rows lent (done _) = putAt lent n (numbers rows)
 rowsBehind n rows lent (refused number position) = lent
 
 abbrev pub Behind : ℕ → Outcome → List ℕ → Answer ℕ → List ℕ → Type 0
@@ -68,40 +68,11 @@ module _ (rows : List Row) (lent : List ℕ) where
 
   same-rows : (v : Verdict) → rowsBehind 0 rows lent v ≡ rowsAfter (record { rows = rows; verdict = v }) lent
   unfolding rowsAfter
-  same-rows (done _) =
-      let z : 0 + 3 * length rows ≡ 3 * length rows = omega arith in
-      choose (ltb (length lent) (3 * length rows)) (λ q. rw (z, q)) (λ q. rw (z, q) (onto-start lent (numbers rows)))
+  same-rows (done _) = refl
   same-rows (refused number position) = refl
 
 pub right-behind : (o : Outcome) (lent : List ℕ) (r : Answer ℕ) (after : List ℕ) → Behind 0 o lent r after → Right o lent r after
 right-behind o lent r after b = (b .0 ∙ same-answer (o .rows) lent (o .verdict), b .1 ∙ same-rows (o .rows) lent (o .verdict))
-
--- a text put before one that was put behind it
-onto-before : (l a b : List ℕ) (n : ℕ) → n + length a ≤ length l → onto (onto l (n + length a) b) n a ≡ onto l n (a ++ b)
-unfolding onto
-onto-before l a b n h =
-    let k = n + length a in
-    let front = take k l in
-    let past = b ++ drop (k + length b) l in
-    let z = length-take-le k l h in
-    let t : take n (front ++ past) ≡ take n l =
-    take-append-le n front past (omega arith) ∙ take-take n k l (omega arith) in
-    let d : drop k (front ++ past) ≡ past = ap (λ (x : ℕ). drop x (front ++ past)) (sym z) ∙ drop-append-seam front past in
-    let m = length-append a b in
-    let e : k + length b ≡ n + length (a ++ b) = omega arith in
-    ap (λ (x : List ℕ). x ++ (a ++ drop k (front ++ past))) t
-    ∙ ap (λ (x : List ℕ). take n l ++ (a ++ x)) d
-    ∙ ap (λ (x : ℕ). take n l ++ (a ++ (b ++ drop x l))) e
-    ∙ ap (λ (x : List ℕ). take n l ++ x) (sym (append-assoc a b (drop (n + length (a ++ b)) l)))
-
-length-onto : (l a : List ℕ) (n : ℕ) → n + length a ≤ length l → length (onto l n a) ≡ length l
-unfolding onto
-length-onto l a n h =
-    let x = length-append (take n l) (a ++ drop (n + length a) l) in
-    let y = length-append a (drop (n + length a) l) in
-    let z = length-drop (n + length a) l in
-    let w = length-take-le n l (omega arith) in
-    omega arith
 
 -- rows that are told of fit, and the buffer is as long as it was
 fits-by : (n m : ℕ) (rows : List Row) (lent : List ℕ) (v : Verdict) → done m ≡ answerBehind n rows (length lent) v
@@ -111,8 +82,7 @@ fits-by n m rows lent (done _) q =
     (λ l. absurd (done≢refused (rw l at q)))
     (λ l.
     let g = ltb-false (length lent) (n + 3 * length rows) l in
-    let c = length-numbers rows in
-    (omega arith, rw l (length-onto lent (numbers rows) n (omega arith))))
+    (omega arith, length-put lent n (numbers rows)))
 fits-by n m rows lent (refused number position) q = absurd (done≢refused q)
 
 pub behind-fits : (n m : ℕ) (o : Outcome) (lent after : List ℕ) → Behind n o lent (done m) after → n ≤ length after
@@ -141,14 +111,15 @@ module _ (n : ℕ) (w : Outcome) (lent : List ℕ) where
         let e = sym (f .verdict) in
         let c = count-is in
         let l = lt-ltb (length lent) (n + k) h in
-        (rw (e, c, l), rw (e, c, l))
+        let m = length-numbers (w .rows) in
+        (rw (e, c, l), rw e (sym (put-no-room lent n (numbers (w .rows)) (omega arith))))
 
-    pub behind-rows : n + k ≤ length lent → Behind n w lent (done ((n + k) / 3)) (onto lent n (take k room))
+    pub behind-rows : n + k ≤ length lent → Behind n w lent (done ((n + k) / 3)) (putAt lent n (take k room))
     behind-rows h =
         let e = sym (f .verdict) in
         let c = count-is in
         let l = le-ltb (length lent) (n + k) h in
-        (rw (e, c, l), rw (e, c, l) (ap (onto lent n) (sym rows-are)))
+        (rw (e, c, l), rw e (ap (putAt lent n) (sym rows-are)))
 
   -- the room was full, and the rest was read
   module _ (k : ℕ) (room : List ℕ) (rest : Outcome) (f : Filled w rest k room) where
@@ -168,7 +139,11 @@ module _ (n : ℕ) (w : Outcome) (lent : List ℕ) where
     still x (done _) q =
         let c = count-same in
         choose (ltb (length lent) (n + 3 * length (w .rows)))
-        (λ l. (rw (c, l), rw l))
+        (λ l.
+        let g = ltb-true (length lent) (n + 3 * length (w .rows)) l in
+        let a = length-numbers (rest .rows) in
+        let b = length-numbers (w .rows) in
+        (put-no-room lent (n + k) (numbers (rest .rows)) (omega arith), put-no-room lent n (numbers (w .rows)) (omega arith)))
         (λ l. absurd (done≢refused (sym (rw (c, l) at q))))
     still x (refused number position) q = (refl, refl)
 
@@ -179,25 +154,25 @@ module _ (n : ℕ) (w : Outcome) (lent : List ℕ) where
           b .1 ∙ q .0 ∙ sym (q .1) ∙ ap (rowsBehind n (w .rows) lent) (f .verdict),
         )
 
-    put-before : (m : ℕ) (v : Verdict) → done m ≡ answerBehind (n + k) (rest .rows) (length lent) v → k ≤ length room
-        → onto (rowsBehind (n + k) (rest .rows) lent v) n (take k room) ≡ rowsBehind n (w .rows) lent v
-    put-before m (done _) q h =
+    rows-before : (m : ℕ) (v : Verdict) → done m ≡ answerBehind (n + k) (rest .rows) (length lent) v → k ≤ length room
+        → putAt (rowsBehind (n + k) (rest .rows) lent v) n (take k room) ≡ rowsBehind n (w .rows) lent v
+    rows-before m (done _) q h =
         let c = count-same in
         choose (ltb (length lent) (n + 3 * length (w .rows)))
         (λ l. absurd (done≢refused (rw (c, l) at q)))
         (λ l.
         let z = length-take-le k room h in
         let g = ltb-false (length lent) (n + 3 * length (w .rows)) l in
-        rw (c, l)
-        (ap (λ (x : ℕ). onto (onto lent (n + x) (numbers (rest .rows))) n (take k room)) (sym z)
-        ∙ onto-before lent (take k room) (numbers (rest .rows)) n (omega arith) ∙ ap (onto lent n) (f .rows)))
-    put-before m (refused number position) q h = absurd (done≢refused q)
+        let a = length-numbers (rest .rows) in
+        ap (λ (x : ℕ). putAt (putAt lent (n + x) (numbers (rest .rows))) n (take k room)) (sym z)
+        ∙ put-before lent n (take k room) (numbers (rest .rows)) (omega arith) ∙ ap (putAt lent n) (f .rows))
+    rows-before m (refused number position) q h = absurd (done≢refused q)
 
     pub behind-full : (m : ℕ) (after : List ℕ) → Behind (n + k) rest lent (done m) after → k ≤ length room
-        → Behind n w lent (done m) (onto after n (take k room))
+        → Behind n w lent (done m) (putAt after n (take k room))
     behind-full m after b h = (
       b .0 ∙ behind-is (rest .verdict) ∙ ap (answerBehind n (w .rows) (length lent)) (f .verdict),
-      ap (λ (x : List ℕ). onto x n (take k room)) (b .1) ∙ put-before m (rest .verdict) (b .0) h ∙ ap (rowsBehind n (w .rows) lent) (f .verdict),
+      ap (λ (x : List ℕ). putAt x n (take k room)) (b .1) ∙ rows-before m (rest .verdict) (b .0) h ∙ ap (rowsBehind n (w .rows) lent) (f .verdict),
     )
 
 -- what `read` answers fixes its case

@@ -7,12 +7,13 @@ use Prim.Native.Nat.{ℕ, zero, suc, _+_, _-_, _*_, _≤_, _<_}
 use native.Mathlib.Omega.{arith}
 use lib.Dec.{eqb, ltb}
 use borrow.Author.Tests.{lt-ltb, le-ltb}
-use lib.ListN.{length, take, drop, set, getD, length-set}
-use lib.Seq.{take-suc-set}
+use lib.ListN.{length, take, drop, set, getD, length-set, length-drop}
+use lib.Seq.{take-suc-set, length-take-le}
 use native.Mathlib.Numerals.{add-one}
 use native.Mathlib.Nat.{sub-zero, add-zero}
 use Rattle.laws.specs.Choice.{pick}
-use Rattle.laws.specs.Lists.{onto, onto-step, onto-done, drop-here}
+use Rattle.laws.specs.Lists.{drop-here}
+use Rattle.laws.specs.Put.{putAt, put-step, put-none}
 use Rattle.answers.specs.Answers.{wrongEnvelope}
 use Rattle.syntax.specs.declared.segment.Refusal.{Refusal}
 use Rattle.syntax.specs.declared.segment.Scanned.{Scanned}
@@ -85,19 +86,21 @@ length-numbers (r ∷ l) = let h = length-numbers l in omega arith
 
 -- a copy in place: what is copied, then what is still to be
 module _ (from : List ℕ) (n at : ℕ) where
-  pub copy-start : (to : List ℕ) → onto to (at + 0) (take (n - 0) (drop 0 from)) ≡ onto to at (take n from)
+  pub copy-start : (to : List ℕ) → putAt to (at + 0) (take (n - 0) (drop 0 from)) ≡ putAt to at (take n from)
   copy-start to = rw (sub-zero, add-zero)
 
-  pub copy-step : (to : List ℕ) (i : ℕ) → i < n → i < length from → at + i < length to
-      → onto (set to (at + i) (getD from i 0)) (at + (i + 1)) (take (n - (i + 1)) (drop (i + 1) from)) ≡ onto to (at + i) (take (n - i) (drop i from))
+  pub copy-step : (to : List ℕ) (i : ℕ) → i < n → n ≤ length from → at + n ≤ length to
+      → putAt (set to (at + i) (getD from i 0)) (at + (i + 1)) (take (n - (i + 1)) (drop (i + 1) from)) ≡ putAt to (at + i) (take (n - i) (drop i from))
   copy-step to i h g k =
       let e : n - i ≡ suc (n - (i + 1)) = omega arith in
       let a : at + (i + 1) ≡ at + i + 1 = omega arith in
-      ap (λ (x : ℕ). onto (set to (at + i) (getD from i 0)) x (take (n - (i + 1)) (drop (i + 1) from))) a
-      ∙ onto-step to (at + i) (getD from i 0) (take (n - (i + 1)) (drop (i + 1) from)) k
-      ∙ ap (onto to (at + i)) (sym (ap (λ (x : List ℕ). take (n - i) x) (drop-here from i g) ∙ rw e))
+      let d = length-drop (i + 1) from in
+      let l = length-take-le (n - (i + 1)) (drop (i + 1) from) (omega arith) in
+      ap (λ (x : ℕ). putAt (set to (at + i) (getD from i 0)) x (take (n - (i + 1)) (drop (i + 1) from))) a
+      ∙ put-step to (at + i) (getD from i 0) (take (n - (i + 1)) (drop (i + 1) from)) (omega arith)
+      ∙ ap (putAt to (at + i)) (sym (ap (λ (x : List ℕ). take (n - i) x) (drop-here from i (omega arith)) ∙ rw e))
 
-  pub copy-done : (to : List ℕ) (i : ℕ) → n ≤ i → onto to (at + i) (take (n - i) (drop i from)) ≡ to
+  pub copy-done : (to : List ℕ) (i : ℕ) → n ≤ i → putAt to (at + i) (take (n - i) (drop i from)) ≡ to
   copy-done to i h =
       let e : n - i ≡ 0 = omega arith in
-      rw e (onto-done to (at + i))
+      rw e (put-none to (at + i))

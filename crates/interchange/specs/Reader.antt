@@ -6,7 +6,7 @@ use mathlib.Core.List.{List, [], _∷_, _++_}
 use lib.Dec.{eqb, ltb}
 use lib.ListN.{length, drop}
 use Rattle.laws.specs.Choice.{pick, either}
-use Rattle.laws.specs.Lists.{over}
+use Rattle.laws.specs.Put.{putAt}
 use Rattle.answers.specs.Answers.{Answer, done, refused, badSize, wrongEnvelope, outputTooShort}
 use Rattle.syntax.specs.declared.segment.Refusal.{Refusal}
 use Rattle.syntax.specs.declared.segment.Scanned.{Scanned}
@@ -120,7 +120,7 @@ unfoldable pub answerOf : Outcome → ℕ → Answer ℕ
 answerOf o room = answerBy (o .rows) room (o .verdict)
 
 abbrev pub rowsBy : List Row → List ℕ → Verdict → List ℕ
-rowsBy rows lent (done _) = pick (ltb (length lent) (3 * length rows)) lent (over (numbers rows) lent)
+rowsBy rows lent (done _) = putAt lent 0 (numbers rows)
 rowsBy rows lent (refused number position) = lent
 
 unfoldable pub rowsAfter : Outcome → List ℕ → List ℕ

@@ -16,14 +16,14 @@ use Rattle.laws.specs.Choice.{pick, both, either, all, both-parts, choose, fals
 use Rattle.syntax.specs.Bytes.{stands, releases, unless, plain, plainOn}
 use Rattle.syntax.specs.Firsts.{first-take, first-length}
 use Rattle.syntax.specs.Pieces.{first, later, pieces, nth, elements, occurrences, components, partOf}
-use Rattle.parts.specs.Places.{bytesOf}
+use Rattle.parts.specs.Places.{bytesOf, present}
 use Rattle.parts.specs.Cuts.{later-split, later-none}
 use Rattle.values.specs.Values.{sameText}
 use Rattle.period.specs.declared.Form.{Form}
 use Rattle.period.specs.declared.Form.the-variants.{Every, ByString, ByWeekdays}
 use Rattle.period.specs.declared.Fault.the-variants.{BadDates}
 use Rattle.period.specs.declared.Period.the-variants.{Good, Wrong}
-use Rattle.period.specs.Period.{qualifier, firstLast, dayText, weekText, present, spanIn, zeroOrOne, dayString, fitsDays, formOf, restGood, periodOf}
+use Rattle.period.specs.Period.{qualifier, firstLast, dayText, weekText, spanIn, zeroOrOne, dayString, fitsDays, formOf, restGood, periodOf}
 use Rattle.period.specs.Facts.{good-told, form-told, good-bounds}
 use Rattle.joining.specs.Joined.{marked}
 

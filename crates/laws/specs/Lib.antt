@@ -2,5 +2,8 @@ pub mod Choice
 pub mod Sweep
 pub mod Negs
 pub mod Lists
+pub mod Put
 pub mod Joined
 pub mod Text
+pub mod Decimal
+pub mod Digits

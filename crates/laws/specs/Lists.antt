@@ -1,13 +1,13 @@
 -- The part of a list from one index to another.
 -- Assumes nothing.
-use mathlib.Core.Path.{_≡_, refl, sym, _∙_}
-use mathlib.Core.List.{List, [], _∷_, _++_, append-assoc}
+use mathlib.Core.Path.{_≡_, sym, _∙_}
+use mathlib.Core.List.{List, [], _∷_}
 use Prim.Native.Nat.{ℕ, zero, suc, _+_, _-_, _≤_, _<_}
 use native.Mathlib.Omega.{arith}
 use native.Mathlib.Numerals.{add-one}
-use lib.ListN.{length, getD, set, take, drop, take-append-drop, length-take, length-drop, drop-of-length-le}
-use lib.Seq.{drop-cons, take-nil, take-all, take-suc-set, drop-set-lt}
-use native.Mathlib.Nat.{sub-zero, zero-sub, zero-add, add-zero}
+use lib.ListN.{length, getD, take, drop, length-take, length-drop, drop-of-length-le}
+use lib.Seq.{drop-cons, take-nil, take-all}
+use native.Mathlib.Nat.{sub-zero, zero-sub}
 
 -- the elements from index a up to and without index b
 abbrev pub between : {A : Type 0} → List A → ℕ → ℕ → List A
@@ -50,25 +50,3 @@ pub between-all : {A : Type 0} (s : List A) (a b : ℕ) → length s ≤ b → b
 between-all s a b h =
     let l = length-drop a s in
     take-all (length s - a) (drop a s) (omega arith) ∙ sym (take-all (b - a) (drop a s) (omega arith))
-
--- a text over the front of a list: the text, then what stood past its length
-unfoldable pub over : List ℕ → List ℕ → List ℕ
-over t l = t ++ drop (length t) l
-
--- a text being written: what stands, with the rest of the text at index n
-unfoldable pub onto : List ℕ → ℕ → List ℕ → List ℕ
-onto l n rest = take n l ++ (rest ++ drop (n + length rest) l)
-
-pub onto-start : (l text : List ℕ) → onto l 0 text ≡ over text l
-unfolding onto over
-onto-start l text = rw zero-add
-
-pub onto-done : (l : List ℕ) (n : ℕ) → onto l n [] ≡ l
-unfolding onto
-onto-done l n = rw add-zero (take-append-drop n l)
-
-pub onto-step : (l : List ℕ) (n b : ℕ) (rest : List ℕ) → n < length l → onto (set l n b) (n + 1) rest ≡ onto l n (b ∷ rest)
-unfolding onto
-onto-step l n b rest h =
-    let e : n + 1 + length rest ≡ n + suc (length rest) = omega arith in
-    rw (e, drop-set-lt (n + suc (length rest)) l n b (omega arith)) (rw (add-one, take-suc-set l n b h) (append-assoc (take n l) (b ∷ []) (rest ++ drop (n + suc (length rest)) l)))

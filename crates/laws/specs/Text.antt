@@ -5,6 +5,6 @@ use Prim.Native.Char.{code}
 use Prim.Native.String.{String, [], _∷_}
 use mathlib.Core.List.{List, [] as []ᴸ, _∷_ as _∷ᴸ_}
 
-unfoldable pub bytes : String → List ℕ
+abbrev pub bytes : String → List ℕ
 bytes [] = []ᴸ
 bytes (c ∷ s) = code c ∷ᴸ bytes s

@@ -12,7 +12,8 @@ use lib.Seq.{take-nil, drop-drop}
 use native.Mathlib.Nat.{sub-zero}
 use borrow.Author.Tests.{eq-eqb, ne-eqb, le-leb, lt-leb, le-ltb, lt-ltb}
 use Rattle.laws.specs.Choice.{pick, both, choose}
-use Rattle.laws.specs.Lists.{over, onto, onto-start, onto-done, onto-step, drop-here, drop-past}
+use Rattle.laws.specs.Lists.{drop-here, drop-past}
+use Rattle.laws.specs.Put.{putAt, put-none, put-step}
 use Rattle.lines.specs.declared.coded.Sign.{Sign}
 use Rattle.lines.specs.Numbers.{isDigit}
 
@@ -137,7 +138,12 @@ pub record Writing (text out₀ : List ℕ) (n : ℕ) (out rest : List ℕ) : Ty
   pub same : length out ≡ length out₀
   pub within : n ≤ length out
   pub count : n + length (take (length out₀ - n) rest) ≡ length (fitting text out₀)
-  pub goes : onto out n (take (length out₀ - n) rest) ≡ over (fitting text out₀) out₀
+  pub goes : putAt out n (take (length out₀ - n) rest) ≡ putAt out₀ 0 (fitting text out₀)
+
+take-most : (n : ℕ) (l : List ℕ) → length (take n l) ≤ n
+take-most zero l = omega arith
+take-most (suc n) [] = omega arith
+take-most (suc n) (b ∷ l) = let h = take-most n l in omega arith
 
 module _ (text out₀ : List ℕ) where
   pub writing-starts : Writing text out₀ 0 out₀ (said text)
@@ -146,7 +152,7 @@ module _ (text out₀ : List ℕ) where
         same = refl;
         within = omega arith;
         count = rw sub-zero (omega arith);
-        goes = rw sub-zero (onto-start out₀ (fitting text out₀));
+        goes = rw sub-zero;
       }
 
   pub writing-on : (n i : ℕ) (out : List ℕ) (x : Sign) → Writing text out₀ n out (said (drop i text)) → i < length text → n < length out → x ≡ signAt text i
@@ -159,21 +165,22 @@ module _ (text out₀ : List ℕ) where
       let c = w .count in
       let l = ap length t in
       let k = length-set out n (x .byte) in
+      let m = take-most (length out₀ - (n + 1)) (said (drop (x .next) text)) in
       record {
         same = omega arith;
         within = omega arith;
         count = omega arith;
-        goes = onto-step out n (x .byte) (take (length out₀ - (n + 1)) (said (drop (x .next) text))) hn ∙ ap (onto out n) (sym t) ∙ w .goes;
+        goes = put-step out n (x .byte) (take (length out₀ - (n + 1)) (said (drop (x .next) text))) (omega arith) ∙ ap (putAt out n) (sym t) ∙ w .goes;
       }
 
   pub writing-ends : (n : ℕ) (out rest : List ℕ) → Writing text out₀ n out rest → (rest ≡ []) ⊎ (length out ≤ n)
-      → (n ≡ length (fitting text out₀)) × (out ≡ over (fitting text out₀) out₀)
+      → (n ≡ length (fitting text out₀)) × (out ≡ putAt out₀ 0 (fitting text out₀))
   writing-ends n out rest w h =
       let a = w .same in
       let t : take (length out₀ - n) rest ≡ [] = nothing-left h in
       let c = w .count in
       let l = ap length t in
-      (omega arith, sym (onto-done out n) ∙ ap (onto out n) (sym t) ∙ w .goes)
+      (omega arith, sym (put-none out n) ∙ ap (putAt out n) (sym t) ∙ w .goes)
     where
       nothing-left : (rest ≡ []) ⊎ (length out ≤ n) → take (length out₀ - n) rest ≡ []
       nothing-left (inl e) = rw e (take-nil (length out₀ - n))

@@ -3,7 +3,7 @@
 ghost use mathlib.Core.Path.{_≡_};
 ghost use Prim.Native.Nat.{_<_};
 ghost use lib.ListN.{length};
-ghost use Rattle.laws.specs.Lists.{over};
+ghost use Rattle.laws.specs.Put.{putAt};
 ghost use Rattle.lines.specs.Coded.{hexOf, signAt, fitting};
 
 fn hexadecimal(b: u8) -> u8
@@ -61,7 +61,7 @@ pub fn sign_at(text: &[u8], i: usize) -> Sign
 /// What a text says over the front of the bytes lent, as far as they reach; how many bytes were written.
 pub fn decode(text: &[u8], out: &mut [u8]) -> usize
     ensures { λ r. ⌜ r ≡ length (fitting (now (text .entry)) (now (out .entry))) ⌝ }
-    ensures { λ _. ⌜ now (out .exit) ≡ over (fitting (now (text .entry)) (now (out .entry))) (now (out .entry)) ⌝ }
+    ensures { λ _. ⌜ now (out .exit) ≡ putAt (now (out .entry)) 0 (fitting (now (text .entry)) (now (out .entry))) ⌝ }
 {
     let mut n = 0;
     let mut i = 0;

@@ -135,7 +135,7 @@ counted-some s p c (suc n) q =
     let e : suc n - 1 ≡ n = omega arith in
     rw e
 
--- a part is absent exactly when it has no bytes
+-- a part that ends inside the slice is absent exactly when it has no bytes
 pub absent-bytes : (s : List ℕ) (p : Part) → p .to ≤ p .from → bytesOf s p ≡ []
 absent-bytes s p h = between-none s (p .from) (p .to) h
 

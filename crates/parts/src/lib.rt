@@ -20,7 +20,7 @@ impl Part {
         Part { from: 0, to: 0 }
     }
 
-    /// Whether the part has no byte.
+    /// Whether the part has no byte, wherever it stands: it ends no later than it begins.
     pub fn is_absent(self) -> bool
         ensures { λ r. ⌜ r ≡ leb (self .to) (self .from) ⌝ }
     {

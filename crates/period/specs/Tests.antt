@@ -5,11 +5,10 @@ use mathlib.Core.Bool.{Bool, true, false}
 use mathlib.Core.List.{List}
 use Prim.Native.Nat.{ℕ, _+_, _%_, _<_, _≤_}
 use native.Mathlib.Omega.{arith}
-use lib.Dec.{eqb, ltb}
-use lib.ListN.{length, getD, take, drop, length-append}
-use lib.Seq.{take-at}
+use lib.Dec.{eqb}
+use lib.ListN.{length, getD, take}
 use native.Mathlib.Decide.{decLt}
-use Rattle.laws.specs.Lists.{over}
+use Rattle.laws.specs.Put.{putAt, length-put, take-put}
 use Rattle.values.specs.declared.Copied.the-variants.{Bytes, NoRoom}
 use borrow.Author.Tests.{eq-eqb, ne-eqb, lt-ltb, le-ltb}
 use Rattle.laws.specs.Choice.{pick, among}
@@ -159,22 +158,17 @@ dates-too-long t h e =
     let l = copied-not (length t) (rw h at e) in
     not-long t (λ q. omega arith)
 
-module _ (t to : List ℕ) {last : List ℕ} {m : ℕ} (h : length to ≡ 21) (e : copiedOf (length t) (length to) ≡ Bytes m) (w : last ≡ pick (ltb (length to) (length t)) to (over t to)) where
+module _ (t to : List ℕ) {last : List ℕ} {m : ℕ} (h : length to ≡ 21) (e : copiedOf (length t) (length to) ≡ Bytes m) (w : last ≡ putAt to 0 t) where
   whole : (length t ≤ 21) × (length t ≡ m)
   whole = copied-all (length t) m (rw h at e)
 
-  last-is : last ≡ over t to
-  last-is =
-      let f = whole in
-      w ∙ rw (le-ltb (length to) (length t) (omega arith))
-
   pub dates-fit : m ≤ length last
-  unfolding over
   dates-fit =
       let f = whole in
-      rw (last-is, length-append) (omega arith)
+      let l = ap length w ∙ length-put to 0 t in
+      omega arith
 
   pub dates-copied : take m last ≡ t
-  unfolding over
   dates-copied =
-      rw last-is (take-at t (drop (length t) to) m (whole .1))
+      let f = whole in
+      take-put to t last m w (omega arith) (omega arith)

@@ -14,7 +14,8 @@ use Rattle.syntax.specs.Segment.{bodyAt, segmentAt}
 use Rattle.syntax.specs.declared.segment.Scanned.the-variants.{End}
 use Rattle.parts.specs.Places.{present}
 use Rattle.dates.specs.Dates.{number}
-use Rattle.dates.specs.Text.{digit, dateText}
+use Rattle.laws.specs.Decimal.{digit}
+use Rattle.dates.specs.Text.{dateText}
 use Rattle.dates.specs.Again.{read-text}
 use Rattle.dates.specs.declared.Date.{Date}
 use Rattle.calendar.specs.Days.{day}

@@ -8,14 +8,13 @@ use native.Mathlib.Omega.{arith}
 use native.Mathlib.Numerals.{add-one}
 use borrow.Author.Tests.{eq-eqb, ne-eqb, le-leb, lt-leb}
 use lib.ListN.{length, getD, take, drop, replicate, replicate-append-replicate}
-use lib.Seq.{paste-zero, take-suc, take-all, length-take-le}
+use lib.Seq.{take-suc, take-all, length-take-le}
 use Rattle.laws.specs.Lists.{drop-here, drop-past}
 use Rattle.laws.specs.Joined.{joined, total, joined-append}
 use Rattle.answers.specs.Answers.{done, notRegister, badOpening}
 use Rattle.dates.specs.Dates.{valid, number}
 use Rattle.dates.specs.declared.Date.{Date}
-use Rattle.dates.specs.Text.{putAt}
-use Rattle.dates.specs.Put.{put-room, put-put, put-take, length-put}
+use Rattle.laws.specs.Put.{putAt, put-none, put-put, put-take, length-put}
 use Rattle.gaps.specs.Zero.{zeroFrom}
 use Rattle.contents.specs.Contents.{goodQuotas}
 use Rattle.contents.specs.Written.{twoBytes, headOf, roomBytes, roomsBytes, written}
@@ -51,9 +50,6 @@ quota-le (q ∷ qs) (suc k) = let h = quota-le qs k in omega arith
 unfoldable pub quotasTo : List ℕ → ℕ → List ℕ
 quotasTo qs k = joined (map twoBytes (take k qs))
 
-put-none : (s : List ℕ) (at : ℕ) → at ≤ length s → s ≡ putAt s at []
-put-none s at h = paste-zero s at [] ∙ sym (put-room s at [] (omega arith))
-
 module _ (qs s : List ℕ) where
   length-to : (k : ℕ) → k ≤ length qs → length (quotasTo qs k) ≡ k * 2
   unfolding quotasTo
@@ -64,7 +60,7 @@ module _ (qs s : List ℕ) where
 
   pub quotas-start : 2 ≤ length s → s ≡ putAt s 2 (quotasTo qs 0)
   unfolding quotasTo joined
-  quotas-start h = put-none s 2 h
+  quotas-start h = sym (put-none s 2)
 
   quotas-more : (k : ℕ) → k < length qs → quotasTo qs k ++ twoBytes (getD qs k 0) ≡ quotasTo qs (k + 1)
   unfolding quotasTo joined

@@ -8,7 +8,7 @@ ghost use mathlib.Core.List.{map};
 ghost use Prim.Native.Nat.{_+_, _*_, _≤_, _<_};
 ghost use lib.ListN.{length};
 ghost use Rattle.laws.specs.Joined.{joined, total};
-ghost use Rattle.dates.specs.Text.{putAt};
+ghost use Rattle.laws.specs.Put.{putAt};
 ghost use Rattle.contents.specs.Written.{twoBytes};
 ghost use Rattle.contents.specs.Calls.{openAnswer, openBytes, isAccount, releaseOf, withdrawOf, showAnswer, showBytes, answerOn, bytesAfter, outputAfter};
 ghost use Rattle.shown.specs.Shown.{linesAnswer};
@@ -77,7 +77,7 @@ fn put_number(b: &mut [u8], at: usize, n: usize)
     ensures { λ _. ⌜ now (b .exit) ≡ putAt (now (b .entry)) at (twoBytes n) ⌝ }
 {
     let bytes = [(n % 256) as u8, (n / 256) as u8];
-    dates::put_bytes(b, at, &bytes);
+    bytes::put_bytes(b, at, &bytes);
 }
 
 // The quotas, behind the number of the first date.

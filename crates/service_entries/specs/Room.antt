@@ -7,8 +7,7 @@ use mathlib.Core.Option.{Option, none, some}
 use lib.Dec.{eqb, ltb}
 use lib.ListN.{length, getD, replicate}
 use Rattle.laws.specs.Choice.{pick}
-use Rattle.laws.specs.Lists.{over}
-use Rattle.dates.specs.Text.{putAt}
+use Rattle.laws.specs.Put.{putAt}
 use Rattle.slots.specs.declared.Found.{Found}
 use Rattle.slots.specs.declared.Found.the-variants.{At, Gap}
 use Rattle.slots.specs.Find.{findOf}
@@ -23,7 +22,7 @@ use Rattle.stages.specs.Stage.{isRemoval, numberIn, daysOf}
 
 -- a number as it stands in a slot: ten bytes; one that is longer has none there
 unfoldable pub numberBytes : List ℕ → List ℕ
-numberBytes x = pick (ltb 10 (length x)) (replicate 10 0) (over x (replicate 10 0))
+numberBytes x = putAt (replicate 10 0) 0 x
 
 -- the flags of the slot at an index
 unfoldable pub knownAt : List ℕ → ℕ → Known

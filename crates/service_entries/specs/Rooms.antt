@@ -8,13 +8,11 @@ use mathlib.Core.Option.{Option, none, some}
 use native.Mathlib.Omega.{arith}
 use native.Mathlib.Nat.{sub-zero, zero-sub}
 use lib.Dec.{eqb, lit≤}
-use borrow.Author.Tests.{le-leb, le-ltb}
+use borrow.Author.Tests.{le-leb}
 use lib.ListN.{length, getD, take, drop, replicate, length-append, length-drop, length-replicate, take-append-drop}
 use lib.Seq.{paste, take-at, take-all, take-take, take-add, take-append-add, drop-append-add, getD-append-add, length-take-le}
 use Rattle.laws.specs.Choice.{all}
-use Rattle.laws.specs.Lists.{over}
-use Rattle.dates.specs.Text.{putAt}
-use Rattle.dates.specs.Put.{put-room, put-front}
+use Rattle.laws.specs.Put.{putAt, put-room, put-front}
 use Rattle.gaps.specs.Move.{closedIn, insertedIn}
 use Rattle.slots.specs.declared.Found.{Found}
 use Rattle.slots.specs.declared.Found.the-variants.{At, Gap}
@@ -43,8 +41,8 @@ drop-zeros (suc k) (suc n) =
     rw e (drop-zeros k n)
 
 pub number-filled : (x : List ℕ) → goodNumber x ≡ true → numberBytes x ≡ filledUp 10 x
-unfolding numberBytes over filledUp
-number-filled x g = rw (le-ltb 10 (length x) (number-most x g)) (ap (λ (l : List ℕ). x ++ l) (drop-zeros (length x) 10))
+unfolding numberBytes filledUp
+number-filled x g = put-front (replicate 10 0) x (number-most x g) ∙ ap (λ (l : List ℕ). x ++ l) (drop-zeros (length x) 10)
 
 -- ---- a record's slot
 

@@ -10,13 +10,11 @@ use borrow.Author.Tests.{eq-eqb, ne-eqb}
 use lib.ListN.{length, getD, set, replicate}
 use lib.Seq.{take-all}
 use Rattle.laws.specs.Choice.{pick}
-use Rattle.laws.specs.Lists.{over}
 use Rattle.syntax.specs.Bytes.{plain}
 use Rattle.syntax.specs.Segment.{bodyAt}
 use Rattle.parts.specs.declared.Part.{Part}
 use Rattle.parts.specs.Places.{bytesOf}
-use Rattle.dates.specs.Text.{putAt}
-use Rattle.dates.specs.Put.{put-room}
+use Rattle.laws.specs.Put.{putAt, put-room}
 use Rattle.joining.specs.Joined.{joined, joinAll}
 use Rattle.slots.specs.declared.Found.{Found}
 use Rattle.slots.specs.declared.Found.the-variants.{At, Gap}
@@ -48,9 +46,9 @@ days-are first s l last q = q
 
 -- ---- numbers and slots
 
-pub number-copied : (x y last : List ℕ) → y ≡ x → last ≡ pick (ltb 10 (length (plain y))) (replicate 10 0) (over (plain y) (replicate 10 0)) → last ≡ numberBytes (plain x)
+pub number-copied : (x y last : List ℕ) → y ≡ x → last ≡ putAt (replicate 10 0) 0 (plain y) → last ≡ numberBytes (plain x)
 unfolding numberBytes
-number-copied x y last e q = q ∙ ap (λ (z : List ℕ). pick (ltb 10 (length (plain z))) (replicate 10 0) (over (plain z) (replicate 10 0))) e
+number-copied x y last e q = q ∙ ap (λ (z : List ℕ). putAt (replicate 10 0) 0 (plain z)) e
 
 pub known-is : (room : List ℕ) (at : ℕ) → known.Record (not (eqb (getD room (at + 10) 0) 0)) (eqb (getD room (at + 75) 0) 2) ≡ knownAt room at
 unfolding knownAt

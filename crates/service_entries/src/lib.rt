@@ -96,7 +96,7 @@ fn entry_of(flag: u8, days: [u8; 64]) -> [u8; 65]
 {
     let mut entry = [0u8; 65];
     entry[0] = flag;
-    dates::put_bytes(&mut entry, 1, &days);
+    bytes::put_bytes(&mut entry, 1, &days);
     entry
 }
 
@@ -105,8 +105,8 @@ fn new_slot(number: [u8; 10], entry: [u8; 65]) -> [u8; 140]
     ensures { λ r. ⌜ r ≡ newSlot number entry ⌝ }
 {
     let mut slot = [0u8; 140];
-    dates::put_bytes(&mut slot, 0, &number);
-    dates::put_bytes(&mut slot, PENDING, &entry);
+    bytes::put_bytes(&mut slot, 0, &number);
+    bytes::put_bytes(&mut slot, PENDING, &entry);
     slot
 }
 
@@ -116,7 +116,7 @@ fn put_service(room: &mut [u8], number: [u8; 10], entry: [u8; 65])
 {
     match slots::find(room, &number) {
         slots::Found::At(k) => {
-            dates::put_bytes(room, k * SLOT + PENDING, &entry);
+            bytes::put_bytes(room, k * SLOT + PENDING, &entry);
         }
         slots::Found::Gap(k) => {
             let slot = new_slot(number, entry);
@@ -135,7 +135,7 @@ fn remove_at(room: &mut [u8], at: usize)
         return;
     }
     let entry = entry_of(2, [0u8; 64]);
-    dates::put_bytes(room, at + PENDING, &entry);
+    bytes::put_bytes(room, at + PENDING, &entry);
 }
 
 // Removes the record of a number, if there is one.

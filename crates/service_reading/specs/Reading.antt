@@ -7,9 +7,9 @@ use mathlib.Core.List.{List, [], _∷_, _++_}
 use native.Mathlib.Omega.{arith}
 use lib.Dec.{eqb, ltb}
 use lib.ListN.{length, getD, drop}
-use borrow.Author.Tests.{lt-ltb}
+use borrow.Author.Tests.{lt-ltb, ltb-false}
 use Rattle.laws.specs.Choice.{both, choose}
-use Rattle.laws.specs.Lists.{over}
+use Rattle.laws.specs.Put.{put-front}
 use Rattle.steps.specs.declared.state.Row.{Row}
 use Rattle.answers.specs.Answers.{done, refused}
 use Rattle.answers.specs.Laws.{refused≢done, done-is}
@@ -53,11 +53,13 @@ abbrev Stands : List Row → List ℕ → ℕ → Verdict → Type 0
 Stands rows lent n v = (length rows ≡ n) × (rowsBy rows lent v ≡ numbers rows ++ drop (length (numbers rows)) lent)
 
 stands-by : (rows : List Row) (lent : List ℕ) (n : ℕ) (v : Verdict) → answerBy rows (length lent) v ≡ done n → Stands rows lent n v
-unfolding over
 stands-by rows lent n (done _) q =
     choose (ltb (length lent) (3 * length rows))
     (λ p. absurd (refused≢done (rw p at q)))
-    (λ p. (done-is (rw p at q), rw p))
+    (λ p.
+    let h = ltb-false (length lent) (3 * length rows) p in
+    let e = length-numbers rows in
+    (done-is (rw p at q), put-front lent (numbers rows) (omega arith)))
 stands-by rows lent n (refused number position) q = absurd (refused≢done q)
 
 module _ (s lent : List ℕ) (n : ℕ) (q : answerOf (readingOf s) (length lent) ≡ done n) where

@@ -9,7 +9,7 @@ ghost use mathlib.Core.Path.{_≡_};
 ghost use mathlib.Core.Bool.{false};
 ghost use lib.ListN.{drop};
 ghost use Rattle.syntax.specs.Bytes.{plain};
-ghost use Rattle.values.specs.Values.{sameText, noneLeft};
+ghost use Rattle.values.specs.Values.{sameText, isEmpty};
 ghost use Rattle.services.specs.Marks.{endsComponent, endsBy, firstBy, stopOf};
 ghost use Rattle.services.specs.Same.{startOf, nextIn};
 ghost use Rattle.services.specs.Services.{numberOf, saysNumber, saysRemoval};
@@ -102,7 +102,7 @@ fn next_of(s: &[u8], i: usize) -> Next
 
 // Whether nothing is left after release from an index on.
 fn none_left(part: &[u8], i: usize) -> bool
-    ensures { λ r. ⌜ r ≡ noneLeft (plain (drop i (now (part .entry)))) ⌝ }
+    ensures { λ r. ⌜ r ≡ isEmpty (plain (drop i (now (part .entry)))) ⌝ }
 {
     match next_byte(part, i) {
         Next::Byte(_, _) => false,

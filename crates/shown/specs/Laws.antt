@@ -6,15 +6,14 @@ use mathlib.Core.List.{List, [], _∷_, _++_, append-assoc}
 use Prim.Native.Nat.{ℕ, _+_, _*_, _/_, _≤_, _<_}
 use native.Mathlib.Omega.{arith}
 use native.Mathlib.Nat.{add-zero}
-use lib.Dec.{eqb, leb, lit≤}
+use lib.Dec.{eqb, lit≤}
 use borrow.Author.Tests.{eq-eqb, ne-eqb, eqb-true, eqb-false, le-leb, lt-leb, lt-ltb, le-ltb}
 use lib.ListN.{length, getD, take, drop, length-append, length-take, length-drop}
-use lib.Seq.{take-take, paste-zero, length-take-le}
+use lib.Seq.{take-take, length-take-le}
 use Rattle.laws.specs.Choice.{choose}
-use Rattle.laws.specs.Lists.{drop-here, drop-past, over}
+use Rattle.laws.specs.Lists.{drop-here, drop-past}
 use Rattle.answers.specs.Answers.{done}
-use Rattle.dates.specs.Text.{putAt}
-use Rattle.dates.specs.Put.{put-front, put-put}
+use Rattle.laws.specs.Put.{putAt, put-no-room, put-none, put-put}
 use Rattle.calendar.specs.Written.{dayCharacters}
 use Rattle.calendar.specs.Steps.{length-characters}
 use Rattle.contents.specs.Written.{upToZero, liveIn, pendingIn, recordIn}
@@ -65,10 +64,6 @@ module _ (o number mark days : List ℕ) (at n : ℕ) (h : at + length number + 
 
 -- ---- the two lines, by the bytes that say whether they are there
 
-put-nothing : (o : List ℕ) (at : ℕ) → putAt o at [] ≡ o
-unfolding putAt
-put-nothing o at = choose (leb (at + 0) (length o)) (λ p. rw p (sym (paste-zero o at []))) (λ p. rw p)
-
 module _ (slot number : List ℕ) where
   pub live-none : getD slot 10 0 ≡ 0 → liveLine number (liveIn slot) ≡ []
   unfolding liveLine
@@ -112,10 +107,10 @@ module _ (slot number : List ℕ) where
   pending-length-none q = sym (ap length (pending-none q))
 
   pub live-put-none : (o : List ℕ) → getD slot 10 0 ≡ 0 → o ≡ putAt o 0 (liveLine number (liveIn slot))
-  live-put-none o q = sym (ap (putAt o 0) (live-none q) ∙ put-nothing o 0)
+  live-put-none o q = sym (ap (putAt o 0) (live-none q) ∙ put-none o 0)
 
   pub pending-put-none : (o : List ℕ) (at : ℕ) → getD slot 75 0 ≡ 0 → o ≡ putAt o at (pendingLine number (pendingIn slot))
-  pending-put-none o at q = sym (ap (putAt o at) (pending-none q) ∙ put-nothing o at)
+  pending-put-none o at q = sym (ap (putAt o at) (pending-none q) ∙ put-none o at)
 
   -- no line is long
   pub live-most : length (liveLine number (liveIn slot)) ≤ length number + 519
@@ -157,19 +152,17 @@ module _ (slot number o : List ℕ) (live pending : ℕ) (n : number ≡ upToZer
   unfolding linesAnswer
   shown-short h =
       let t = text-size in
-      (rw (lt-leb (length (recordText (recordIn slot))) (length o) (omega arith)), rw (lt-leb (length (recordText (recordIn slot))) (length o) (omega arith)))
+      (rw (lt-leb (length (recordText (recordIn slot))) (length o) (omega arith)), sym (put-no-room o 0 (recordText (recordIn slot)) (omega arith)))
 
   pub shown-fits : live + pending ≤ length o
       → (linesAnswer (Bytes (live + pending)) ≡ shownAnswer o (some (recordIn slot)))
       × (putAt (putAt o 0 (liveLine number (liveIn slot))) live (pendingLine number (pendingIn slot)) ≡ shownBytes o (some (recordIn slot)))
-  unfolding linesAnswer over
+  unfolding linesAnswer
   shown-fits h =
       let t = text-size in (
         rw (le-leb (length (recordText (recordIn slot))) (length o) (omega arith)) (ap done (sym t)),
-        rw (le-leb (length (recordText (recordIn slot))) (length o) (omega arith))
-            (put-put o 0 (liveLine number (liveIn slot)) live (pendingLine number (pendingIn slot)) (omega arith) (omega arith)
-            ∙ ap (putAt o 0) (sym text-is)
-            ∙ put-front o (recordText (recordIn slot)) (omega arith)),
+        put-put o 0 (liveLine number (liveIn slot)) live (pendingLine number (pendingIn slot)) (omega arith) (omega arith)
+            ∙ ap (putAt o 0) (sym text-is),
       )
 
 -- ---- for `show_record`

@@ -4,7 +4,7 @@ ghost use mathlib.Core.List.{_++_, _∷_, []};
 ghost use mathlib.Core.Option.{some};
 ghost use Prim.Native.Nat.{_+_, _≤_};
 ghost use lib.ListN.{length, take};
-ghost use Rattle.dates.specs.Text.{putAt};
+ghost use Rattle.laws.specs.Put.{putAt};
 ghost use Rattle.calendar.specs.Written.{dayCharacters};
 ghost use Rattle.contents.specs.Written.{upToZero, liveIn, pendingIn, recordIn};
 ghost use Rattle.contents.specs.Calls.{liveLine, pendingLine, shownAnswer, shownBytes};
@@ -48,10 +48,10 @@ fn put_line(out: &mut [u8], at: usize, number: &[u8], mark: &[u8], days: &[u8], 
 {
     let second = at + number.len();
     let third = second + mark.len();
-    dates::put_bytes(out, at, number);
-    dates::put_bytes(out, second, mark);
+    bytes::put_bytes(out, at, number);
+    bytes::put_bytes(out, second, mark);
     calendar::put_days(days, n, out, third);
-    dates::put_bytes(out, third + n, b"\n");
+    bytes::put_bytes(out, third + n, b"\n");
 }
 
 // How long the line of what is live is, 0 if nothing is.

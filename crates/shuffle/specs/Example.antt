@@ -26,7 +26,7 @@ use Rattle.placing.specs.Rule.{reachable, firstFit, inGroup, again, laterOnes, 
 use Rattle.placing.specs.Skdupd.{skdupdTable}
 use Rattle.placing.specs.Tsdupd.{tsdupdTable}
 use Rattle.placing.specs.Tables.{tables, tableIn}
-use Rattle.envelope.specs.Decimal.{decimalOn}
+use Rattle.laws.specs.Decimal.{decimalOn}
 use Rattle.envelope.specs.Envelope.{uibOf, uihOf, trailerOf}
 use Rattle.steps.specs.Step.{opening, between, closing, trailing, placed, inside, stepBy}
 use Rattle.interchange.specs.Reader.{turnAt, readOn, readingOf, numbers}
@@ -72,9 +72,9 @@ good-start = refl
 -- account 1 stages one and releases one; account 2 finds nothing to withdraw, though account 1 has that number, and stages one; account 3
 -- releases none; 9 is no account
 pub in-one-order : replies called (written start) oneOrder ≡ (1, told (done 1)) ∷ (2, told (refused 16 0)) ∷ (1, told (done 1)) ∷ (3, told (done 0)) ∷ (9, told (refused 2 0)) ∷ (2, told (done 1)) ∷ []
-unfolding replies bytes permittedOf plainOn first later partOf tagged componentFits occurrenceFits elementFits withinLimits wellFormed scanOf sameText leapYear monthLength isDate monthDays yearDays dayNumber madeOf twoDigits digitsAt dateAt goodPeriod daysSpan spanIn dayString rising formedOf restGood periodOf runsBy spanOf countedAt elementAt withBit withDay entryOf afterOf endOf placesOn reachable firstFit inGroup again laterOnes choicesFrom firstOf stepOf skdupdTable tsdupdTable tables tableIn decimalOn uibOf uihOf trailerOf opening between closing trailing placed inside stepBy turnAt readOn readingOf numbers marked windowDays joined joinAll rows.offsetAt rows.isRow rows.firstOf rows.listOf numberOf saysRemoval removes serviceAt hasPeriod isWrong saysNumber isSame isTwice contents.comesBefore lookup changed pendingCount released releaseOf withdrawOf viewOf withRecords firstOutside daysOf entry enterKnown enter enterAll stageOf inContents
+unfolding replies permittedOf plainOn first later partOf tagged componentFits occurrenceFits elementFits withinLimits wellFormed scanOf sameText leapYear monthLength isDate monthDays yearDays dayNumber madeOf twoDigits digitsAt dateAt goodPeriod daysSpan spanIn dayString rising formedOf restGood periodOf runsBy spanOf countedAt elementAt withBit withDay entryOf afterOf endOf placesOn reachable firstFit inGroup again laterOnes choicesFrom firstOf stepOf skdupdTable tsdupdTable tables tableIn decimalOn uibOf uihOf trailerOf opening between closing trailing placed inside stepBy turnAt readOn readingOf numbers marked windowDays joined joinAll rows.offsetAt rows.isRow rows.firstOf rows.listOf numberOf saysRemoval removes serviceAt hasPeriod isWrong saysNumber isSame isTwice contents.comesBefore lookup changed pendingCount released releaseOf withdrawOf viewOf withRecords firstOutside daysOf entry enterKnown enter enterAll stageOf inContents
 in-one-order = replies-written start good-start oneOrder
 
 pub in-another-order : replies called (written start) anotherOrder ≡ (9, told (refused 2 0)) ∷ (2, told (refused 16 0)) ∷ (3, told (done 0)) ∷ (2, told (done 1)) ∷ (1, told (done 1)) ∷ (1, told (done 1)) ∷ []
-unfolding replies bytes permittedOf plainOn first later partOf tagged componentFits occurrenceFits elementFits withinLimits wellFormed scanOf sameText leapYear monthLength isDate monthDays yearDays dayNumber madeOf twoDigits digitsAt dateAt goodPeriod daysSpan spanIn dayString rising formedOf restGood periodOf runsBy spanOf countedAt elementAt withBit withDay entryOf afterOf endOf placesOn reachable firstFit inGroup again laterOnes choicesFrom firstOf stepOf skdupdTable tsdupdTable tables tableIn decimalOn uibOf uihOf trailerOf opening between closing trailing placed inside stepBy turnAt readOn readingOf numbers marked windowDays joined joinAll rows.offsetAt rows.isRow rows.firstOf rows.listOf numberOf saysRemoval removes serviceAt hasPeriod isWrong saysNumber isSame isTwice contents.comesBefore lookup changed pendingCount released releaseOf withdrawOf viewOf withRecords firstOutside daysOf entry enterKnown enter enterAll stageOf inContents
+unfolding replies permittedOf plainOn first later partOf tagged componentFits occurrenceFits elementFits withinLimits wellFormed scanOf sameText leapYear monthLength isDate monthDays yearDays dayNumber madeOf twoDigits digitsAt dateAt goodPeriod daysSpan spanIn dayString rising formedOf restGood periodOf runsBy spanOf countedAt elementAt withBit withDay entryOf afterOf endOf placesOn reachable firstFit inGroup again laterOnes choicesFrom firstOf stepOf skdupdTable tsdupdTable tables tableIn decimalOn uibOf uihOf trailerOf opening between closing trailing placed inside stepBy turnAt readOn readingOf numbers marked windowDays joined joinAll rows.offsetAt rows.isRow rows.firstOf rows.listOf numberOf saysRemoval removes serviceAt hasPeriod isWrong saysNumber isSame isTwice contents.comesBefore lookup changed pendingCount released releaseOf withdrawOf viewOf withRecords firstOutside daysOf entry enterKnown enter enterAll stageOf inContents
 in-another-order = replies-written start good-start anotherOrder

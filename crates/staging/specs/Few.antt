@@ -6,10 +6,9 @@ use mathlib.Core.List.{List}
 use native.Mathlib.Omega.{arith}
 use lib.Dec.{eqb, ltb}
 use borrow.Author.Tests.{ltb-false, le-ltb}
-use lib.ListN.{length, take, drop}
-use lib.Seq.{take-at}
+use lib.ListN.{length, take}
 use Rattle.laws.specs.Choice.{choose, either-parts}
-use Rattle.laws.specs.Lists.{over}
+use Rattle.laws.specs.Put.{putAt, take-put}
 use Rattle.answers.specs.Answers.{Answer, done, refused}
 use Rattle.answers.specs.Laws.{refused≢done, done≢refused, done-is}
 use Rattle.syntax.specs.declared.segment.Scanned.{Scanned}
@@ -86,11 +85,10 @@ module _ (rows : List Row) (lent : List ℕ) (enough : 3 * length rows ≤ lengt
   refused-by m at (refused k to) q = refused-again ℕ (Unit {0}) k to m at q
 
   rows-by : (n : ℕ) (v : Verdict) → answerBy rows (length lent) v ≡ done n → (v ≡ accepted) × (length rows ≡ n) × (take (3 * n) (rowsBy rows lent v) ≡ numbers rows)
-  unfolding over
   rows-by n (done u) q =
       let c : length rows ≡ n = done-is (rw (le-ltb (length lent) (3 * length rows) enough) at q) in
       let l = length-numbers rows in
-      (refl, c, rw (le-ltb (length lent) (3 * length rows) enough) (take-at (numbers rows) (drop (length (numbers rows)) lent) (3 * n) (omega arith)))
+      (refl, c, take-put lent (numbers rows) (putAt lent 0 (numbers rows)) (3 * n) refl (omega arith) (omega arith))
   rows-by n (refused k to) q = absurd (refused≢done q)
 
 module _ (s lent : List ℕ) (room : length lent ≡ 45000) where

@@ -4,7 +4,8 @@ use mathlib.Core.Path.{_≡_, refl}
 use mathlib.Core.List.{List, [], _∷_}
 use Prim.Native.Nat.{ℕ}
 use Rattle.messages.specs.Tags.{UIB, UIH, MSD, UIT, UIZ}
-use Rattle.envelope.specs.Decimal.{decimalOn}
+use Rattle.laws.specs.Decimal.{decimalOn}
+use Rattle.laws.specs.Text.{bytes}
 use Rattle.text.specs.Text.{rowText, rowsText, tableText, refusalText}
 
 -- the five rows: UIB at 0, UIH at 13, MSD at 36, UIT at 47, UIZ at 55, each in no group
@@ -16,14 +17,10 @@ printedRows =
     ∷ 47 ∷ 0 ∷ UIT
     ∷ 55 ∷ 0 ∷ UIZ ∷ []
 
-pub printed-whole : tableText 5 printedRows
-    ≡ 111 ∷ 102 ∷ 102 ∷ 115 ∷ 101 ∷ 116 ∷ 9 ∷ 103 ∷ 114 ∷ 111 ∷ 117 ∷ 112 ∷ 9 ∷ 116 ∷ 97 ∷ 103 ∷ 10
-    ∷ 48 ∷ 9 ∷ 48 ∷ 9 ∷ 85 ∷ 73 ∷ 66 ∷ 10 ∷ 49 ∷ 51 ∷ 9 ∷ 48 ∷ 9 ∷ 85 ∷ 73 ∷ 72 ∷ 10
-    ∷ 51 ∷ 54 ∷ 9 ∷ 48 ∷ 9 ∷ 77 ∷ 83 ∷ 68 ∷ 10 ∷ 52 ∷ 55 ∷ 9 ∷ 48 ∷ 9 ∷ 85 ∷ 73 ∷ 84
-    ∷ 10 ∷ 53 ∷ 53 ∷ 9 ∷ 48 ∷ 9 ∷ 85 ∷ 73 ∷ 90 ∷ 10 ∷ []
+pub printed-whole : tableText 5 printedRows ≡ bytes "offset\tgroup\ttag\n0\t0\tUIB\n13\t0\tUIH\n36\t0\tMSD\n47\t0\tUIT\n55\t0\tUIZ\n"
 unfolding rowText rowsText decimalOn
 printed-whole = refl
 
-pub printed-refusal : refusalText 7 47 ≡ 114 ∷ 101 ∷ 102 ∷ 117 ∷ 115 ∷ 101 ∷ 100 ∷ 9 ∷ 55 ∷ 9 ∷ 52 ∷ 55 ∷ 10 ∷ []
+pub printed-refusal : refusalText 7 47 ≡ bytes "refused\t7\t47\n"
 unfolding refusalText decimalOn
 printed-refusal = refl

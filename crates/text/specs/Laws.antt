@@ -3,57 +3,21 @@
 use mathlib.Core.Path.{_≡_, refl, sym, ap, _∙_}
 use mathlib.Core.Bool.{true, false}
 use mathlib.Core.List.{List, [], _∷_, _++_}
-use Prim.Native.Nat.{ℕ, zero, suc, _+_, _-_, _/_, _<_, _≤_}
+use Prim.Native.Nat.{ℕ, zero, suc, _+_, _-_, _<_, _≤_}
 use native.Mathlib.Omega.{arith}
 use native.Mathlib.Decide.{decLt}
-use lib.Dec.{ltb, leb}
+use lib.Dec.{leb}
 use lib.ListN.{length, getD, take, drop, length-append, length-drop}
-use lib.Seq.{take-at, paste-zero}
-use borrow.Author.Tests.{le-leb, lt-leb}
-use Rattle.laws.specs.Choice.{choose, false≢true}
-use Rattle.laws.specs.Lists.{over, drop-here}
+use borrow.Author.Tests.{le-leb, lt-leb, leb-true, leb-false}
+use Rattle.laws.specs.Lists.{drop-here}
+use Rattle.laws.specs.Put.{putAt, put-no-room, put-none, put-behind, take-put, length-put}
 use Rattle.answers.specs.Answers.{Answer, done, refused, outputTooShort}
 use Rattle.answers.specs.Laws.{one-case}
 use Rattle.text.specs.declared.Written.{Written}
 use Rattle.text.specs.declared.Written.the-variants.{Bytes, NoRoom}
-use Rattle.dates.specs.Text.{putAt}
-use Rattle.dates.specs.Put.{put-put, put-room, put-front, length-put}
-use Rattle.envelope.specs.Decimal.{decimalOn, decimalOf}
-use Rattle.text.specs.Text.{pairText, tailText, rowText, rowAt, rowsText, tableText, heading, refusal, refusalText, writtenAnswer, answerOf, bytesOf}
-
-pub leb-le : (a b : ℕ) → leb a b ≡ true → a ≤ b
-leb-le a b e =
-    elim (decLt b a) [
-      | yes f ↦ absurd (false≢true (sym (lt-leb a b f) ∙ e))
-      | no f ↦ omega arith
-    ]
-
-pub leb-gt : (a b : ℕ) → leb a b ≡ false → b < a
-leb-gt a b e =
-    elim (decLt b a) [
-      | yes f ↦ f
-      | no f ↦ absurd (false≢true (sym e ∙ le-leb a b (omega arith)))
-    ]
-
-pub decimal-length : (f n : ℕ) → length (decimalOn f n) ≤ f
-unfolding decimalOn
-decimal-length zero n = omega arith
-decimal-length (suc f) n =
-    choose (ltb n 10) (λ yes. rw yes (omega arith)) (λ no. rw (no, length-append) (let h = decimal-length f (n / 10) in omega arith))
-
--- the digits of a number, put where they stand in a buffer
-pub decimal-put : (o : List ℕ) (at n : ℕ) {r : ℕ} {p q x : List ℕ} → r ≡ length x → q ≡ putAt p at x → x ≡ decimalOf n → p ≡ o
-    → ((r ≤ 20) × (r ≡ length (decimalOf n))) × (q ≡ putAt o at (decimalOf n))
-decimal-put o at n {r} {p} {q} {x} er eq ex ep =
-    let h = decimal-length 20 n in
-    let e : r ≡ length (decimalOf n) = er ∙ ap length ex in
-    ((omega arith, e), eq ∙ ap (λ (l : List ℕ). putAt l at x) ep ∙ ap (putAt o at) ex)
-
--- a part put behind another
-pub behind : (o : List ℕ) (at : ℕ) (s t : List ℕ) {p q u : List ℕ} (j : ℕ) → p ≡ putAt o at s → q ≡ putAt p j u → u ≡ t → j ≡ at + length s
-    → at + length s + length t ≤ length o → q ≡ putAt o at (s ++ t)
-behind o at s t {p} {q} {u} j ep eq eu e h =
-    eq ∙ ap (λ (l : List ℕ). putAt l j u) ep ∙ ap (putAt (putAt o at s) j) eu ∙ put-put o at s j t e h
+use Rattle.laws.specs.Decimal.{decimalOf}
+use Rattle.laws.specs.Digits.{decimal-length}
+use Rattle.text.specs.Text.{pairText, tailText, rowText, rowAt, rowsText, tableText, heading, refusal, refusalText, writtenAnswer, answerOf}
 
 pub length-pair : (a b : ℕ) (tail : List ℕ) → length (pairText a b tail) ≡ length (decimalOf a) + 1 + length (decimalOf b) + length tail
 length-pair a b tail = simp length-append
@@ -67,15 +31,11 @@ pair-put o at a b tail i j h ei ej e₁ e₂ e₃ e₄ =
     let x = decimal-length 20 a in
     let y = decimal-length 20 b in
     let z = length-pair a b tail in
-    let f = behind o at (decimalOf a) (9 ∷ []) (at + i) e₁ e₂ refl (omega arith) (omega arith) in
+    let f = put-behind o at (decimalOf a) (9 ∷ []) (at + i) e₁ e₂ refl (omega arith) (omega arith) in
     let l₂ : length (decimalOf a ++ (9 ∷ [])) ≡ length (decimalOf a) + 1 = simp length-append in
-    let g = behind o at (decimalOf a ++ (9 ∷ [])) (decimalOf b) (at + i + 1) f e₃ refl (omega arith) (omega arith) in
+    let g = put-behind o at (decimalOf a ++ (9 ∷ [])) (decimalOf b) (at + i + 1) f e₃ refl (omega arith) (omega arith) in
     let l₃ : length (decimalOf a ++ (9 ∷ []) ++ decimalOf b) ≡ length (decimalOf a) + 1 + length (decimalOf b) = simp length-append in
-    ((omega arith, omega arith), behind o at (decimalOf a ++ (9 ∷ []) ++ decimalOf b) tail (at + i + 1 + j) g e₄ refl (omega arith) (omega arith))
-
--- what was put at the front stands there
-pub front : (o s : List ℕ) (p : List ℕ) (n : ℕ) → p ≡ putAt o 0 s → n ≡ length s → length s ≤ length o → take n p ≡ s
-front o s p n e k h = rw (e, put-front o s h) (take-at s (drop (length s) o) n (sym k))
+    ((omega arith, omega arith), put-behind o at (decimalOf a ++ (9 ∷ []) ++ decimalOf b) tail (at + i + 1 + j) g e₄ refl (omega arith) (omega arith))
 
 pub row-put : (o p : List ℕ) (l : List ℕ) (i n : ℕ) {x y : ℕ} → 46 ≤ length o → n ≤ 46 → x ≡ getD l i 0 → y ≡ getD l (i + 1) 0
     → n ≡ length (pairText x y (tailText (getD l (i + 2) 0))) → p ≡ putAt o 0 (pairText x y (tailText (getD l (i + 2) 0)))
@@ -84,7 +44,7 @@ unfolding rowText
 row-put o p l i n {x} {y} h k ex ey e q =
     let w : pairText x y (tailText (getD l (i + 2) 0)) ≡ rowAt l i = rw (ex, ey) in
     let en : n ≡ length (rowAt l i) = e ∙ ap length w in
-    ((k, en), front o (rowAt l i) p n (q ∙ ap (putAt o 0) w) en (omega arith))
+    ((k, en), take-put o (rowAt l i) p n (q ∙ ap (putAt o 0) w) en (omega arith))
 
 -- the rows from an index on: none are left, or one and those behind it
 pub rows-none : (n k : ℕ) (l : List ℕ) (i : ℕ) → n ≤ k → rowsText (n - k) (drop i l) ≡ []
@@ -137,7 +97,7 @@ module _ (n k : ℕ) (l : List ℕ) (i : ℕ) (hk : k < n) (hi : i + 3 ≤ lengt
   one-put o p x to m e ex ep h =
       let q = rows-length in (
         omega arith,
-        behind o to (rowAt l i) (rowsText (n - (k + 1)) (drop (i + 3) l)) (to + m) (ep ∙ ap (putAt o to) ex) refl refl (omega arith) (omega arith) ∙ ap (putAt o to) (sym rows-step),
+        put-behind o to (rowAt l i) (rowsText (n - (k + 1)) (drop (i + 3) l)) (to + m) (ep ∙ ap (putAt o to) ex) refl refl (omega arith) (omega arith) ∙ ap (putAt o to) (sym rows-step),
       )
 
 pub room-none : (t : List ℕ) (left : ℕ) → t ≡ [] → true ≡ leb (length t) left
@@ -149,63 +109,63 @@ pub all-put : (o z t w : List ℕ) (to at : ℕ) → t ≡ [] → to + length t 
 all-put o z t w to at e h q p =
     let k : length t ≡ 0 = ap length e in (
       omega arith,
-      paste-zero o to [] ∙ sym (put-room o to [] (omega arith)) ∙ ap (putAt o to) (sym e) ∙ p,
+      sym (put-none o to) ∙ ap (putAt o to) (sym e) ∙ p,
     )
 
 -- a whole text, for which there is room or not
 pub text-written : (text o q : List ℕ) (n : ℕ) → length text ≤ length o → n ≡ length text → q ≡ putAt o 0 text
-    → (done n ≡ answerOf text o) × (q ≡ bytesOf text o)
-unfolding answerOf bytesOf over
-text-written text o q n h e p = (rw (le-leb _ _ h, e), rw (le-leb _ _ h) (p ∙ put-front o text h))
+    → (done n ≡ answerOf text o) × (q ≡ putAt o 0 text)
+unfolding answerOf
+text-written text o q n h e p = (rw (le-leb _ _ h, e), p)
 
-pub text-refused : (text o : List ℕ) → length o < length text → (outputTooShort ≡ answerOf text o) × (o ≡ bytesOf text o)
-unfolding answerOf bytesOf
-text-refused text o h = (rw (lt-leb _ _ h), rw (lt-leb _ _ h))
+pub text-refused : (text o : List ℕ) → length o < length text → (outputTooShort ≡ answerOf text o) × (o ≡ putAt o 0 text)
+unfolding answerOf
+text-refused text o h = (rw (lt-leb _ _ h), sym (put-no-room o 0 text (omega arith)))
 
 module _ (n : ℕ) (l o : List ℕ) where
   table-length : length (tableText n l) ≡ 17 + length (rowsText n l)
   table-length = length-append heading (rowsText n l)
 
-  pub table-short : length o < 17 → (outputTooShort ≡ answerOf (tableText n l) o) × (o ≡ bytesOf (tableText n l) o)
+  pub table-short : length o < 17 → (outputTooShort ≡ answerOf (tableText n l) o) × (o ≡ putAt o 0 (tableText n l))
   table-short h = let e = table-length in text-refused (tableText n l) o (omega arith)
 
-  pub table-refused : 17 ≤ length o → leb (length (rowsText n l)) (length o - 17) ≡ false → (outputTooShort ≡ answerOf (tableText n l) o) × (o ≡ bytesOf (tableText n l) o)
+  pub table-refused : 17 ≤ length o → leb (length (rowsText n l)) (length o - 17) ≡ false → (outputTooShort ≡ answerOf (tableText n l) o) × (o ≡ putAt o 0 (tableText n l))
   table-refused h q =
       let e = table-length in
-      let k = leb-gt (length (rowsText n l)) (length o - 17) q in
+      let k = leb-false (length (rowsText n l)) (length o - 17) q in
       text-refused (tableText n l) o (omega arith)
 
   pub table-room : {p : List ℕ} → 17 ≤ length o → leb (length (rowsText n l)) (length o - 17) ≡ true → p ≡ putAt o 0 heading
       → 17 + length (rowsText n l) ≤ length p
   table-room {p} h t ep =
-      let k = leb-le (length (rowsText n l)) (length o - 17) t in
+      let k = leb-true (length (rowsText n l)) (length o - 17) t in
       let q : length p ≡ length o = ap length ep ∙ length-put o 0 heading in
       omega arith
 
   pub table-written : (p q : List ℕ) (m : ℕ) → 17 ≤ length o → leb (length (rowsText n l)) (length o - 17) ≡ true
       → p ≡ putAt o 0 heading → m ≡ 17 + length (rowsText n l) → q ≡ putAt p 17 (rowsText n l)
-      → (done m ≡ answerOf (tableText n l) o) × (q ≡ bytesOf (tableText n l) o)
+      → (done m ≡ answerOf (tableText n l) o) × (q ≡ putAt o 0 (tableText n l))
   table-written p q m h t ep em eq =
       let e = table-length in
-      let k = leb-le (length (rowsText n l)) (length o - 17) t in
-      text-written (tableText n l) o q m (omega arith) (omega arith) (behind o 0 heading (rowsText n l) 17 ep eq refl (omega arith) (omega arith))
+      let k = leb-true (length (rowsText n l)) (length o - 17) t in
+      text-written (tableText n l) o q m (omega arith) (omega arith) (put-behind o 0 heading (rowsText n l) 17 ep eq refl (omega arith) (omega arith))
 
 module _ (number position n : ℕ) (e : n ≡ length (pairText number position (10 ∷ []))) where
   refusal-length : length (refusalText number position) ≡ 8 + n
   unfolding refusalText
   refusal-length = length-append refusal (pairText number position (10 ∷ [])) ∙ ap (λ (k : ℕ). 8 + k) (sym e)
 
-  pub refusal-refused : (o : List ℕ) → length o < 8 + n → (outputTooShort ≡ answerOf (refusalText number position) o) × (o ≡ bytesOf (refusalText number position) o)
+  pub refusal-refused : (o : List ℕ) → length o < 8 + n → (outputTooShort ≡ answerOf (refusalText number position) o) × (o ≡ putAt o 0 (refusalText number position))
   refusal-refused o h = let k = refusal-length in text-refused (refusalText number position) o (omega arith)
 
   pub refusal-written : (o z : List ℕ) {p q r : List ℕ} → n ≤ 42 → p ≡ putAt z 0 refusal → length z ≡ 50 → q ≡ putAt p 8 (pairText number position (10 ∷ []))
       → 8 + n ≤ length o → r ≡ putAt o 0 (take (8 + n) q)
-      → (done (8 + n) ≡ answerOf (refusalText number position) o) × (r ≡ bytesOf (refusalText number position) o)
+      → (done (8 + n) ≡ answerOf (refusalText number position) o) × (r ≡ putAt o 0 (refusalText number position))
   unfolding refusalText
   refusal-written o z {p} {q} {r} hn ep hz eq ho er =
       let k = refusal-length in
-      let w = behind z 0 refusal (pairText number position (10 ∷ [])) 8 ep eq refl refl (omega arith) in
-      let t = front z (refusalText number position) q (8 + n) w (omega arith) (omega arith) in
+      let w = put-behind z 0 refusal (pairText number position (10 ∷ [])) 8 ep eq refl refl (omega arith) in
+      let t = take-put z (refusalText number position) q (8 + n) w (omega arith) (omega arith) in
       text-written (refusalText number position) o r (8 + n) (omega arith) (omega arith) (er ∙ ap (putAt o 0) t)
 
 -- what a writer answers fixes its case

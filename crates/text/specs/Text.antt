@@ -6,15 +6,15 @@ use mathlib.Core.List.{List, [], _∷_, _++_}
 use lib.Dec.{leb}
 use lib.ListN.{length, getD}
 use Rattle.laws.specs.Choice.{pick}
-use Rattle.laws.specs.Lists.{over}
+use Rattle.laws.specs.Text.{bytes}
 use Rattle.answers.specs.Answers.{Answer, done, outputTooShort}
-use Rattle.envelope.specs.Decimal.{decimalOf}
+use Rattle.laws.specs.Decimal.{decimalOf}
 use Rattle.text.specs.declared.Written.{Written}
 use Rattle.text.specs.declared.Written.the-variants.{Bytes, NoRoom}
 
 -- two numbers parted by a tab, and what follows them
 abbrev pub pairText : ℕ → ℕ → List ℕ → List ℕ
-pairText a b tail = decimalOf a ++ (9 ∷ []) ++ decimalOf b ++ tail
+pairText a b tail = decimalOf a ++ bytes "\t" ++ decimalOf b ++ tail
 
 -- a row: its offset, its group and its tag, three bytes that are one number
 abbrev pub tailText : ℕ → List ℕ
@@ -37,26 +37,23 @@ rowsText (suc n) (a ∷ (b ∷ (c ∷ l))) = rowText a b c ++ rowsText n l
 
 -- `offset`, `group`, `tag`
 abbrev pub heading : List ℕ
-heading = 111 ∷ 102 ∷ 102 ∷ 115 ∷ 101 ∷ 116 ∷ 9 ∷ 103 ∷ 114 ∷ 111 ∷ 117 ∷ 112 ∷ 9 ∷ 116 ∷ 97 ∷ 103 ∷ 10 ∷ []
+heading = bytes "offset\tgroup\ttag\n"
 
 abbrev pub tableText : ℕ → List ℕ → List ℕ
 tableText n rows = heading ++ rowsText n rows
 
 -- "A refusal prints one line: `refused`, number, position."
 abbrev pub refusal : List ℕ
-refusal = 114 ∷ 101 ∷ 102 ∷ 117 ∷ 115 ∷ 101 ∷ 100 ∷ 9 ∷ []
+refusal = bytes "refused\t"
 
 unfoldable pub refusalText : ℕ → ℕ → List ℕ
-refusalText number position = refusal ++ pairText number position (10 ∷ [])
+refusalText number position = refusal ++ pairText number position (bytes "\n")
 
 -- what each case answers: the bytes written, or number and position
 abbrev pub writtenAnswer : Written → Answer ℕ
 writtenAnswer (Bytes n) = done n
 writtenAnswer NoRoom = outputTooShort
 
--- a text for which there is room is written over the front of the lent bytes; any other is 17 and leaves them as they were
+-- a text for which there is room is put at the front of the lent bytes (`putAt`); any other is 17 and leaves them as they were
 unfoldable pub answerOf : List ℕ → List ℕ → Answer ℕ
 answerOf text out = pick (leb (length text) (length out)) (done (length text)) outputTooShort
-
-unfoldable pub bytesOf : List ℕ → List ℕ → List ℕ
-bytesOf text out = pick (leb (length text) (length out)) (over text out) out

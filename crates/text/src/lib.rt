@@ -1,14 +1,15 @@
 //! What the printing program prints (document 01, "Printed whole"): the rows of a reading as a table, or the line of a refusal.
 //! Each text is tested for room first; one for which there is none leaves the lent bytes as they were.
 
-use dates::put_bytes;
+use bytes::put_bytes;
+use bytes::put_decimal;
+use bytes::wide;
 ghost use mathlib.Core.Path.{_≡_};
 ghost use Prim.Native.Nat.{_+_, _≤_};
 ghost use lib.Dec.{leb};
-ghost use lib.ListN.{length, take, drop};
-ghost use Rattle.dates.specs.Text.{putAt};
-ghost use Rattle.envelope.specs.Decimal.{decimalOf};
-ghost use Rattle.text.specs.Text.{pairText, rowAt, rowsText, tableText, refusalText, writtenAnswer, answerOf, bytesOf};
+ghost use lib.ListN.{length, take};
+ghost use Rattle.laws.specs.Put.{putAt};
+ghost use Rattle.text.specs.Text.{pairText, rowAt, rowsText, tableText, refusalText, writtenAnswer, answerOf};
 
 /// What came of writing a text.
 pub enum Written {
@@ -18,41 +19,12 @@ pub enum Written {
     NoRoom,
 }
 
-// The bytes from an index on, put at an offset; how many they are.
-fn put_from(out: &mut [u8], at: usize, bytes: &[u8], from: usize) -> usize
-    requires { ⌜ from ≤ length (now bytes) ⌝ }
-    ensures told { λ r. ⌜ r ≡ length (drop from (now (bytes .entry))) ⌝ }
-    ensures left { λ r. ⌜ now (out .exit) ≡ putAt (now (out .entry)) at (drop from (now (bytes .entry))) ⌝ }
-{
-    put_bytes(out, at, &bytes[from..]);
-    bytes.len() - from
-}
-
 // The first n bytes, put at an offset.
 fn put_first(out: &mut [u8], at: usize, bytes: &[u8], n: usize)
     requires { ⌜ n ≤ length (now bytes) ⌝ }
     ensures { λ _. ⌜ now (out .exit) ≡ putAt (now (out .entry)) at (take n (now (bytes .entry))) ⌝ }
 {
     put_bytes(out, at, &bytes[0..n]);
-}
-
-// A number in decimal digits, put at an offset; how many they are.
-fn put_decimal(out: &mut [u8], at: usize, n: usize) -> usize
-    ensures told { λ r. ⌜ (r ≤ 20) × (r ≡ length (decimalOf n)) ⌝ }
-    ensures left { λ r. ⌜ now (out .exit) ≡ putAt (now (out .entry)) at (decimalOf n) ⌝ }
-{
-    let mut digits = [0u8; 20];
-    let mut from: usize = 20;
-    let mut left = n;
-    while 0 < from {
-        from -= 1;
-        digits[from] = 48 + (left % 10) as u8;
-        if left < 10 {
-            return put_from(out, at, &digits, from);
-        }
-        left /= 10;
-    }
-    put_from(out, at, &digits, 0)
 }
 
 // Two numbers parted by a tab, and what follows them; how many bytes they are.
@@ -66,12 +38,6 @@ fn put_pair(out: &mut [u8], at: usize, a: usize, b: usize, tail: &[u8]) -> usize
     let j = put_decimal(out, at + i + 1, b);
     put_bytes(out, at + i + 1 + j, tail);
     i + 1 + j + tail.len()
-}
-
-fn wide(n: u32) -> usize
-    ensures { λ r. ⌜ r ≡ n ⌝ }
-{
-    n as usize
 }
 
 // The text of the row whose numbers stand from index i on, put at the front; how many bytes it has.
@@ -140,7 +106,7 @@ fn put_rows(rows: &[u32], n: usize, out: &mut [u8], at: usize) -> usize
 /// The table of the first n rows, each of three numbers (offset, group, tag).
 pub fn write_table(rows: &[u32], n: usize, out: &mut [u8]) -> Written
     ensures told { λ r. ⌜ writtenAnswer r ≡ answerOf (tableText n (now (rows .entry))) (now (out .entry)) ⌝ }
-    ensures left { λ r. ⌜ now (out .exit) ≡ bytesOf (tableText n (now (rows .entry))) (now (out .entry)) ⌝ }
+    ensures left { λ r. ⌜ now (out .exit) ≡ putAt (now (out .entry)) 0 (tableText n (now (rows .entry))) ⌝ }
 {
     if out.len() < 17 {
         return Written::NoRoom;
@@ -155,7 +121,7 @@ pub fn write_table(rows: &[u32], n: usize, out: &mut [u8]) -> Written
 /// The line of a refusal: its number and position.
 pub fn write_refusal(number: u8, position: usize, out: &mut [u8]) -> Written
     ensures told { λ r. ⌜ writtenAnswer r ≡ answerOf (refusalText number position) (now (out .entry)) ⌝ }
-    ensures left { λ r. ⌜ now (out .exit) ≡ bytesOf (refusalText number position) (now (out .entry)) ⌝ }
+    ensures left { λ r. ⌜ now (out .exit) ≡ putAt (now (out .entry)) 0 (refusalText number position) ⌝ }
 {
     let mut line = [0u8; 50];
     put_bytes(&mut line, 0, b"refused\t");

@@ -2,12 +2,10 @@
 
 ghost use mathlib.Core.Path.{_≡_};
 ghost use Prim.Native.Nat.{_≤_};
-ghost use lib.Dec.{ltb};
 ghost use lib.ListN.{length, drop};
-ghost use Rattle.laws.specs.Choice.{pick};
-ghost use Rattle.laws.specs.Lists.{over};
+ghost use Rattle.laws.specs.Put.{putAt};
 ghost use Rattle.syntax.specs.Bytes.{plain};
-ghost use Rattle.values.specs.Values.{nextAt, sameText, noneLeft, copiedOf};
+ghost use Rattle.values.specs.Values.{nextAt, sameText, isEmpty, copiedOf};
 
 /// The next byte after release, and the index past it.
 pub enum Next {
@@ -89,7 +87,7 @@ pub fn equals(part: &[u8], text: &[u8]) -> bool
 
 // Whether nothing is left after release from an index on.
 fn none_left(part: &[u8], i: usize) -> bool
-    ensures { λ r. ⌜ r ≡ noneLeft (plain (drop i (now (part .entry)))) ⌝ }
+    ensures { λ r. ⌜ r ≡ isEmpty (plain (drop i (now (part .entry)))) ⌝ }
 {
     match next_byte(part, i) {
         Next::Byte(_, _) => false,
@@ -128,7 +126,7 @@ pub fn same(a: &[u8], b: &[u8]) -> bool
 /// What a part says, written to the front of a lent buffer; a buffer that is too short stays as it was.
 pub fn copy_plain(part: &[u8], to: &mut [u8]) -> Copied
     ensures told { λ r. ⌜ r ≡ copiedOf (length (plain (now (part .entry)))) (length (now (to .entry))) ⌝ }
-    ensures left { λ _. ⌜ now (to .exit) ≡ pick (ltb (length (now (to .entry))) (length (plain (now (part .entry))))) (now (to .entry)) (over (plain (now (part .entry))) (now (to .entry))) ⌝ }
+    ensures left { λ _. ⌜ now (to .exit) ≡ putAt (now (to .entry)) 0 (plain (now (part .entry))) ⌝ }
 {
     let n = plain_length(part);
     if to.len() < n {
@@ -141,7 +139,7 @@ pub fn copy_plain(part: &[u8], to: &mut [u8]) -> Copied
 // The copying itself, into a buffer that is long enough.
 fn fill(part: &[u8], to: &mut [u8])
     requires { ⌜ length (plain (now part)) ≤ length (now to) ⌝ }
-    ensures { λ _. ⌜ now (to .exit) ≡ over (plain (now (part .entry))) (now (to .entry)) ⌝ }
+    ensures { λ _. ⌜ now (to .exit) ≡ putAt (now (to .entry)) 0 (plain (now (part .entry))) ⌝ }
 {
     let mut i = 0;
     let mut n = 0;

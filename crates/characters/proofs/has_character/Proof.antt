@@ -8,7 +8,7 @@ use borrow.Author.Needs.{needs}
 use denote.Ref.{now}
 use lib.ListN.{length, drop}
 use Rattle.syntax.specs.Bytes.{plain}
-use Rattle.values.specs.Values.{next-byte, next-done, plain-past, Follows}
+use Rattle.values.specs.Laws.{next-byte, next-done, plain-past, Follows}
 use Rattle.laws.specs.Choice.{among}
 use Rattle.characters.specs.Steps.{found-here, found-goes, found-none}
 use Rattle.characters.proofs.has_character.Statement.{statement}

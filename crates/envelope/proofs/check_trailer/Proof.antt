@@ -7,7 +7,7 @@ use borrow.Author.Tests.{not-true, not-false}
 use denote.Ref.{now}
 use Rattle.syntax.specs.Bytes.{plain}
 use Rattle.parts.specs.Places.{present}
-use Rattle.envelope.specs.Decimal.{decimalOf}
+use Rattle.laws.specs.Decimal.{decimalOf}
 use Rattle.envelope.specs.Envelope.{says, valueOf, trailerOf}
 use borrow.Author.Needs.{needs}
 use Rattle.envelope.proofs.check_trailer.Statement.{statement}

@@ -8,7 +8,7 @@ use denote.Ref.{now}
 use lib.Dec.{eqb}
 use lib.ListN.{length, drop, getD}
 use Rattle.syntax.specs.Bytes.{plain}
-use Rattle.values.specs.Values.{next-byte, next-text, next-done}
+use Rattle.values.specs.Laws.{next-byte, next-text, next-done}
 use Rattle.joining.specs.Joined.{marked}
 use Rattle.joining.specs.Marks.{length-step, mark-starts, mark-step, mark-ends, mark-none, text-here, text-next, text-gone}
 use Rattle.joining.proofs.mark_released.Statement.{statement}

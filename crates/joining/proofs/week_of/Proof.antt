@@ -8,7 +8,7 @@ use borrow.Author.Needs.{needs}
 use denote.Ref.{now}
 use lib.ListN.{length, drop}
 use Rattle.syntax.specs.Bytes.{plain}
-use Rattle.values.specs.Values.{next-byte, next-done, plain-past, Follows}
+use Rattle.values.specs.Laws.{next-byte, next-done, plain-past, Follows}
 use Rattle.joining.specs.Joined.{weekBits}
 use Rattle.joining.specs.Weeks.{week-goes, week-ends}
 use Rattle.joining.proofs.week_of.Statement.{statement}

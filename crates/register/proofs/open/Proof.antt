@@ -6,7 +6,7 @@ use Prim.Native.Nat.{ℕ, _≤_}
 use native.Mathlib.Omega.{arith}
 use lib.ListN.{length}
 use Rattle.laws.specs.Joined.{joined}
-use Rattle.dates.specs.Text.{putAt}
+use Rattle.laws.specs.Put.{putAt}
 use Rattle.dates.specs.Laws.{number-known, number-unknown}
 use Rattle.contents.specs.Written.{twoBytes}
 use Rattle.register.specs.Register.{openedAnswer}

@@ -4,7 +4,7 @@ use mathlib.Core.Path.{_≡_, refl, _∙_}
 use Prim.Native.Nat.{_-_, _≤_}
 use native.Mathlib.Omega.{arith}
 use lib.ListN.{length}
-use Rattle.dates.specs.Text.{putAt}
+use Rattle.laws.specs.Put.{putAt}
 use Rattle.register.specs.Opening.{quota-le, quotasTo, quotas-start, quotas-turn, quotas-end}
 use borrow.Author.Needs.{needs}
 use Rattle.register.proofs.put_quotas.Statement.{statement}

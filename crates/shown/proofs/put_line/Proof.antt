@@ -4,7 +4,7 @@ use mathlib.Core.Path.{_∙_, ap}
 use mathlib.Core.List.{List, _∷_, []}
 use Prim.Native.Nat.{ℕ, _+_}
 use lib.ListN.{length}
-use Rattle.dates.specs.Text.{putAt}
+use Rattle.laws.specs.Put.{putAt}
 use Rattle.calendar.specs.Written.{dayCharacters}
 use Rattle.shown.specs.Laws.{line-put}
 use borrow.Author.Needs.{needs}

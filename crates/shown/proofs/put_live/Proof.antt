@@ -2,7 +2,7 @@
 -- Assumes nothing.
 use native.Mathlib.Omega.{arith}
 use mathlib.Core.Path.{_∙_, ap}
-use Rattle.dates.specs.Text.{putAt}
+use Rattle.laws.specs.Put.{putAt}
 use Rattle.shown.specs.Laws.{live-put-none, live-size, live-is}
 use borrow.Author.Needs.{needs}
 use Rattle.shown.proofs.put_live.Statement.{statement}

@@ -2,7 +2,7 @@
 -- Assumes nothing.
 use native.Mathlib.Omega.{arith}
 use mathlib.Core.Path.{_∙_, ap}
-use Rattle.dates.specs.Text.{putAt}
+use Rattle.laws.specs.Put.{putAt}
 use Rattle.shown.specs.Laws.{pending-put-none, put-size, put-is, del-size, del-is}
 use borrow.Author.Needs.{needs}
 use Rattle.shown.proofs.put_pending.Statement.{statement}

@@ -4,7 +4,7 @@ use mathlib.Core.Path.{_∙_, ap}
 use mathlib.Core.List.{List}
 use Prim.Native.Nat.{ℕ}
 use native.Mathlib.Omega.{arith}
-use Rattle.dates.specs.Text.{putAt}
+use Rattle.laws.specs.Put.{putAt}
 use Rattle.contents.specs.Written.{pendingIn}
 use Rattle.contents.specs.Calls.{pendingLine}
 use Rattle.shown.specs.Laws.{number-ten, live-most, pending-most, shown-short, shown-fits}

@@ -5,7 +5,7 @@ use Prim.Native.Nat.{ℕ}
 use native.Mathlib.Nat.{sub-zero}
 use denote.Ref.{now}
 use lib.ListN.{take}
-use Rattle.dates.specs.Text.{putAt}
+use Rattle.laws.specs.Put.{putAt}
 use borrow.Author.Needs.{needs}
 use Rattle.text.proofs.put_first.Statement.{statement}
 use Rattle.text.proofs.put_first.Tie as tie

@@ -60,7 +60,7 @@ returns c =
     let y = f .before .before in
     let x = y .before .before in
     let b = x .before .before .before .before .before .before in
-    row-put (now (b .args .out)) (f .put-pair .last .0) (now (b .args .rows)) (b .args .i) (f .put-pair .result) (b .pre .1) (f .put-pair .ensures .0 .0) (x .wide .ensures) (y .wide2 .ensures) (f .put-pair .ensures .0 .1) (f .put-pair .ensures .1)
+    row-put (now (b .args .out)) (f .put-pair .last .0) (now (b .args .rows)) (b .args .i) (f .put-pair .result) (b .pre .1) (f .put-pair .ensures .0 .0) (x .wide .ensures .0) (y .wide2 .ensures .0) (f .put-pair .ensures .0 .1) (f .put-pair .ensures .1)
 
 pub put-row-spec : {M : Type 1} → statement M
 put-row-spec =

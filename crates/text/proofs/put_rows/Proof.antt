@@ -7,8 +7,7 @@ use native.Mathlib.Nat.{sub-zero}
 use borrow.Author.Needs.{needs}
 use denote.Ref.{now}
 use lib.ListN.{length, take, drop}
-use Rattle.dates.specs.Text.{putAt}
-use Rattle.dates.specs.Put.{length-put}
+use Rattle.laws.specs.Put.{putAt, length-put}
 use Rattle.text.specs.Text.{rowsText}
 use Rattle.text.specs.Laws.{rows-none, rows-short, rows-length, one-put, all-put}
 use Rattle.text.proofs.put_rows.Statement.{statement}

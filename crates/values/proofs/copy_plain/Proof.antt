@@ -5,6 +5,7 @@ use borrow.Author.Tests.{lt-ltb, le-ltb}
 use denote.Ref.{now}
 use lib.Dec.{ltb}
 use lib.ListN.{length}
+use Rattle.laws.specs.Put.{put-no-room}
 use Rattle.values.specs.declared.Copied.the-variants.{Bytes}
 use Rattle.syntax.specs.Bytes.{plain}
 use borrow.Author.Needs.{needs}
@@ -23,7 +24,7 @@ returns c =
     let a = c .before .before .before .before .args in
     let e = c .before .plain-length .ensures in
     let s : ltb (length (now (a .to))) (length (plain (now (a .part)))) ≡ true = lt-ltb (length (now (a .to))) (length (plain (now (a .part)))) (omega arith) in
-    (rw s, rw s)
+    (rw s, sym (put-no-room (now (a .to)) 0 (plain (now (a .part))) (omega arith)))
 
 fill-requires : tie.Need-fill-requires
 fill-requires c κs = search needs
@@ -37,7 +38,7 @@ returns-2 c =
     let a = p .before .before .before .args in
     let e = p .plain-length .ensures in
     let s : ltb (length (now (a .to))) (length (plain (now (a .part)))) ≡ false = le-ltb (length (now (a .to))) (length (plain (now (a .part)))) (omega arith) in
-    (ap Bytes e ∙ rw s, rw s (c .before .before .fill .ensures))
+    (ap Bytes e ∙ rw s, c .before .before .fill .ensures)
 
 pub copy-plain-spec : {M : Type 1} → statement M
 copy-plain-spec =

@@ -1,4 +1,4 @@
-use Rattle.values.specs.Values.{same-short, same-differs, same-goes, same-over}
+use Rattle.values.specs.Laws.{same-short, same-differs, same-goes, same-over}
 use mathlib.Core.Path.{_≡_, refl, sym, ap, _∙_}
 use mathlib.Core.List.{List}
 use Prim.Native.Nat.{ℕ, _+_, _-_, _≤_}
@@ -8,7 +8,8 @@ use denote.Ref.{now}
 use lib.ListN.{length, drop}
 use Rattle.laws.specs.Lists.{drop-here, drop-past}
 use Rattle.syntax.specs.Bytes.{plain}
-use Rattle.values.specs.Values.{sameText, next-byte, next-done, plain-past, same-here, same-not, same-more, same-end, none-left, Follows}
+use Rattle.values.specs.Values.{sameText}
+use Rattle.values.specs.Laws.{next-byte, next-done, plain-past, same-here, same-not, same-more, same-end, none-left, Follows}
 use Rattle.values.proofs.equals.Statement.{statement}
 use Rattle.values.proofs.equals.Tie as tie
 use Rattle.values.proofs.equals.Reads as reads

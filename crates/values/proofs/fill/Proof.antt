@@ -5,9 +5,9 @@ use native.Mathlib.Omega.{arith}
 use borrow.Author.Needs.{needs}
 use denote.Ref.{now}
 use lib.ListN.{length, drop, length-set}
-use Rattle.laws.specs.Lists.{over, onto, onto-start, onto-done, onto-step}
+use Rattle.laws.specs.Put.{putAt, put-none, put-step}
 use Rattle.syntax.specs.Bytes.{plain}
-use Rattle.values.specs.Values.{next-byte, next-done, plain-past, Follows}
+use Rattle.values.specs.Laws.{next-byte, next-done, plain-past, Follows}
 use Rattle.values.proofs.fill.Statement.{statement}
 use Rattle.values.proofs.fill.Tie as tie
 use Rattle.values.proofs.fill.Reads as reads
@@ -15,7 +15,7 @@ use Rattle.values.proofs.fill.Lts as lts
 use Rattle.values.proofs.next_byte.Reads as next-byte-reads
 
 abbrev Inv-loop : tie.InvT-loop
-Inv-loop part to₀ i₀ n₀ to i n = (length to ≡ length to₀) × (n + length (plain (drop i part)) ≤ length to) × (onto to n (plain (drop i part)) ≡ over (plain part) to₀)
+Inv-loop part to₀ i₀ n₀ to i n = (length to ≡ length to₀) × (n + length (plain (drop i part)) ≤ length to) × (putAt to n (plain (drop i part)) ≡ putAt to₀ 0 (plain part))
 
 abbrev μ-loop : tie.MeasureT-loop
 μ-loop part to₀ i₀ n₀ to i n = length part - i
@@ -42,7 +42,7 @@ module _ (t : tie.After-known-told Inv-loop μ-loop) where
 loop-holds : tie.Need-loop-holds Inv-loop μ-loop
 loop-holds c =
     let p = c .before .before .pre in
-    (refl, omega arith, onto-start (now (c .before .before .args .to)) (plain (now (c .before .before .args .part))))
+    (refl, omega arith, refl)
 
 next-byte-requires : tie.Need-next-byte-requires Inv-loop μ-loop
 next-byte-requires c κs = search needs
@@ -66,8 +66,8 @@ loop-again c =
     let l = own c .loop in (
       simp length-set (l .inv .0),
       simp length-set r,
-      onto-step (l .to) (l .n) (c .before .b .given .0 .0) (plain (drop (c .before .b .given .0 .1 .0) (list c))) (omega arith)
-          ∙ ap (onto (l .to) (l .n)) (sym (f .text)) ∙ l .inv .2,
+      put-step (l .to) (l .n) (c .before .b .given .0 .0) (plain (drop (c .before .b .given .0 .1 .0) (list c))) (omega arith)
+          ∙ ap (putAt (l .to) (l .n)) (sym (f .text)) ∙ l .inv .2,
     )
 
 enum-told : tie.Need-enum-told Inv-loop μ-loop
@@ -81,8 +81,8 @@ returns c =
     let b = c .before .before in
     let o = b .before .before in
     let a = o .before .before .before .args in
-    sym (onto-done (o .loop .to) (o .loop .n))
-    ∙ ap (onto (o .loop .to) (o .loop .n)) (sym (next-done (now (a .part)) (o .loop .i) (sym (b .next-byte .ensures) ∙ c .enum-told .given .1)))
+    sym (put-none (o .loop .to) (o .loop .n))
+    ∙ ap (putAt (o .loop .to) (o .loop .n)) (sym (next-done (now (a .part)) (o .loop .i) (sym (b .next-byte .ensures) ∙ c .enum-told .given .1)))
     ∙ o .loop .inv .2
 
 same-length-2 : tie.Need-same-length-2 Inv-loop μ-loop
@@ -92,7 +92,7 @@ returns-2 : tie.Need-returns-2 Inv-loop μ-loop
 returns-2 c =
     let o = c .before in
     let a = o .before .before .before .args in
-    sym (onto-done (o .loop .to) (o .loop .n)) ∙ ap (onto (o .loop .to) (o .loop .n)) (sym (plain-past (now (a .part)) (o .loop .i) (c .loop-test .left))) ∙ o .loop .inv .2
+    sym (put-none (o .loop .to) (o .loop .n)) ∙ ap (putAt (o .loop .to) (o .loop .n)) (sym (plain-past (now (a .part)) (o .loop .i) (c .loop-test .left))) ∙ o .loop .inv .2
 
 pub fill-spec : {M : Type 1} → statement M
 fill-spec =

@@ -1,6 +1,6 @@
 use native.Mathlib.Omega.{arith}
 use denote.Ref.{now}
-use Rattle.values.specs.Values.{next-past, next-bare, next-none, next-released}
+use Rattle.values.specs.Laws.{next-past, next-bare, next-none, next-released}
 use borrow.Author.Needs.{needs}
 use Rattle.values.proofs.next_byte.Statement.{statement}
 use Rattle.values.proofs.next_byte.Tie as tie

@@ -1,7 +1,8 @@
 use mathlib.Core.Path.{sym, ap, _∙_}
 use denote.Ref.{now}
 use Rattle.laws.specs.Choice.{choose}
-use Rattle.values.specs.Values.{noneLeft, next-done, next-some}
+use Rattle.values.specs.Values.{isEmpty}
+use Rattle.values.specs.Laws.{next-done, next-some}
 use borrow.Author.Needs.{needs}
 use Rattle.values.proofs.none_left.Statement.{statement}
 use Rattle.values.proofs.none_left.Tie as tie
@@ -28,7 +29,7 @@ returns-2 : tie.Need-returns-2
 returns-2 c =
     let b = c .before .before in
     let a = b .before .before .args in
-    sym (ap noneLeft (next-done (now (a .part)) (a .i) (sym (b .next-byte .ensures) ∙ c .enum-told2 .given .1)))
+    sym (ap isEmpty (next-done (now (a .part)) (a .i) (sym (b .next-byte .ensures) ∙ c .enum-told2 .given .1)))
 
 pub none-left-spec : {M : Type 1} → statement M
 none-left-spec = tie.close (tie.spec next-byte-requires enum-told enum-told-2 returns returns-2)

@@ -1,4 +1,4 @@
-use Rattle.values.specs.Values.{Follows}
+use Rattle.values.specs.Laws.{Follows}
 use mathlib.Core.Path.{_≡_, refl, sym, ap, _∙_}
 use mathlib.Core.List.{List}
 use Prim.Native.Nat.{ℕ, _+_, _-_, _≤_}
@@ -7,7 +7,7 @@ use borrow.Author.Needs.{needs}
 use denote.Ref.{now}
 use lib.ListN.{length, drop}
 use Rattle.syntax.specs.Bytes.{plain}
-use Rattle.values.specs.Values.{next-byte, next-done, plain-past}
+use Rattle.values.specs.Laws.{next-byte, next-done, plain-past}
 use Rattle.values.proofs.plain_length.Statement.{statement}
 use Rattle.values.proofs.plain_length.Tie as tie
 use Rattle.values.proofs.plain_length.Reads as reads

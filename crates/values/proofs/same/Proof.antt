@@ -6,7 +6,8 @@ use borrow.Author.Needs.{needs}
 use denote.Ref.{now}
 use lib.ListN.{length, drop}
 use Rattle.syntax.specs.Bytes.{plain}
-use Rattle.values.specs.Values.{sameText, next-byte, next-text, next-done, plain-past, same-short, same-differs, same-goes, same-over, Follows}
+use Rattle.values.specs.Values.{sameText}
+use Rattle.values.specs.Laws.{next-byte, next-text, next-done, plain-past, same-short, same-differs, same-goes, same-over, Follows}
 use Rattle.values.proofs.same.Statement.{statement}
 use Rattle.values.proofs.same.Tie as tie
 use Rattle.values.proofs.same.Reads as reads

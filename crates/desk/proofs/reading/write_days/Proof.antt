@@ -14,7 +14,7 @@ use Rattle.desk.proofs.reading.write_days.Statement.{statement}
 use Rattle.desk.proofs.reading.write_days.Tie as tie
 use Rattle.desk.proofs.reading.write_days.Reads as reads
 use Rattle.desk.proofs.reading.write_days.Lts as lts
-use Rattle.dates.proofs.put_bytes.Reads as put-bytes-reads
+use Rattle.bytes.proofs.put_bytes.Reads as put-bytes-reads
 use Rattle.desk.proofs.done.Reads as done-reads
 use Rattle.desk.proofs.refused.Reads as refused-reads
 use Rattle.service_entries.proofs.days_of.Reads as days-of-reads

@@ -7,11 +7,11 @@ use Prim.Native.Nat.{ℕ, _+_, _-_, _≤_}
 use native.Mathlib.Omega.{arith}
 use denote.Ref.{now}
 use lib.ListN.{length, take, drop, length-set}
-use Rattle.laws.specs.Lists.{onto}
+use Rattle.laws.specs.Put.{putAt}
 use Rattle.interchange.specs.Laws.{copy-start, copy-step, copy-done}
 
 abbrev Inv-loop : tie.InvT-loop
-Inv-loop from n to₀ at i₀ to i = (length to ≡ length to₀) × (n ≤ length from) × (at + n ≤ length to₀) × (onto to (at + i) (take (n - i) (drop i from)) ≡ onto to₀ at (take n from))
+Inv-loop from n to₀ at i₀ to i = (length to ≡ length to₀) × (n ≤ length from) × (at + n ≤ length to₀) × (putAt to (at + i) (take (n - i) (drop i from)) ≡ putAt to₀ at (take n from))
 
 abbrev μ-loop : tie.MeasureT-loop
 μ-loop from n to₀ at i₀ to i = n - i
@@ -45,7 +45,7 @@ loop-again c =
     let o = c .before .before in
     let a = o .before .args in
     let v = o .loop .inv in
-    (simp length-set (v .0), v .1, v .2, copy-step (now (a .from)) (a .n) (a .at) (o .loop .to) (o .loop .i) (c .before .loop-test .taken) (omega arith) (omega arith) ∙ v .3)
+    (simp length-set (v .0), v .1, v .2, copy-step (now (a .from)) (a .n) (a .at) (o .loop .to) (o .loop .i) (c .before .loop-test .taken) (v .1) (omega arith) ∙ v .3)
 
 same-length : tie.Need-same-length Inv-loop μ-loop
 same-length c = c .before .loop .inv .0

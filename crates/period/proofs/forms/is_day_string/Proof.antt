@@ -8,7 +8,7 @@ use borrow.Author.Needs.{needs}
 use denote.Ref.{now}
 use lib.ListN.{length, drop}
 use Rattle.syntax.specs.Bytes.{plain}
-use Rattle.values.specs.Values.{next-byte, next-done, plain-past, Follows}
+use Rattle.values.specs.Laws.{next-byte, next-done, plain-past, Follows}
 use Rattle.period.specs.Period.{dayString}
 use Rattle.period.specs.Steps.{string-longer, string-below, string-above, string-goes, string-ends}
 use Rattle.period.proofs.forms.is_day_string.Statement.{statement}

@@ -5,7 +5,7 @@ use borrow.Author.Needs.{needs}
 use denote.Ref.{now}
 use lib.ListN.{drop}
 use Rattle.syntax.specs.Bytes.{plain}
-use Rattle.values.specs.Values.{next-text, next-done}
+use Rattle.values.specs.Laws.{next-text, next-done}
 use Rattle.period.specs.Steps.{text-present, text-absent}
 use Rattle.period.proofs.forms.is_present.Statement.{statement}
 use Rattle.period.proofs.forms.is_present.Tie as tie

@@ -8,7 +8,7 @@ use borrow.Author.Needs.{needs}
 use denote.Ref.{now}
 use lib.ListN.{length, drop}
 use Rattle.syntax.specs.Bytes.{plain}
-use Rattle.values.specs.Values.{next-byte, next-done, plain-past, Follows}
+use Rattle.values.specs.Laws.{next-byte, next-done, plain-past, Follows}
 use Rattle.period.specs.Period.{rising}
 use Rattle.period.specs.Steps.{rises-not, rises-past, rises-goes, rises-ends}
 use Rattle.period.proofs.forms.is_rising.Statement.{statement}

@@ -9,7 +9,8 @@ use borrow.Author.Needs.{needs}
 use denote.Ref.{now}
 use lib.ListN.{length, drop}
 use Rattle.syntax.specs.Bytes.{plain}
-use Rattle.values.specs.Values.{sameText, next-text, next-done, same-short, same-differs, same-goes, same-over}
+use Rattle.values.specs.Values.{sameText}
+use Rattle.values.specs.Laws.{next-text, next-done, same-short, same-differs, same-goes, same-over}
 use Rattle.services.specs.Marks.{endsComponent, firstBy}
 use Rattle.services.specs.Same.{Goes, goes-byte, goes-done}
 use Rattle.services.proofs.segments.says_same.Statement.{statement}

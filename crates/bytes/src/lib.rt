@@ -1,0 +1,70 @@
+//! Bytes and decimal digits put into a lent buffer, and small numbers as sizes.
+
+ghost use mathlib.Core.Path.{_≡_};
+ghost use Prim.Native.Nat.{_+_, _<_, _≤_};
+ghost use lib.Dec.{leb};
+ghost use lib.ListN.{length, drop};
+ghost use Rattle.laws.specs.Put.{putAt};
+ghost use Rattle.laws.specs.Decimal.{decimalOf};
+
+/// Bytes copied to an offset; where there is no room for all of them, none is. Whether there was room.
+pub fn put_bytes(out: &mut [u8], at: usize, bytes: &[u8]) -> bool
+    ensures { λ r. ⌜ (r ≡ leb (at + length (now (bytes .entry))) (length (now (out .entry)))) × (now (out .exit) ≡ putAt (now (out .entry)) at (now (bytes .entry))) ⌝ }
+{
+    if out.len() < bytes.len() {
+        return false;
+    }
+    if out.len() - bytes.len() < at {
+        return false;
+    }
+    let mut i = 0;
+    while i < bytes.len() {
+        out[at + i] = bytes[i];
+        i += 1;
+    }
+    true
+}
+
+// The bytes from an index on, put at an offset; how many they are.
+fn put_from(out: &mut [u8], at: usize, bytes: &[u8], from: usize) -> usize
+    requires { ⌜ from ≤ length (now bytes) ⌝ }
+    ensures told { λ r. ⌜ r ≡ length (drop from (now (bytes .entry))) ⌝ }
+    ensures left { λ r. ⌜ now (out .exit) ≡ putAt (now (out .entry)) at (drop from (now (bytes .entry))) ⌝ }
+{
+    put_bytes(out, at, &bytes[from..]);
+    bytes.len() - from
+}
+
+/// A number in decimal digits, with no leading zero, put at an offset; how many they are. Where there is no room for all of them, none is
+/// put.
+pub fn put_decimal(out: &mut [u8], at: usize, n: usize) -> usize
+    ensures told { λ r. ⌜ (r ≤ 20) × (r ≡ length (decimalOf n)) ⌝ }
+    ensures left { λ r. ⌜ now (out .exit) ≡ putAt (now (out .entry)) at (decimalOf n) ⌝ }
+{
+    let mut digits = [0u8; 20];
+    let mut from: usize = 20;
+    let mut left = n;
+    while 0 < from {
+        from -= 1;
+        digits[from] = 48 + (left % 10) as u8;
+        if left < 10 {
+            return put_from(out, at, &digits, from);
+        }
+        left /= 10;
+    }
+    put_from(out, at, &digits, 0)
+}
+
+/// A byte as a size.
+pub fn wide_byte(b: u8) -> usize
+    ensures { λ r. ⌜ (r ≡ b) × (r < 256) ⌝ }
+{
+    b as usize
+}
+
+/// A number of 32 bits as a size.
+pub fn wide(n: u32) -> usize
+    ensures { λ r. ⌜ (r ≡ n) × (r < 4294967296) ⌝ }
+{
+    n as usize
+}
