@@ -6,7 +6,7 @@ use mathlib.Core.List.{List, [], _∷_, _++_}
 use Prim.Native.Nat.{ℕ}
 use lib.ListN.{length}
 use Rattle.syntax.specs.Bytes.{permittedOf, plainOn}
-use Rattle.syntax.specs.Pieces.{first, later, partOf}
+use Rattle.syntax.specs.Pieces.{firstPiece, laterPieces, partOf}
 use Rattle.syntax.specs.Segment.{tagged, componentFits, occurrenceFits, elementFits, withinLimits, wellFormed, permittedRun, scanOf}
 use Rattle.parts.specs.Places.{spanOf, countedAt, elementAt}
 use Rattle.values.specs.Values.{sameText}
@@ -19,9 +19,9 @@ use Rattle.placing.specs.Tables.{tables, tableIn}
 use Rattle.laws.specs.Decimal.{decimalOn}
 use Rattle.envelope.specs.Envelope.{uibOf, uihOf, trailerOf}
 use Rattle.answers.specs.Answers.{refused}
-use Rattle.steps.specs.Step.{opening, between, closing, trailing, placed, inside, stepBy}
+use Rattle.steps.specs.Step.{opening, betweenMessages, closing, trailing, placed, insideMessage, stepBy}
 use Rattle.interchange.specs.Reader.{turnAt, readOn, readingOf, numbers}
-use Rattle.acceptance.specs.Interchange.{written, unbroken, isSegment, Interchange, segmentsOf, placesFrom, isMessage, holds, rowsFrom, rowsOf}
+use Rattle.acceptance.specs.Interchange.{segmentsWritten, unbroken, isSegment, Interchange, segmentsOf, placesFrom, isMessage, rulesHold, rowsFrom, rowsOf}
 
 -- `UIB+UNOB:4+7`
 abbrev uib : List ℕ
@@ -51,31 +51,31 @@ uit-four = 85 ∷ 73 ∷ 84 ∷ 43 ∷ 49 ∷ 43 ∷ 52 ∷ []
 abbrev one : List ℕ → Interchange
 one trailer = record { opening = uib; messages = record { heading = tsdupd; within = msd ∷ []; trailer = trailer } ∷ []; closing = uiz }
 
-pub printed : holds (one uit) ≡ true
-unfolding holds isMessage isSegment unbroken placesFrom permittedOf plainOn first later partOf tagged componentFits occurrenceFits elementFits withinLimits wellFormed spanOf countedAt elementAt sameText entryOf afterOf endOf placesOn reachable firstFit inGroup again laterOnes choicesFrom firstOf stepOf skdupdTable tsdupdTable tables tableIn decimalOn uibOf uihOf trailerOf
+pub printed : rulesHold (one uit) ≡ true
+unfolding rulesHold isMessage isSegment unbroken placesFrom permittedOf plainOn firstPiece laterPieces partOf tagged componentFits occurrenceFits elementFits withinLimits wellFormed spanOf countedAt elementAt sameText entryOf afterOf endOf placesOn reachable firstFit inGroup again laterOnes choicesFrom firstOf stepOf skdupdTable tsdupdTable tables tableIn decimalOn uibOf uihOf trailerOf
 printed = refl
 
 -- "63 bytes"
-pub printed-bytes : length (written (segmentsOf (one uit))) ≡ 63
-unfolding written
+pub printed-bytes : length (segmentsWritten (segmentsOf (one uit))) ≡ 63
+unfolding segmentsWritten
 printed-bytes = refl
 
 -- "0 0 UIB, 13 0 UIH, 36 0 MSD, 47 0 UIT, 55 0 UIZ"
 pub printed-rows : numbers (rowsOf (one uit)) ≡ 0 ∷ 0 ∷ UIB ∷ 13 ∷ 0 ∷ UIH ∷ 36 ∷ 0 ∷ MSD ∷ 47 ∷ 0 ∷ UIT ∷ 55 ∷ 0 ∷ UIZ ∷ []
-unfolding holds isMessage isSegment unbroken placesFrom permittedOf plainOn first later partOf tagged componentFits occurrenceFits elementFits withinLimits wellFormed spanOf countedAt elementAt sameText entryOf afterOf endOf placesOn reachable firstFit inGroup again laterOnes choicesFrom firstOf stepOf skdupdTable tsdupdTable tables tableIn decimalOn uibOf uihOf trailerOf rowsFrom numbers
+unfolding rulesHold isMessage isSegment unbroken placesFrom permittedOf plainOn firstPiece laterPieces partOf tagged componentFits occurrenceFits elementFits withinLimits wellFormed spanOf countedAt elementAt sameText entryOf afterOf endOf placesOn reachable firstFit inGroup again laterOnes choicesFrom firstOf stepOf skdupdTable tsdupdTable tables tableIn decimalOn uibOf uihOf trailerOf rowsFrom numbers
 printed-rows = refl
 
 -- "With `UIT+1+4'` it is 7"
-pub printed-four : holds (one uit-four) ≡ false
-unfolding holds isMessage isSegment unbroken placesFrom permittedOf plainOn first later partOf tagged componentFits occurrenceFits elementFits withinLimits wellFormed spanOf countedAt elementAt sameText entryOf afterOf endOf placesOn reachable firstFit inGroup again laterOnes choicesFrom firstOf stepOf skdupdTable tsdupdTable tables tableIn decimalOn uibOf uihOf trailerOf
+pub printed-four : rulesHold (one uit-four) ≡ false
+unfolding rulesHold isMessage isSegment unbroken placesFrom permittedOf plainOn firstPiece laterPieces partOf tagged componentFits occurrenceFits elementFits withinLimits wellFormed spanOf countedAt elementAt sameText entryOf afterOf endOf placesOn reachable firstFit inGroup again laterOnes choicesFrom firstOf stepOf skdupdTable tsdupdTable tables tableIn decimalOn uibOf uihOf trailerOf
 printed-four = refl
 
 -- "With `UIT+1+4'` it is 7 at 47."
-pub refused-four : readingOf (written (segmentsOf (one uit-four))) .verdict ≡ refused 7 47
-unfolding written permittedOf plainOn first later partOf tagged componentFits occurrenceFits elementFits withinLimits wellFormed scanOf permittedRun spanOf countedAt elementAt sameText entryOf afterOf endOf placesOn reachable firstFit inGroup again laterOnes choicesFrom firstOf stepOf skdupdTable tsdupdTable tables tableIn decimalOn uibOf uihOf trailerOf opening between closing trailing placed inside stepBy turnAt readOn readingOf
+pub refused-four : readingOf (segmentsWritten (segmentsOf (one uit-four))) .verdict ≡ refused 7 47
+unfolding segmentsWritten permittedOf plainOn firstPiece laterPieces partOf tagged componentFits occurrenceFits elementFits withinLimits wellFormed scanOf permittedRun spanOf countedAt elementAt sameText entryOf afterOf endOf placesOn reachable firstFit inGroup again laterOnes choicesFrom firstOf stepOf skdupdTable tsdupdTable tables tableIn decimalOn uibOf uihOf trailerOf opening betweenMessages closing trailing placed insideMessage stepBy turnAt readOn readingOf
 refused-four = refl
 
 -- "A newline added at the end is 7 at 63."
-pub refused-newline : readingOf (written (segmentsOf (one uit)) ++ (10 ∷ [])) .verdict ≡ refused 7 63
-unfolding written permittedOf plainOn first later partOf tagged componentFits occurrenceFits elementFits withinLimits wellFormed scanOf permittedRun spanOf countedAt elementAt sameText entryOf afterOf endOf placesOn reachable firstFit inGroup again laterOnes choicesFrom firstOf stepOf skdupdTable tsdupdTable tables tableIn decimalOn uibOf uihOf trailerOf opening between closing trailing placed inside stepBy turnAt readOn readingOf
+pub refused-newline : readingOf (segmentsWritten (segmentsOf (one uit)) ++ (10 ∷ [])) .verdict ≡ refused 7 63
+unfolding segmentsWritten permittedOf plainOn firstPiece laterPieces partOf tagged componentFits occurrenceFits elementFits withinLimits wellFormed scanOf permittedRun spanOf countedAt elementAt sameText entryOf afterOf endOf placesOn reachable firstFit inGroup again laterOnes choicesFrom firstOf stepOf skdupdTable tsdupdTable tables tableIn decimalOn uibOf uihOf trailerOf opening betweenMessages closing trailing placed insideMessage stepBy turnAt readOn readingOf
 refused-newline = refl

@@ -24,15 +24,13 @@ use Rattle.envelope.specs.declared.Opened.the-variants as opened
 use Rattle.envelope.specs.declared.Headed.{Headed}
 use Rattle.envelope.specs.declared.Headed.the-variants as headed
 use Rattle.envelope.specs.Envelope.{valueOf, uibOf, uihOf, uitOf, uizOf}
-use Rattle.period.specs.declared.Period.{Period}
-use Rattle.period.specs.declared.Period.the-variants as period
-use Rattle.period.specs.Period.{periodOf}
+use Rattle.period.specs.Period.{isGood, periodOf}
 use Rattle.steps.specs.declared.state.Row.{Row}
 
 -- "A segment is a tag .., then elements, then the terminator." Some segments, one after the other.
-unfoldable pub written : List (List ℕ) → List ℕ
-written [] = []
-written (g ∷ gs) = g ++ (terminator ∷ written gs)
+unfoldable pub segmentsWritten : List (List ℕ) → List ℕ
+segmentsWritten [] = []
+segmentsWritten (g ∷ gs) = g ++ (terminator ∷ segmentsWritten gs)
 
 -- "`?` makes the next byte plain text, whichever it is." No byte of a segment stands as the terminator, and its last byte does
 -- not release the one that follows it; r says whether its first byte is released.
@@ -84,8 +82,8 @@ typeIn (headed.Message m p) = m
 typeIn headed.Missing = Skdupd
 typeIn headed.Unknown = Skdupd
 
-abbrev pub typeOf : Message → MessageType
-typeOf m = typeIn (uihOf (m .heading))
+abbrev pub messageTypeOf : Message → MessageType
+messageTypeOf m = typeIn (uihOf (m .heading))
 
 -- "the dialogue reference of UIB", "the reference 0340" of UIH: the first component of the second element
 abbrev pub referenceIn : List ℕ → List ℕ
@@ -110,10 +108,6 @@ groupIn t (Placed p) = groupOf t p
 groupIn t OutOfPlace = 0
 
 -- "POP in group 4 of SKDUPD: ..": its contents are those of a period. "POP in other places is placed and not read."
-abbrev pub isGood : Period → Bool
-isGood (period.Good first days form) = true
-isGood (period.Wrong x) = false
-
 abbrev pub goodContents : MessageType → List ℕ × Stepped → Bool
 goodContents message e = pick (isPeriod message (tagNumber (e .0)) (groupIn (tableOf message) (e .1))) (isGood (periodOf (e .0))) true
 
@@ -124,17 +118,17 @@ isTrailer g = eqb (tagNumber g) UIT
 abbrev pub goesBefore : List ℕ → Bool
 goesBefore g = not (isTrailer g)
 
-abbrev pub places : Message → List (List ℕ × Stepped)
-places m = placesFrom (tableOf (typeOf m)) (Placed startPlace) (m .within ++ (m .trailer ∷ []))
+abbrev pub placedSegments : Message → List (List ℕ × Stepped)
+placedSegments m = placesFrom (tableOf (messageTypeOf m)) (Placed startPlace) (m .within ++ (m .trailer ∷ []))
 
 abbrev pub goodHeading : Message → Bool
 goodHeading m = both (eqb (tagNumber (m .heading)) UIH) (known (uihOf (m .heading)))
 
 abbrev pub goodPlaces : Message → Bool
-goodPlaces m = both (all goesBefore (m .within)) (all hasPlace (places m))
+goodPlaces m = both (all goesBefore (m .within)) (all hasPlace (placedSegments m))
 
 abbrev pub goodPeriods : Message → Bool
-goodPeriods m = all (goodContents (typeOf m)) (placesFrom (tableOf (typeOf m)) (Placed startPlace) (m .within))
+goodPeriods m = all (goodContents (messageTypeOf m)) (placesFrom (tableOf (messageTypeOf m)) (Placed startPlace) (m .within))
 
 -- "UIT repeats 0340 and gives the number of segments, UIH and UIT included."
 abbrev pub goodTrailer : Message → Bool
@@ -151,8 +145,8 @@ abbrev pub goodClosing : List ℕ → List ℕ → ℕ → Bool
 goodClosing g dialogue messages = both (isSegment g) (both (eqb (tagNumber g) UIZ) (uizOf g dialogue messages))
 
 -- the rules of document 01
-unfoldable pub holds : Interchange → Bool
-holds x =
+unfoldable pub rulesHold : Interchange → Bool
+rulesHold x =
     both (goodOpening (x .opening))
     (both (ltb 0 (length (x .messages)))
     (both (all isMessage (x .messages))
@@ -161,8 +155,8 @@ holds x =
 -- a text is an interchange
 pub record IsInterchange (s : List ℕ) : Type 0 where
   pub parts : Interchange
-  pub text : s ≡ written (segmentsOf parts)
-  pub rules : holds parts ≡ true
+  pub text : s ≡ segmentsWritten (segmentsOf parts)
+  pub rules : rulesHold parts ≡ true
   pub some : 1 ≤ length s
   pub fits : length s ≤ 60000
 
@@ -171,7 +165,7 @@ abbrev pub withGroup : Table → List ℕ × Stepped → List ℕ × ℕ
 withGroup t e = (e .0, groupIn t (e .1))
 
 abbrev pub groupsIn : Message → List (List ℕ × ℕ)
-groupsIn m = (m .heading, 0) ∷ map (withGroup (tableOf (typeOf m))) (places m)
+groupsIn m = (m .heading, 0) ∷ map (withGroup (tableOf (messageTypeOf m))) (placedSegments m)
 
 unfoldable pub rowsFrom : ℕ → List (List ℕ × ℕ) → List Row
 rowsFrom at [] = []

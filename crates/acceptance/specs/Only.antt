@@ -32,8 +32,8 @@ use Rattle.steps.specs.declared.state.State.{State}
 use Rattle.steps.specs.declared.state.Row.{Row}
 use Rattle.steps.specs.Step.{Taken, taken}
 use Rattle.steps.specs.State.{openingState, openedState, headedState, onwardState, endedState, closedState}
-use Rattle.interchange.specs.Reader.{accepted, isClosed, dialogueOf, referenceOf, turnStep, turnScan, turnAt, afterTurn, readOn, sized, readingOf}
-use Rattle.acceptance.specs.Interchange.{written, Message, segmentsIn, Interchange, eachOf, names, known, typeIn, referenceIn, goodContents, isTrailer, isMessage, goodClosing, IsInterchange}
+use Rattle.interchange.specs.Reader.{accepted, isClosed, dialogueOf, headedReference, turnStep, turnScan, turnAt, afterTurn, readOn, wrongSize, readingOf}
+use Rattle.acceptance.specs.Interchange.{segmentsWritten, Message, segmentsIn, Interchange, eachOf, names, known, typeIn, referenceIn, goodContents, isTrailer, isMessage, goodClosing, IsInterchange}
 use Rattle.acceptance.specs.Segments.{Cut, cut-at}
 use Rattle.acceptance.specs.Onward.{stepAt}
 use Rattle.acceptance.specs.Steps.{Opens, opens, Follows, heads, closes, follows, Moves, onward, ends, moves}
@@ -83,7 +83,7 @@ module _ (f : ℕ) (s : List ℕ) (st : State) (at : ℕ) where
 pub record Ending (s : List ℕ) (at : ℕ) (d : List ℕ) (n : ℕ) : Type 0 where
   pub messages : List Message
   pub closing : List ℕ
-  pub text : drop at s ≡ written (eachOf segmentsIn messages ++ (closing ∷ []))
+  pub text : drop at s ≡ segmentsWritten (eachOf segmentsIn messages ++ (closing ∷ []))
   pub good : all isMessage messages ≡ true
   pub some : 0 < n + length messages
   pub closes : goodClosing closing d (n + length messages) ≡ true
@@ -95,24 +95,24 @@ pub record Going (s : List ℕ) (at : ℕ) (d : List ℕ) (n : ℕ) (k : Message
   pub held : Within k p c r within trailer
   pub then : ℕ
   pub ending : Ending s then d (n + 1)
-  pub text : drop at s ≡ written (within ++ (trailer ∷ (eachOf segmentsIn (ending .messages) ++ (ending .closing ∷ []))))
+  pub text : drop at s ≡ segmentsWritten (within ++ (trailer ∷ (eachOf segmentsIn (ending .messages) ++ (ending .closing ∷ []))))
 
 -- a segment and its terminator before the others; a message before the others
-text-front : {a b : List ℕ} (g : List ℕ) (gs : List (List ℕ)) → a ≡ g ++ (39 ∷ b) → b ≡ written gs → a ≡ written (g ∷ gs)
-unfolding written
+text-front : {a b : List ℕ} (g : List ℕ) (gs : List (List ℕ)) → a ≡ g ++ (39 ∷ b) → b ≡ segmentsWritten gs → a ≡ segmentsWritten (g ∷ gs)
+unfolding segmentsWritten
 text-front g gs e q = e ∙ ap (λ (x : List ℕ). g ++ (39 ∷ x)) q
 
 message-text : {a b : List ℕ} (g : List ℕ) (gs : List (List ℕ)) (t : List ℕ) (ms : List Message) (c : List ℕ) → a ≡ g ++ (39 ∷ b)
-    → b ≡ written (gs ++ (t ∷ (eachOf segmentsIn ms ++ (c ∷ []))))
-    → a ≡ written (eachOf segmentsIn (record { heading = g; within = gs; trailer = t } ∷ ms) ++ (c ∷ []))
+    → b ≡ segmentsWritten (gs ++ (t ∷ (eachOf segmentsIn ms ++ (c ∷ []))))
+    → a ≡ segmentsWritten (eachOf segmentsIn (record { heading = g; within = gs; trailer = t } ∷ ms) ++ (c ∷ []))
 message-text g gs t ms c e q =
     text-front g (gs ++ (t ∷ (eachOf segmentsIn ms ++ (c ∷ [])))) e q
-    ∙ ap (λ (x : List (List ℕ)). written (g ∷ x)) (sym (regroup gs t (eachOf segmentsIn ms) (c ∷ [])))
+    ∙ ap (λ (x : List (List ℕ)). segmentsWritten (g ∷ x)) (sym (regroup gs t (eachOf segmentsIn ms) (c ∷ [])))
 
 abbrev Stands : Phase → List ℕ → State → ℕ → Type 0
 Stands Opening s st at = Unit {0}
 Stands Between s st at = Ending s at (dialogueOf s st) (st .messages)
-Stands Inside s st at = Going s at (dialogueOf s st) (st .messages) (st .message) (st .place) (st .segments) (referenceOf s st)
+Stands Inside s st at = Going s at (dialogueOf s st) (st .messages) (st .message) (st .place) (st .segments) (headedReference s st)
 Stands Closed s st at = length s ≤ at
 
 module _ (s : List ℕ) (small : length s ≤ 60000) where
@@ -126,7 +126,7 @@ module _ (s : List ℕ) (small : length s ≤ 60000) where
 
     -- a UIH before what follows it
     heads-ending : (x : Further f s st at) (k : MessageType) (p : Part) → eqb (tagNumber (x .body)) UIH ≡ true → uihOf (x .body) ≡ headed.Message k p
-        → Going s (at + length (x .body) + 1) (dialogueOf s st) (st .messages) k startPlace 1 (referenceOf s (headedState st at k p)) → Ending s at (dialogueOf s st) (st .messages)
+        → Going s (at + length (x .body) + 1) (dialogueOf s st) (st .messages) k startPlace 1 (headedReference s (headedState st at k p)) → Ending s at (dialogueOf s st) (st .messages)
     heads-ending x k p t e w =
         let c = x .cut in
         let r = reference-is s st at (x .body) (drop (at + length (x .body) + 1) s) k p (c .text) e in
@@ -154,7 +154,7 @@ module _ (s : List ℕ) (small : length s ≤ 60000) where
     -- the UIZ with nothing after
     closes-ending : (x : Further f s st at) → eqb (tagNumber (x .body)) UIZ ≡ true → ltb 0 (st .messages) ≡ true → uizOf (x .body) (dialogueOf s st) (st .messages) ≡ true
         → length s ≤ at + length (x .body) + 1 → Ending s at (dialogueOf s st) (st .messages)
-    unfolding written
+    unfolding segmentsWritten
     closes-ending x t z u w =
         let c = x .cut in
         let n : st .messages + 0 ≡ st .messages = omega arith in
@@ -175,7 +175,7 @@ module _ (s : List ℕ) (small : length s ≤ 60000) where
 
     -- a segment of the message before the others
     abbrev GoingAt : ℕ → Place → ℕ → Type 0
-    GoingAt then p c = Going s then (dialogueOf s st) (st .messages) (st .message) p c (referenceOf s st)
+    GoingAt then p c = Going s then (dialogueOf s st) (st .messages) (st .message) p c (headedReference s st)
 
     onward-going : (x : Further f s st at) (p : Place) → stepOf (tableOf (st .message)) (st .place) (tagNumber (x .body)) ≡ Placed p → isTrailer (x .body) ≡ false
         → goodContents (st .message) (x .body, Placed p) ≡ true → GoingAt (at + length (x .body) + 1) p (st .segments + 1) → GoingAt at (st .place) (st .segments)
@@ -183,7 +183,7 @@ module _ (s : List ℕ) (small : length s ≤ 60000) where
         record {
           within = x .body ∷ w .within;
           trailer = w .trailer;
-          held = from-front (st .message) (st .place) (st .segments) (referenceOf s st) (w .trailer) (x .body) (w .within)
+          held = from-front (st .message) (st .place) (st .segments) (headedReference s st) (w .trailer) (x .body) (w .within)
               (record { segment = x .cut .segment; place = p; fits = e; inner = t; contents = u; rest = w .held });
           then = w .then;
           ending = w .ending;
@@ -192,12 +192,12 @@ module _ (s : List ℕ) (small : length s ≤ 60000) where
 
     -- the UIT before what follows the message
     ends-going : (x : Further f s st at) (p : Place) → stepOf (tableOf (st .message)) (st .place) (tagNumber (x .body)) ≡ Placed p → isTrailer (x .body) ≡ true
-        → uitOf (x .body) (referenceOf s st) (st .segments + 1) ≡ true → Ending s (at + length (x .body) + 1) (dialogueOf s st) (st .messages + 1) → GoingAt at (st .place) (st .segments)
+        → uitOf (x .body) (headedReference s st) (st .segments + 1) ≡ true → Ending s (at + length (x .body) + 1) (dialogueOf s st) (st .messages + 1) → GoingAt at (st .place) (st .segments)
     ends-going x p e t u w =
         record {
           within = [];
           trailer = x .body;
-          held = from-last (st .message) (st .place) (st .segments) (referenceOf s st) (x .body)
+          held = from-last (st .message) (st .place) (st .segments) (headedReference s st) (x .body)
               (record { segment = x .cut .segment; place = p; fits = e; trailer = t; counted = u });
           then = at + length (x .body) + 1;
           ending = w;
@@ -215,7 +215,7 @@ module _ (s : List ℕ) (small : length s ≤ 60000) where
         let i = x .cut .fits in
         let o = one-more (st .segments) (omega arith) in
         let m = one-more (st .messages) (omega arith) in
-        ends-going x p e t (ap (uitOf (x .body) (referenceOf s st)) (sym o) ∙ u)
+        ends-going x p e t (ap (uitOf (x .body) (headedReference s st)) (sym o) ∙ u)
         (subst (λ (y : ℕ). Ending s (at + length (x .body) + 1) (dialogueOf s st) y) m
         (found (endedState st p) (at + length (x .body) + 1) (subst (λ (y : ℕ). y ≤ at + length (x .body) + 1) (sym m) (omega arith)) (subst (λ (y : ℕ). y ≤ at + length (x .body) + 1) (sym o) (omega arith)) (after x (endedState st p) q)))
 
@@ -232,7 +232,7 @@ module _ (s : List ℕ) (small : length s ≤ 60000) where
 
   -- from the first byte on
   found-whole : 1 ≤ length s → (x : Further (length s) s openingState 0) → Opens s openingState 0 (x .body) (x .next) (x .row) → IsInterchange s
-  unfolding written
+  unfolding segmentsWritten
   found-whole some x o =
       let c = x .cut in
       let q = subst (λ (y : State). Accepts (length s) s y (0 + length (x .body) + 1)) (o .state) (x .rest) in
@@ -266,7 +266,7 @@ module _ (s : List ℕ) (small : length s ≤ 60000) where
 pub accepted-is : (s : List ℕ) → readingOf s .verdict ≡ accepted → IsInterchange s
 unfolding readingOf
 accepted-is s q =
-    choose (sized s) (λ z. absurd (refused≢done (rw z at q)))
+    choose (wrongSize s) (λ z. absurd (refused≢done (rw z at q)))
     (λ z.
     let u = either-parts (eqb (length s) 0) (ltb 60000 (length s)) z in
     let a = eqb-false (length s) 0 (u .0) in

@@ -15,22 +15,22 @@ use Rattle.steps.specs.declared.state.Phase.the-variants.{Opening, Between, Ins
 use Rattle.steps.specs.declared.state.State.{State}
 use Rattle.steps.specs.declared.state.Row.{Row}
 use Rattle.steps.specs.Step.{Taken, taken, stepBy, segmentStep}
-use Rattle.interchange.specs.Reader.{Outcome, before, isClosed, dialogueOf, referenceOf, turnStep, turnAt, afterTurn, readOn}
+use Rattle.interchange.specs.Reader.{Outcome, before, isClosed, dialogueOf, headedReference, turnStep, turnAt, afterTurn, readOn}
 use Rattle.interchange.specs.Laws.{read-on}
 use Rattle.interchange.specs.Turns.{turn-is}
-use Rattle.acceptance.specs.Interchange.{written, isSegment}
+use Rattle.acceptance.specs.Interchange.{segmentsWritten, isSegment}
 use Rattle.acceptance.specs.Segments.{segment-fits, after-segment, body-is, segment-is}
 
 -- the step of a segment g at an offset of the text s
 abbrev pub stepAt : List ℕ → State → ℕ → List ℕ → Answer Taken
-stepAt s st at g = segmentStep tables st at g (dialogueOf s st) (referenceOf s st)
+stepAt s st at g = segmentStep tables st at g (dialogueOf s st) (headedReference s st)
 
 -- no segment follows the UIZ
 pub next-open : (s : List ℕ) (st : State) (at : ℕ) (g : List ℕ) (next : State) (r : Row) → stepAt s st at g ≡ done (taken next r) → isClosed (st .phase) ≡ false
 unfolding stepBy
 next-open s st at g next r q = by-phase (st .phase) q
   where
-    by-phase : (f : Phase) → stepBy tables f st at g (dialogueOf s st) (referenceOf s st) ≡ done (taken next r) → isClosed f ≡ false
+    by-phase : (f : Phase) → stepBy tables f st at g (dialogueOf s st) (headedReference s st) ≡ done (taken next r) → isClosed f ≡ false
     by-phase Opening e = refl
     by-phase Between e = refl
     by-phase Inside e = refl
@@ -63,23 +63,23 @@ precede (r ∷ rs) o = before r (precede rs o)
 
 -- the text that the segments end before
 pub goes-past : (s : List ℕ) {st last : State} {at end : ℕ} {gs : List (List ℕ)} {rs : List Row} (rest : List ℕ) → Goes s st at gs rs last end
-    → drop at s ≡ written gs ++ rest → drop end s ≡ rest
-unfolding written
+    → drop at s ≡ segmentsWritten gs ++ rest → drop end s ≡ rest
+unfolding segmentsWritten
 goes-past s rest none e = e
 goes-past s rest (more {at = at} {g = g} {gs = gs} ok q go) e =
-    goes-past s rest go (after-segment s at g (written gs ++ rest) (e ∙ append-assoc g (39 ∷ written gs) rest))
+    goes-past s rest go (after-segment s at g (segmentsWritten gs ++ rest) (e ∙ append-assoc g (39 ∷ segmentsWritten gs) rest))
 
 pub reading-goes-on : (f : ℕ) (s : List ℕ) {st last : State} {at end : ℕ} {gs : List (List ℕ)} {rs : List Row} (rest : List ℕ) → Goes s st at gs rs last end
-    → drop at s ≡ written gs ++ rest → length s < at + f → readOn f s st at ≡ precede rs (readOn (f - length gs) s last end)
-unfolding written
+    → drop at s ≡ segmentsWritten gs ++ rest → length s < at + f → readOn f s st at ≡ precede rs (readOn (f - length gs) s last end)
+unfolding segmentsWritten
 reading-goes-on f s rest (none {st = st} {at = at}) e h =
     let z : f ≡ f - 0 = omega arith in
     ap (λ (x : ℕ). readOn x s st at) z
 reading-goes-on f s rest (more {st = st} {next = next} {last = last} {at = at} {end = end} {g = g} {gs = gs} {r = r} {rs = rs} ok q go) e h =
-    let w = e ∙ append-assoc g (39 ∷ written gs) rest in
-    let n = segment-fits s at g (written gs ++ rest) w in
+    let w = e ∙ append-assoc g (39 ∷ segmentsWritten gs) rest in
+    let n = segment-fits s at g (segmentsWritten gs ++ rest) w in
     let z : f - 1 - length gs ≡ f - suc (length gs) = omega arith in
-    read-one s st at g (written gs ++ rest) w ok next r q f h
+    read-one s st at g (segmentsWritten gs ++ rest) w ok next r q f h
     ∙ ap (before r)
-    (reading-goes-on (f - 1) s rest go (after-segment s at g (written gs ++ rest) w) (omega arith)
+    (reading-goes-on (f - 1) s rest go (after-segment s at g (segmentsWritten gs ++ rest) w) (omega arith)
     ∙ ap (λ (x : ℕ). precede rs (readOn x s last end)) z)

@@ -9,11 +9,11 @@ use lib.Dec.{eqb}
 use lib.ListN.{length, drop}
 use borrow.Author.Tests.{not-true, eqb-true}
 use Rattle.laws.specs.Choice.{both, all, both-parts, false≢true}
-use Rattle.syntax.specs.Pieces.{first}
+use Rattle.syntax.specs.Pieces.{firstPiece}
 use Rattle.syntax.specs.Segment.{tagNumber}
 use Rattle.messages.specs.Tags.{UIH, UIZ}
 use Rattle.envelope.specs.Envelope.{uizOf}
-use Rattle.acceptance.specs.Interchange.{written, isSegment, Message, segmentsIn, Interchange, eachOf, segmentsOf, isTrailer, goesBefore, isMessage, referenceIn, holds}
+use Rattle.acceptance.specs.Interchange.{segmentsWritten, isSegment, Message, segmentsIn, Interchange, eachOf, segmentsOf, isTrailer, goesBefore, isMessage, referenceIn, rulesHold}
 use Rattle.acceptance.specs.Segments.{segment-parts, first-whole, segment-fits, after-segment}
 use Rattle.acceptance.specs.Within.{to-parts}
 use Rattle.acceptance.specs.When.{regroup, to-rules}
@@ -30,25 +30,25 @@ module _ {A : Type 0} where
   none≢some a l e = let n = ap length e in omega arith
 
 -- the same text has the same segments
-pub same-segments : (gs hs : List (List ℕ)) → all isSegment gs ≡ true → all isSegment hs ≡ true → written gs ≡ written hs → gs ≡ hs
-unfolding written
+pub same-segments : (gs hs : List (List ℕ)) → all isSegment gs ≡ true → all isSegment hs ≡ true → segmentsWritten gs ≡ segmentsWritten hs → gs ≡ hs
+unfolding segmentsWritten
 same-segments [] [] p q e = refl
 same-segments [] (h ∷ hs) p q e =
-    let n = segment-fits [] 0 h (written hs) e in
+    let n = segment-fits [] 0 h (segmentsWritten hs) e in
     absurd (omega arith)
 same-segments (g ∷ gs) [] p q e =
-    let n = segment-fits [] 0 g (written gs) (sym e) in
+    let n = segment-fits [] 0 g (segmentsWritten gs) (sym e) in
     absurd (omega arith)
 same-segments (g ∷ gs) (h ∷ hs) p q e =
     let u = both-parts (isSegment g) (all isSegment gs) p in
     let v = both-parts (isSegment h) (all isSegment hs) q in
     let a : g ≡ h =
-    sym (first-whole false g (written gs) (segment-parts g (u .0) .0)) ∙ ap (first 39 false) e ∙ first-whole false h (written hs) (segment-parts h (v .0) .0) in
+    sym (first-whole false g (segmentsWritten gs) (segment-parts g (u .0) .0)) ∙ ap (firstPiece 39 false) e ∙ first-whole false h (segmentsWritten hs) (segment-parts h (v .0) .0) in
     let n : 0 + length g + 1 ≡ 0 + length h + 1 = ap (λ (x : List ℕ). 0 + length x + 1) a in
-    let b : written gs ≡ written hs =
-    sym (after-segment (g ++ (39 ∷ written gs)) 0 g (written gs) refl)
-    ∙ ap (λ (x : ℕ). drop x (g ++ (39 ∷ written gs))) n
-    ∙ after-segment (g ++ (39 ∷ written gs)) 0 h (written hs) e in
+    let b : segmentsWritten gs ≡ segmentsWritten hs =
+    sym (after-segment (g ++ (39 ∷ segmentsWritten gs)) 0 g (segmentsWritten gs) refl)
+    ∙ ap (λ (x : ℕ). drop x (g ++ (39 ∷ segmentsWritten gs))) n
+    ∙ after-segment (g ++ (39 ∷ segmentsWritten gs)) 0 h (segmentsWritten hs) e in
     ap (λ (x : List ℕ). x ∷ gs) a ∙ ap (λ (x : List (List ℕ)). h ∷ x) (same-segments gs hs (u .1) (v .1) b)
 
 -- the same segments have the same UIT at the end of a message
@@ -136,7 +136,7 @@ messages-segments (m ∷ ms) p =
     let a = to-parts m (u .0) in
     all-append (segmentsIn m) (eachOf segmentsIn ms) (rw (a .segment) (a .rest .segments)) (messages-segments ms (u .1))
 
-module _ (x : Interchange) (h : holds x ≡ true) where
+module _ (x : Interchange) (h : rulesHold x ≡ true) where
   abbrev n : ℕ
   n = length (x .messages)
 
@@ -152,7 +152,7 @@ module _ (x : Interchange) (h : holds x ≡ true) where
       let r = to-rules x h in
       rw (r .segment) (all-append (eachOf segmentsIn (x .messages)) (x .closing ∷ []) (messages-segments (x .messages) (r .messages)) (rw (closing-parts .0)))
 
-pub same-parts : (x y : Interchange) → holds x ≡ true → holds y ≡ true → written (segmentsOf x) ≡ written (segmentsOf y) → x ≡ y
+pub same-parts : (x y : Interchange) → rulesHold x ≡ true → rulesHold y ≡ true → segmentsWritten (segmentsOf x) ≡ segmentsWritten (segmentsOf y) → x ≡ y
 same-parts x y h k e =
     let s = same-segments (segmentsOf x) (segmentsOf y) (all-segments x h) (all-segments y k) e in
     let o = first-same (x .opening) (y .opening) (eachOf segmentsIn (x .messages) ++ (x .closing ∷ [])) (eachOf segmentsIn (y .messages) ++ (y .closing ∷ [])) s in

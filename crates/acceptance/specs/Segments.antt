@@ -11,7 +11,7 @@ use lib.Seq.{drop-drop, drop-append-add}
 use borrow.Author.Tests.{not-true, lt-ltb, eqb-true}
 use Rattle.laws.specs.Choice.{both, all, choose, both-parts, false≢true}
 use Rattle.syntax.specs.Bytes.{permittedOf, releases, stands}
-use Rattle.syntax.specs.Pieces.{first}
+use Rattle.syntax.specs.Pieces.{firstPiece}
 use Rattle.syntax.specs.Segment.{bodyAt, wellFormed, scanOf, segmentAt}
 use Rattle.syntax.specs.Ends.{ended, end-within}
 use Rattle.syntax.specs.declared.segment.Scanned.the-variants.{End}
@@ -26,8 +26,8 @@ segment-parts g q =
     (a .0, b .0, b .1)
 
 -- a segment before its terminator is what is read up to there
-pub first-whole : (r : Bool) (g rest : List ℕ) → unbroken r g ≡ true → first 39 r (g ++ (39 ∷ rest)) ≡ g
-unfolding first unbroken
+pub first-whole : (r : Bool) (g rest : List ℕ) → unbroken r g ≡ true → firstPiece 39 r (g ++ (39 ∷ rest)) ≡ g
+unfolding firstPiece unbroken
 first-whole true [] rest u = absurd (false≢true u)
 first-whole false [] rest u = refl
 first-whole r (b ∷ g) rest u =
@@ -42,8 +42,8 @@ stands-is false b q = (refl, eqb-true b 39 q)
 abbrev Cuts : Bool → List ℕ → List ℕ → Type 0
 Cuts r l g = (unbroken r g ≡ true) × (l ≡ g ++ (39 ∷ drop (suc (length g)) l))
 
-first-cuts : (r : Bool) (l : List ℕ) → length (first 39 r l) < length l → Cuts r l (first 39 r l)
-unfolding first unbroken
+first-cuts : (r : Bool) (l : List ℕ) → length (firstPiece 39 r l) < length l → Cuts r l (firstPiece 39 r l)
+unfolding firstPiece unbroken
 first-cuts r [] h = absurd (not-suc-le-zero h)
 first-cuts r (b ∷ l) h =
     choose (stands 39 r b) (λ q. let w = stands-is r b q in rw q (w .0, ap (λ (x : ℕ). x ∷ l) (w .1)))
@@ -67,7 +67,7 @@ module _ (s : List ℕ) (at : ℕ) (g rest : List ℕ) (e : drop at s ≡ g ++ (
 
   module _ (ok : isSegment g ≡ true) where
     pub body-is : bodyAt s at ≡ g
-    body-is = ap (first 39 false) e ∙ first-whole false g rest (segment-parts g ok .0)
+    body-is = ap (firstPiece 39 false) e ∙ first-whole false g rest (segment-parts g ok .0)
 
     pub segment-is : segmentAt s at ≡ End (at + length g)
     unfolding scanOf

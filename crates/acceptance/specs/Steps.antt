@@ -25,15 +25,15 @@ use Rattle.envelope.specs.declared.Headed.the-variants.{Message, Missing, Unkno
 use Rattle.envelope.specs.Envelope.{uibOf, uihOf, uitOf, uizOf}
 use Rattle.period.specs.declared.Period.{Period}
 use Rattle.period.specs.declared.Period.the-variants as period
-use Rattle.period.specs.Period.{periodOf}
+use Rattle.period.specs.Period.{isGood, periodOf}
 use Rattle.steps.specs.declared.state.Phase.{Phase}
 use Rattle.steps.specs.declared.state.Phase.the-variants.{Opening, Between, Inside}
 use Rattle.steps.specs.declared.state.State.{State}
 use Rattle.steps.specs.declared.state.Row.{Row}
 use Rattle.steps.specs.State.{oneMore, openedState, headedState, onwardState, endedState, closedState}
-use Rattle.steps.specs.Step.{Taken, taken, rowOf, opened, opening, headed, closing, between, trailing, judged, placed, settled, inside, stepBy}
-use Rattle.interchange.specs.Reader.{dialogueOf, referenceOf}
-use Rattle.acceptance.specs.Interchange.{isGood, goodContents, isTrailer}
+use Rattle.steps.specs.Step.{Taken, taken, rowOf, openedStep, opening, headed, closing, betweenMessages, trailing, judged, placed, settledStep, insideMessage, stepBy}
+use Rattle.interchange.specs.Reader.{dialogueOf, headedReference}
+use Rattle.acceptance.specs.Interchange.{goodContents, isTrailer}
 use Rattle.acceptance.specs.Onward.{stepAt}
 
 next-is : (a b : State) (r q : Row) → done (taken a r) ≡ done (taken b q) → b ≡ a
@@ -41,7 +41,7 @@ next-is a b r q e = cc
 
 module _ (s : List ℕ) (st : State) (at : ℕ) (g : List ℕ) where
   abbrev by : Phase → Answer Taken
-  by f = stepBy tables f st at g (dialogueOf s st) (referenceOf s st)
+  by f = stepBy tables f st at g (dialogueOf s st) (headedReference s st)
 
   -- the UIB
   pub opening-goes : st .phase ≡ Opening → eqb (tagNumber g) UIB ≡ true → (p : Part) → uibOf g ≡ Dialogue p
@@ -52,13 +52,13 @@ module _ (s : List ℕ) (st : State) (at : ℕ) (g : List ℕ) where
   -- a UIH
   pub heading-goes : st .phase ≡ Between → eqb (tagNumber g) UIH ≡ true → (k : MessageType) (p : Part) → uihOf g ≡ Message k p
       → stepAt s st at g ≡ done (taken (headedState st at k p) (rowOf at g 0))
-  unfolding stepBy between
+  unfolding stepBy betweenMessages
   heading-goes f t k p e = ap by f ∙ rw (t, e)
 
   -- the UIZ
   pub closing-goes : st .phase ≡ Between → eqb (tagNumber g) UIH ≡ false → eqb (tagNumber g) UIZ ≡ true → ltb 0 (st .messages) ≡ true
       → uizOf g (dialogueOf s st) (st .messages) ≡ true → stepAt s st at g ≡ done (taken (closedState st) (rowOf at g 0))
-  unfolding stepBy between closing
+  unfolding stepBy betweenMessages closing
   closing-goes f n t m e = ap by f ∙ rw (n, t, m, e)
 
   -- in a message
@@ -71,18 +71,18 @@ module _ (s : List ℕ) (st : State) (at : ℕ) (g : List ℕ) where
 
   pub within-goes : st .phase ≡ Inside → (q : Place) → fits q → isTrailer g ≡ false → goodContents (st .message) (g, Placed q) ≡ true
       → stepAt s st at g ≡ done (taken (onwardState st q) (rowOf at g (groupOf (tableOf (st .message)) q)))
-  unfolding stepBy inside placed
+  unfolding stepBy insideMessage placed
   within-goes f q e t c =
       ap by f
-      ∙ ap (settled (tableOf (st .message)) st at g (referenceOf s st)) e
+      ∙ ap (settledStep (tableOf (st .message)) st at g (headedReference s st)) e
       ∙ choose (isPeriod (st .message) (tagNumber g) (groupOf (tableOf (st .message)) q))
       (λ p. rw (t, p) (judged-good q (groupOf (tableOf (st .message)) q) (periodOf g) (rw p at c)))
       (λ p. rw (t, p))
 
-  pub trailer-goes : st .phase ≡ Inside → (q : Place) → fits q → isTrailer g ≡ true → uitOf g (referenceOf s st) (oneMore (st .segments)) ≡ true
+  pub trailer-goes : st .phase ≡ Inside → (q : Place) → fits q → isTrailer g ≡ true → uitOf g (headedReference s st) (oneMore (st .segments)) ≡ true
       → stepAt s st at g ≡ done (taken (endedState st q) (rowOf at g (groupOf (tableOf (st .message)) q)))
-  unfolding stepBy inside placed trailing
-  trailer-goes f q e t c = ap by f ∙ ap (settled (tableOf (st .message)) st at g (referenceOf s st)) e ∙ rw (t, c)
+  unfolding stepBy insideMessage placed trailing
+  trailer-goes f q e t c = ap by f ∙ ap (settledStep (tableOf (st .message)) st at g (headedReference s st)) e ∙ rw (t, c)
 
   -- and the other way
   module _ (next : State) (r : Row) where
@@ -92,7 +92,7 @@ module _ (s : List ℕ) (st : State) (at : ℕ) (g : List ℕ) where
       pub named : uibOf g ≡ Dialogue dialogue
       pub state : next ≡ openedState st at dialogue
 
-    opens-by : (x : Opened) → uibOf g ≡ x → eqb (tagNumber g) UIB ≡ true → opened st at g x ≡ done (taken next r) → Opens
+    opens-by : (x : Opened) → uibOf g ≡ x → eqb (tagNumber g) UIB ≡ true → openedStep st at g x ≡ done (taken next r) → Opens
     opens-by (Dialogue p) e t q = record { tag = t; dialogue = p; named = e; state = next-is (openedState st at p) next (rowOf at g 0) r q }
     opens-by Wrong e t q = absurd (refused≢done q)
 
@@ -122,9 +122,9 @@ module _ (s : List ℕ) (st : State) (at : ℕ) (g : List ℕ) where
         (λ b. absurd (refused≢done (rw b at q)))
 
     pub follows : st .phase ≡ Between → stepAt s st at g ≡ done (taken next r) → Follows
-    unfolding stepBy between
+    unfolding stepBy betweenMessages
     follows f q =
-        let w : between st at g (dialogueOf s st) ≡ done (taken next r) = sym (ap by f) ∙ q in
+        let w : betweenMessages st at g (dialogueOf s st) ≡ done (taken next r) = sym (ap by f) ∙ q in
         choose (eqb (tagNumber g) UIH) (λ t. heads-by (uihOf g) refl t (rw t at w))
         (λ n.
         choose (eqb (tagNumber g) UIZ) (λ t. closes-by t (rw (n, t) at w))
@@ -132,20 +132,20 @@ module _ (s : List ℕ) (st : State) (at : ℕ) (g : List ℕ) where
 
     pub data Moves : Type 0 where
       onward : (q : Place) → fits q → isTrailer g ≡ false → goodContents (st .message) (g, Placed q) ≡ true → next ≡ onwardState st q → Moves
-      ends : (q : Place) → fits q → isTrailer g ≡ true → uitOf g (referenceOf s st) (oneMore (st .segments)) ≡ true → next ≡ endedState st q → Moves
+      ends : (q : Place) → fits q → isTrailer g ≡ true → uitOf g (headedReference s st) (oneMore (st .segments)) ≡ true → next ≡ endedState st q → Moves
 
     judged-is : (q : Place) (group : ℕ) (x : Period) → judged st at g q group x ≡ done (taken next r) → (isGood x ≡ true) × (next ≡ onwardState st q)
     judged-is q group (period.Good a n form) e = (refl, next-is (onwardState st q) next (rowOf at g group) r e)
     judged-is q group (period.Wrong x) e = absurd (refused≢done e)
 
     moves-by : (x : Stepped) → stepOf (tableOf (st .message)) (st .place) (tagNumber g) ≡ x
-        → settled (tableOf (st .message)) st at g (referenceOf s st) x ≡ done (taken next r) → Moves
+        → settledStep (tableOf (st .message)) st at g (headedReference s st) x ≡ done (taken next r) → Moves
     unfolding placed trailing
     moves-by OutOfPlace e q = absurd (refused≢done q)
     moves-by (Placed p) e q =
         choose (isTrailer g)
         (λ t.
-        choose (uitOf g (referenceOf s st) (oneMore (st .segments)))
+        choose (uitOf g (headedReference s st) (oneMore (st .segments)))
         (λ u. ends p e t u (next-is (endedState st p) next (rowOf at g (groupOf (tableOf (st .message)) p)) r (rw (t, u) at q)))
         (λ u. absurd (refused≢done (rw (t, u) at q))))
         (λ t.
@@ -154,5 +154,5 @@ module _ (s : List ℕ) (st : State) (at : ℕ) (g : List ℕ) where
         (λ c. onward p e t (rw c) (next-is (onwardState st p) next (rowOf at g (groupOf (tableOf (st .message)) p)) r (rw (t, c) at q))))
 
     pub moves : st .phase ≡ Inside → stepAt s st at g ≡ done (taken next r) → Moves
-    unfolding stepBy inside
+    unfolding stepBy insideMessage
     moves f q = moves-by (stepOf (tableOf (st .message)) (st .place) (tagNumber g)) refl (sym (ap by f) ∙ q)

@@ -13,9 +13,9 @@ use Rattle.answers.specs.Answers.{done, refused}
 use Rattle.answers.specs.Laws.{refused≢done}
 use Rattle.steps.specs.declared.state.State.{State}
 use Rattle.steps.specs.declared.state.Row.{Row}
-use Rattle.interchange.specs.Reader.{Outcome, Verdict, accepted, readOn, readingOf, numbers, answerBy, answerOf, rowsAfter}
+use Rattle.interchange.specs.Reader.{Outcome, Verdict, accepted, readOn, readingOf, numbers, verdictAnswer, outcomeAnswer, rowsAfter}
 use Rattle.interchange.specs.Laws.{length-numbers}
-use Rattle.acceptance.specs.Interchange.{written, Interchange, segmentsOf, holds, IsInterchange, rowsOf}
+use Rattle.acceptance.specs.Interchange.{segmentsWritten, Interchange, segmentsOf, rulesHold, IsInterchange, rowsOf}
 use Rattle.acceptance.specs.Onward.{Goes, precede, reading-goes-on}
 use Rattle.acceptance.specs.When.{reads-all}
 use Rattle.acceptance.specs.Only.{accepted-is}
@@ -23,13 +23,13 @@ use Rattle.acceptance.specs.Same.{same-parts}
 
 -- after some whole segments, each good and each stepping on, the reading goes on from the state and the offset reached, their rows before its own
 pub goes-on : (f : ℕ) (s : List ℕ) {st last : State} {at end : ℕ} {gs : List (List ℕ)} {rs : List Row} (rest : List ℕ) → Goes s st at gs rs last end
-    → drop at s ≡ written gs ++ rest → length s < at + f → readOn f s st at ≡ precede rs (readOn (f - length gs) s last end)
+    → drop at s ≡ segmentsWritten gs ++ rest → length s < at + f → readOn f s st at ≡ precede rs (readOn (f - length gs) s last end)
 goes-on f s rest go e h = reading-goes-on f s rest go e h
 
 -- every interchange is accepted, and its rows are those of its segments
-pub accepted-when : (x : Interchange) → holds x ≡ true → length (written (segmentsOf x)) ≤ 60000
-    → readingOf (written (segmentsOf x)) ≡ record { rows = rowsOf x; verdict = accepted }
-accepted-when x h small = reads-all (written (segmentsOf x)) x refl h small
+pub accepted-when : (x : Interchange) → rulesHold x ≡ true → length (segmentsWritten (segmentsOf x)) ≤ 60000
+    → readingOf (segmentsWritten (segmentsOf x)) ≡ record { rows = rowsOf x; verdict = accepted }
+accepted-when x h small = reads-all (segmentsWritten (segmentsOf x)) x refl h small
 
 -- and nothing else is
 pub only-when : (s : List ℕ) → readingOf s .verdict ≡ accepted → IsInterchange s
@@ -39,22 +39,22 @@ pub rows-when : (s : List ℕ) (i : IsInterchange s) → readingOf s ≡ record 
 rows-when s i = reads-all s (i .parts) (i .text) (i .rules) (i .fits)
 
 -- a text is an interchange in one way at most
-pub one-way : (x y : Interchange) → holds x ≡ true → holds y ≡ true → written (segmentsOf x) ≡ written (segmentsOf y) → x ≡ y
+pub one-way : (x y : Interchange) → rulesHold x ≡ true → rulesHold y ≡ true → segmentsWritten (segmentsOf x) ≡ segmentsWritten (segmentsOf y) → x ≡ y
 one-way x y h k e = same-parts x y h k e
 
 -- so `read`, which answers by `readingOf`, tells of rows for an interchange alone, and writes them, where the lent buffer has room for them
-answer-accepted : (rows : List Row) (room n : ℕ) (v : Verdict) → answerBy rows room v ≡ done n → v ≡ accepted
+answer-accepted : (rows : List Row) (room n : ℕ) (v : Verdict) → verdictAnswer rows room v ≡ done n → v ≡ accepted
 answer-accepted rows room n (done _) q = refl
 answer-accepted rows room n (refused number position) q = absurd (refused≢done q)
 
-pub answered-only : (s : List ℕ) (room n : ℕ) → answerOf (readingOf s) room ≡ done n → IsInterchange s
-unfolding answerOf
+pub answered-only : (s : List ℕ) (room n : ℕ) → outcomeAnswer (readingOf s) room ≡ done n → IsInterchange s
+unfolding outcomeAnswer
 answered-only s room n q = only-when s (answer-accepted (readingOf s .rows) room n (readingOf s .verdict) q)
 
 module _ (s : List ℕ) (i : IsInterchange s) where
-  pub answered-when : (room : ℕ) → 3 * length (rowsOf (i .parts)) ≤ room → answerOf (readingOf s) room ≡ done (length (rowsOf (i .parts)))
-  unfolding answerOf
-  answered-when room h = ap (λ (o : Outcome). answerOf o room) (rows-when s i) ∙ rw (le-ltb room (3 * length (rowsOf (i .parts))) h)
+  pub answered-when : (room : ℕ) → 3 * length (rowsOf (i .parts)) ≤ room → outcomeAnswer (readingOf s) room ≡ done (length (rowsOf (i .parts)))
+  unfolding outcomeAnswer
+  answered-when room h = ap (λ (o : Outcome). outcomeAnswer o room) (rows-when s i) ∙ rw (le-ltb room (3 * length (rowsOf (i .parts))) h)
 
   pub written-when : (lent : List ℕ) → 3 * length (rowsOf (i .parts)) ≤ length lent → rowsAfter (readingOf s) lent ≡ numbers (rowsOf (i .parts)) ++ drop (length (numbers (rowsOf (i .parts)))) lent
   unfolding rowsAfter

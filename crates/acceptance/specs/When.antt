@@ -28,10 +28,10 @@ use Rattle.steps.specs.declared.state.State.{State}
 use Rattle.answers.specs.Answers.{done}
 use Rattle.steps.specs.State.{oneMore, openingState, openedState, headedState, onwardState, endedState, closedState}
 use Rattle.steps.specs.Step.{taken, rowOf}
-use Rattle.interchange.specs.Reader.{Outcome, accepted, before, dialogueOf, referenceOf, readOn, readingOf}
+use Rattle.interchange.specs.Reader.{Outcome, accepted, before, dialogueOf, headedReference, readOn, readingOf}
 use Rattle.interchange.specs.Laws.{read-accepted}
 use Rattle.interchange.specs.Answers.{sized-read}
-use Rattle.acceptance.specs.Interchange.{written, isSegment, Message, segmentsIn, Interchange, eachOf, segmentsOf, names, known, typeIn, typeOf, referenceIn, placesFrom, isMessage, goodOpening, goodClosing, holds, withGroup, groupsIn, rowsFrom, rowsOf}
+use Rattle.acceptance.specs.Interchange.{segmentsWritten, isSegment, Message, segmentsIn, Interchange, eachOf, segmentsOf, names, known, typeIn, messageTypeOf, referenceIn, placesFrom, isMessage, goodOpening, goodClosing, rulesHold, withGroup, groupsIn, rowsFrom, rowsOf}
 use Rattle.acceptance.specs.Segments.{segment-fits, after-segment}
 use Rattle.envelope.specs.Laws.{uih-place}
 use Rattle.acceptance.specs.References.{reference-read, dialogue-place}
@@ -59,7 +59,7 @@ one-more n h = rw (lt-ltb n 65535 h)
 
 -- the references that are remembered
 pub reference-is : (s : List ℕ) (st : State) (at : ℕ) (g rest : List ℕ) (k : MessageType) (p : Part) → drop at s ≡ g ++ (39 ∷ rest) → uihOf g ≡ headed.Message k p
-    → referenceOf s (headedState st at k p) ≡ referenceIn g
+    → headedReference s (headedState st at k p) ≡ referenceIn g
 reference-is s st at g rest k p e q =
     ap (λ (x : List ℕ). bytesOf x p) e ∙ ap (bytesOf (g ++ (39 ∷ rest))) (uih-place g k p q) ∙ reference-read g (39 ∷ rest)
 
@@ -91,40 +91,40 @@ known-is headed.Unknown e = absurd (false≢true e)
 module _ (s : List ℕ) (small : length s ≤ 60000) where
   -- what follows a message is read from wherever the message ends
   abbrev Follows : List ℕ → ℕ → List (List ℕ) → List (List ℕ × ℕ) → Type 0
-  Follows d n rest l = (st : State) (at : ℕ) → After s st at d n → drop at s ≡ written rest → Reads s st at l
+  Follows d n rest l = (st : State) (at : ℕ) → After s st at d n → drop at s ≡ segmentsWritten rest → Reads s st at l
 
   module _ (rest : List (List ℕ)) (l : List (List ℕ × ℕ)) (last : List ℕ) where
-    within-reads : (gs : List (List ℕ)) (st : State) (at : ℕ) → st .phase ≡ Inside → Within (st .message) (st .place) (st .segments) (referenceOf s st) gs last
-        → st .messages ≤ at → st .segments ≤ at → drop at s ≡ written (gs ++ (last ∷ rest)) → Follows (dialogueOf s st) (st .messages + 1) rest l
+    within-reads : (gs : List (List ℕ)) (st : State) (at : ℕ) → st .phase ≡ Inside → Within (st .message) (st .place) (st .segments) (headedReference s st) gs last
+        → st .messages ≤ at → st .segments ≤ at → drop at s ≡ segmentsWritten (gs ++ (last ∷ rest)) → Follows (dialogueOf s st) (st .messages + 1) rest l
         → Reads s st at (map (withGroup (tableOf (st .message))) (placesFrom (tableOf (st .message)) (Placed (st .place)) (gs ++ (last ∷ []))) ++ l)
-    unfolding written placesFrom
+    unfolding segmentsWritten placesFrom
     within-reads [] st at f w a b e follows =
-        let x = to-last (st .message) (st .place) (st .segments) (referenceOf s st) last w in
-        let n = segment-fits s at last (written rest) e in
+        let x = to-last (st .message) (st .place) (st .segments) (headedReference s st) last w in
+        let n = segment-fits s at last (segmentsWritten rest) e in
         let o = one-more (st .segments) (omega arith) in
-        let q = trailer-goes s st at last f (x .place) (x .fits) (x .trailer) (ap (uitOf last (referenceOf s st)) o ∙ x .counted) in
+        let q = trailer-goes s st at last f (x .place) (x .fits) (x .trailer) (ap (uitOf last (headedReference s st)) o ∙ x .counted) in
         rw (x .fits)
-        (reads-one s st at last (written rest) e (x .segment) (endedState st (x .place)) (groupOf (tableOf (st .message)) (x .place)) q l
+        (reads-one s st at last (segmentsWritten rest) e (x .segment) (endedState st (x .place)) (groupOf (tableOf (st .message)) (x .place)) q l
         (follows (endedState st (x .place)) (at + length last + 1)
         (record { phase-is = refl; dialogue = refl; count = one-more (st .messages) (omega arith); few = omega arith })
-        (after-segment s at last (written rest) e)))
+        (after-segment s at last (segmentsWritten rest) e)))
     within-reads (g ∷ gs) st at f w a b e follows =
-        let x = to-front (st .message) (st .place) (st .segments) (referenceOf s st) last g gs w in
-        let n = segment-fits s at g (written (gs ++ (last ∷ rest))) e in
+        let x = to-front (st .message) (st .place) (st .segments) (headedReference s st) last g gs w in
+        let n = segment-fits s at g (segmentsWritten (gs ++ (last ∷ rest))) e in
         let o = one-more (st .segments) (omega arith) in
         let q = within-goes s st at g f (x .place) (x .fits) (x .inner) (x .contents) in
         rw (x .fits)
-        (reads-one s st at g (written (gs ++ (last ∷ rest))) e (x .segment) (onwardState st (x .place)) (groupOf (tableOf (st .message)) (x .place)) q
+        (reads-one s st at g (segmentsWritten (gs ++ (last ∷ rest))) e (x .segment) (onwardState st (x .place)) (groupOf (tableOf (st .message)) (x .place)) q
         (map (withGroup (tableOf (st .message))) (placesFrom (tableOf (st .message)) (Placed (x .place)) (gs ++ (last ∷ []))) ++ l)
         (within-reads gs (onwardState st (x .place)) (at + length g + 1) refl
-        (subst (λ (c : ℕ). Within (st .message) (x .place) c (referenceOf s st) gs last) (sym o) (x .rest))
+        (subst (λ (c : ℕ). Within (st .message) (x .place) c (headedReference s st) gs last) (sym o) (x .rest))
         (omega arith) (subst (λ (c : ℕ). c ≤ at + length g + 1) (sym o) (omega arith))
-        (after-segment s at g (written (gs ++ (last ∷ rest))) e) follows))
+        (after-segment s at g (segmentsWritten (gs ++ (last ∷ rest))) e) follows))
 
   -- one message before what follows it
   module _ (d : List ℕ) (rest : List (List ℕ)) (l : List (List ℕ × ℕ)) (m : Message) (n : ℕ) (st : State) (at : ℕ) (a : After s st at d n) where
     abbrev after : List ℕ
-    after = written (m .within ++ (m .trailer ∷ rest))
+    after = segmentsWritten (m .within ++ (m .trailer ∷ rest))
 
     abbrev groupsBy : MessageType → List (List ℕ × ℕ)
     groupsBy message = map (withGroup (tableOf message)) (placesFrom (tableOf message) (Placed startPlace) (m .within ++ (m .trailer ∷ [])))
@@ -145,13 +145,13 @@ module _ (s : List ℕ) (small : length s ≤ 60000) where
         (record { phase-is = t .phase-is; dialogue = t .dialogue ∙ a .dialogue; count = t .count ∙ ap (λ (x : ℕ). x + 1) o; few = subst (λ (x : ℕ). x + 1 ≤ at₁) o (t .few) })
         y)
 
-    message-reads : isMessage m ≡ true → drop at s ≡ m .heading ++ (39 ∷ after) → Follows d (n + 1) rest l → Reads s st at ((m .heading, 0) ∷ (groupsBy (typeOf m) ++ l))
+    message-reads : isMessage m ≡ true → drop at s ≡ m .heading ++ (39 ∷ after) → Follows d (n + 1) rest l → Reads s st at ((m .heading, 0) ∷ (groupsBy (messageTypeOf m) ++ l))
     message-reads h e follows =
         let w = to-parts m h in
         let x = known-is (uihOf (m .heading)) (w .named) in
         reads-one s st at (m .heading) after e (w .segment) (headedState st at (x .0) (x .1)) 0
         (heading-goes s st at (m .heading) (a .phase-is) (w .tag) (x .0) (x .1) (x .2))
-        (groupsBy (typeOf m) ++ l)
+        (groupsBy (messageTypeOf m) ++ l)
         (subst (λ (y : MessageType). Reads s (headedState st at (x .0) (x .1)) (at + length (m .heading) + 1) (groupsBy y ++ l)) (sym (ap typeIn (x .2)))
         (heading-reads (x .0) (x .1) (x .2) w e follows))
 
@@ -171,9 +171,9 @@ module _ (s : List ℕ) (small : length s ≤ 60000) where
         (λ f l. read-accepted f s (closedState st) (at + length closing + 1) (omega arith) (omega arith) l refl)
 
     messages-read : (ms : List Message) (n : ℕ) (st : State) (at : ℕ) → After s st at d n → all isMessage ms ≡ true → 0 < n + length ms
-        → goodClosing closing d (n + length ms) ≡ true → drop at s ≡ written (eachOf segmentsIn ms ++ (closing ∷ []))
+        → goodClosing closing d (n + length ms) ≡ true → drop at s ≡ segmentsWritten (eachOf segmentsIn ms ++ (closing ∷ []))
         → Reads s st at (eachOf groupsIn ms ++ ((closing, 0) ∷ []))
-    unfolding written
+    unfolding segmentsWritten
     messages-read [] n st at a h z c e =
         let k : n + 0 ≡ n = omega arith in
         closing-reads n st at a (omega arith) (ap (goodClosing closing d) (sym k) ∙ c) e
@@ -184,7 +184,7 @@ module _ (s : List ℕ) (small : length s ≤ 60000) where
         let b : n + 1 + length ms ≡ n + length (m ∷ ms) = omega arith in
         rw (append-assoc (groupsIn m) (eachOf groupsIn ms) ((closing, 0) ∷ []))
         (message-reads d rest l m n st at a (u .0)
-        (e ∙ ap (λ (y : List (List ℕ)). m .heading ++ (39 ∷ written y)) (regroup (m .within) (m .trailer) (eachOf segmentsIn ms) (closing ∷ [])))
+        (e ∙ ap (λ (y : List (List ℕ)). m .heading ++ (39 ∷ segmentsWritten y)) (regroup (m .within) (m .trailer) (eachOf segmentsIn ms) (closing ∷ [])))
         (λ st₁ at₁ t q. messages-read ms (n + 1) st₁ at₁ t (u .1) (omega arith) (ap (goodClosing closing d) b ∙ c) q))
 
 -- the rules one by one
@@ -196,8 +196,8 @@ pub record Rules (x : Interchange) : Type 0 where
   pub messages : all isMessage (x .messages) ≡ true
   pub closing : goodClosing (x .closing) (referenceIn (x .opening)) (length (x .messages)) ≡ true
 
-pub to-rules : (x : Interchange) → holds x ≡ true → Rules x
-unfolding holds
+pub to-rules : (x : Interchange) → rulesHold x ≡ true → Rules x
+unfolding rulesHold
 to-rules x h =
     let g = x .opening in
     let n = length (x .messages) in
@@ -209,16 +209,16 @@ to-rules x h =
     let t = both-parts (eqb (tagNumber g) UIB) (names (uibOf g)) (o .1) in
     record { segment = o .0; tag = t .0; named = t .1; some = b .0; messages = c .0; closing = c .1 }
 
-pub from-rules : (x : Interchange) → Rules x → holds x ≡ true
-unfolding holds
+pub from-rules : (x : Interchange) → Rules x → rulesHold x ≡ true
+unfolding rulesHold
 from-rules x r = rw (r .segment, r .tag, r .named, r .some, r .messages) (r .closing)
 
 -- the whole
-module _ (s : List ℕ) (x : Interchange) (e : s ≡ written (segmentsOf x)) where
+module _ (s : List ℕ) (x : Interchange) (e : s ≡ segmentsWritten (segmentsOf x)) where
   opening-reads : length s ≤ 60000 → Rules x → Reads s openingState 0 ((x .opening, 0) ∷ (eachOf groupsIn (x .messages) ++ ((x .closing, 0) ∷ [])))
-  unfolding written
+  unfolding segmentsWritten
   opening-reads small r =
-      let rest = written (eachOf segmentsIn (x .messages) ++ (x .closing ∷ [])) in
+      let rest = segmentsWritten (eachOf segmentsIn (x .messages) ++ (x .closing ∷ [])) in
       let p = named-is (uibOf (x .opening)) (r .named) in
       let n : 0 + length (x .messages) ≡ length (x .messages) = omega arith in
       let z = ltb-true 0 (length (x .messages)) (r .some) in
@@ -231,12 +231,12 @@ module _ (s : List ℕ) (x : Interchange) (e : s ≡ written (segmentsOf x)) whe
       (after-segment s 0 (x .opening) rest e))
 
   pub some-bytes : 1 ≤ length s
-  unfolding written
+  unfolding segmentsWritten
   some-bytes =
-      let n = segment-fits s 0 (x .opening) (written (eachOf segmentsIn (x .messages) ++ (x .closing ∷ []))) e in
+      let n = segment-fits s 0 (x .opening) (segmentsWritten (eachOf segmentsIn (x .messages) ++ (x .closing ∷ []))) e in
       omega arith
 
-  pub reads-all : holds x ≡ true → length s ≤ 60000 → readingOf s ≡ record { rows = rowsOf x; verdict = accepted }
+  pub reads-all : rulesHold x ≡ true → length s ≤ 60000 → readingOf s ≡ record { rows = rowsOf x; verdict = accepted }
   reads-all h small =
       let b = some-bytes in
       sym (sized-read s (λ z. omega arith) small) ∙ opening-reads small (to-rules x h) (length s + 1) (omega arith)

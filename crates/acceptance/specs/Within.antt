@@ -19,7 +19,7 @@ use Rattle.messages.specs.Tags.{UIH}
 use Rattle.placing.specs.Place.{startPlace}
 use Rattle.placing.specs.Rule.{stepOf, isPlaced}
 use Rattle.envelope.specs.Envelope.{uihOf, uitOf}
-use Rattle.acceptance.specs.Interchange.{isSegment, Message, segmentsIn, known, typeOf, referenceIn, placesFrom, hasPlace, goodContents, isTrailer, goesBefore, places, goodHeading, goodPlaces, goodPeriods, goodTrailer, isMessage}
+use Rattle.acceptance.specs.Interchange.{isSegment, Message, segmentsIn, known, messageTypeOf, referenceIn, placesFrom, hasPlace, goodContents, isTrailer, goesBefore, placedSegments, goodHeading, goodPlaces, goodPeriods, goodTrailer, isMessage}
 
 placed-is : (x : Stepped) → isPlaced x ≡ true → (q : Place) × (x ≡ Placed q)
 placed-is (Placed q) e = (q, refl)
@@ -123,7 +123,7 @@ pub record Parts (m : Message) : Type 0 where
   pub segment : isSegment (m .heading) ≡ true
   pub tag : eqb (tagNumber (m .heading)) UIH ≡ true
   pub named : known (uihOf (m .heading)) ≡ true
-  pub rest : Within (typeOf m) startPlace 1 (referenceIn (m .heading)) (m .within) (m .trailer)
+  pub rest : Within (messageTypeOf m) startPlace 1 (referenceIn (m .heading)) (m .within) (m .trailer)
 
 module _ (m : Message) where
   pub to-parts : isMessage m ≡ true → Parts m
@@ -135,7 +135,7 @@ module _ (m : Message) where
       let d = both-parts (goodPeriods m) (goodTrailer m) (c .1) in
       let s = both-parts (isSegment (m .heading)) (all isSegment (m .within ++ (m .trailer ∷ []))) (a .0) in
       let u = both-parts (eqb (tagNumber (m .heading)) UIH) (known (uihOf (m .heading))) (b .0) in
-      let p = both-parts (all goesBefore (m .within)) (all hasPlace (places m)) (c .0) in
+      let p = both-parts (all goesBefore (m .within)) (all hasPlace (placedSegments m)) (c .0) in
       let t = both-parts (isTrailer (m .trailer)) (uitOf (m .trailer) (referenceIn (m .heading)) (length (m .within) + 2)) (d .1) in
       let n : 1 + length (m .within) + 1 ≡ length (m .within) + 2 = omega arith in
       record {

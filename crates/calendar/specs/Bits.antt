@@ -12,12 +12,12 @@ use Rattle.laws.specs.Sweep.{below, at, agree}
 use Rattle.calendar.specs.Days.{bit, hasBit, withBit}
 
 -- a shift of 1 by less than 8 stays in the byte
-fits : ℕ → Bool
-fits j = eqb (1 * 2 ^ j % 256) (2 ^ j)
+shiftStays : ℕ → Bool
+shiftStays j = eqb (1 * 2 ^ j % 256) (2 ^ j)
 
 pub shifted : (j : ℕ) → j < 8 → 1 * 2 ^ j % 256 ≡ 2 ^ j
-unfolding fits
-shifted j h = eqb→eq _ _ (at fits 8 tt j h)
+unfolding shiftStays
+shifted j h = eqb→eq _ _ (at shiftStays 8 tt j h)
 
 or-bit : (a b j : ℕ) → bit (bitOr a b) j ≡ max (bit a j) (bit b j)
 or-bit a b j = rw or-shr (omega (arith, or-step (a / 2 ^ j) (b / 2 ^ j)))

@@ -14,9 +14,9 @@ use Rattle.dates.specs.declared.Date.{Date}
 use Rattle.contents.specs.Contents.{Pending, nothing, put, removal, Contents}
 use Rattle.shuffle.specs.Register.{stage, withdraw}
 use Rattle.laws.specs.Text.{bytes}
-use Rattle.cases.specs.Table.{Case, pop, call, refused, period, every, only, holds, comesOf, expected, sameAnswer, keeps, callHolds}
+use Rattle.cases.specs.Table.{Case, pop, call, refused, period, every, only, caseHolds, comesOf, expected, sameAnswer, keeps, callHolds}
 use Rattle.syntax.specs.Bytes.{permittedOf, plainOn}
-use Rattle.syntax.specs.Pieces.{first, later, partOf}
+use Rattle.syntax.specs.Pieces.{firstPiece, laterPieces, partOf}
 use Rattle.syntax.specs.Segment.{tagged, componentFits, occurrenceFits, elementFits, withinLimits, wellFormed, scanOf}
 use Rattle.parts.specs.Places.{spanOf, countedAt, elementAt}
 use Rattle.values.specs.Values.{sameText}
@@ -25,7 +25,7 @@ use Rattle.dates.specs.Dates.{madeOf}
 use Rattle.dates.specs.Text.{twoDigits, digitsAt, dateAt}
 use Rattle.calendar.specs.Days.{withBit, withDay}
 use Rattle.calendar.specs.Written.{goodPeriod, daysSpan}
-use Rattle.period.specs.Period.{spanIn, dayString, rising, formedOf, restGood, periodOf, runsBy, runsIn}
+use Rattle.period.specs.Period.{spanIn, dayString, risingDays, formedOf, restGood, periodOf, runsBy, runsIn}
 use Rattle.placing.specs.Table.{entryOf, afterOf, endOf, placesOn}
 use Rattle.placing.specs.Rule.{reachable, firstFit, inGroup, again, laterOnes, choicesFrom, firstOf, stepOf}
 use Rattle.placing.specs.Skdupd.{skdupdTable}
@@ -33,11 +33,11 @@ use Rattle.placing.specs.Tsdupd.{tsdupdTable}
 use Rattle.placing.specs.Tables.{tables, tableIn}
 use Rattle.laws.specs.Decimal.{decimalOn}
 use Rattle.envelope.specs.Envelope.{uibOf, uihOf, trailerOf}
-use Rattle.steps.specs.Step.{opening, between, closing, trailing, placed, inside, stepBy}
+use Rattle.steps.specs.Step.{opening, betweenMessages, closing, trailing, placed, insideMessage, stepBy}
 use Rattle.interchange.specs.Reader.{turnAt, readOn, readingOf, numbers}
-use Rattle.joining.specs.Joined.{marked, windowDays, joined, joinAll}
+use Rattle.joining.specs.Joined.{marked, windowDays, daysJoined, joinAll}
 use Rattle.services.specs.Rows as rows
-use Rattle.services.specs.Services.{numberOf, saysRemoval, removes, serviceAt, hasPeriod, isWrong, saysNumber, isSame, isTwice}
+use Rattle.services.specs.Services.{serviceNumber, saysRemoval, removes, serviceAt, hasPeriod, isWrong, saysNumber, isSameService, isTwice}
 use Rattle.contents.specs.Contents as contents
 use Rattle.contents.specs.Written as written
 use Rattle.contents.specs.Calls.{lookup, changed, withdrawOf, viewOf, withRecords}
@@ -101,6 +101,6 @@ table =
     ∷ call liveInFirst (1, stage (bytes putOf17)) (done 1)
     ∷ []
 
-pub cases : T (all holds table)
-unfolding table holds comesOf expected permittedOf plainOn first later partOf tagged componentFits occurrenceFits elementFits withinLimits wellFormed scanOf sameText leapYear monthLength isDate monthDays yearDays dayNumber weekdayOf madeOf twoDigits digitsAt dateAt goodPeriod daysSpan spanIn dayString rising formedOf restGood periodOf runsBy runsIn sameAnswer keeps callHolds lists.joined lists.total spanOf countedAt elementAt withBit withDay entryOf afterOf endOf placesOn reachable firstFit inGroup again laterOnes choicesFrom firstOf stepOf skdupdTable tsdupdTable tables tableIn decimalOn uibOf uihOf trailerOf opening between closing trailing placed inside stepBy turnAt readOn readingOf numbers marked windowDays joined joinAll rows.offsetAt rows.isRow rows.firstOf rows.listOf numberOf saysRemoval removes serviceAt hasPeriod isWrong saysNumber isSame isTwice contents.goodNumber contents.isCalendar contents.goodEntries contents.goodRecord contents.comesBefore contents.inOrder contents.goodAccount contents.goodAccounts contents.goodQuotas contents.good written.filledUp written.liveBytes written.pendingBytes written.slotOf written.roomBytes written.roomsBytes lookup changed withdrawOf viewOf withRecords firstOutside daysOf entry enterKnown enter enterAll stageOf inContents
+pub cases : T (all caseHolds table)
+unfolding table caseHolds comesOf expected permittedOf plainOn firstPiece laterPieces partOf tagged componentFits occurrenceFits elementFits withinLimits wellFormed scanOf sameText leapYear monthLength isDate monthDays yearDays dayNumber weekdayOf madeOf twoDigits digitsAt dateAt goodPeriod daysSpan spanIn dayString risingDays formedOf restGood periodOf runsBy runsIn sameAnswer keeps callHolds lists.joined lists.total spanOf countedAt elementAt withBit withDay entryOf afterOf endOf placesOn reachable firstFit inGroup again laterOnes choicesFrom firstOf stepOf skdupdTable tsdupdTable tables tableIn decimalOn uibOf uihOf trailerOf opening betweenMessages closing trailing placed insideMessage stepBy turnAt readOn readingOf numbers marked windowDays daysJoined joinAll rows.offsetAt rows.isRow rows.firstIn rows.listOf serviceNumber saysRemoval removes serviceAt hasPeriod isWrong saysNumber isSameService isTwice contents.goodNumber contents.isCalendar contents.goodEntries contents.goodRecord contents.comesBefore contents.inOrder contents.goodAccount contents.goodAccounts contents.goodQuotas contents.good written.filledUp written.liveBytes written.pendingBytes written.slotOf written.roomBytes written.roomsBytes lookup changed withdrawOf viewOf withRecords firstOutside daysOf entry enterKnown enter enterAll stageOf inContents
 cases = tt

@@ -79,8 +79,8 @@ keeps c d (answers.refused n i) = sameText (roomsBytes (c .quotas) (c .accounts)
 unfoldable pub callHolds : Contents → Contents × Reply → Answer ℕ → Bool
 callHolds c w a = both (good c) (both (sameAnswer (w .1 .answer) a) (keeps c (w .0) a))
 
-unfoldable pub holds : Case → Bool
-holds (call c d a) = callHolds c (inContents c d) a
-holds (pop text outcome) =
+unfoldable pub caseHolds : Case → Bool
+caseHolds (call c d a) = callHolds c (inContents c d) a
+caseHolds (pop text outcome) =
     both (whole (length (bytes text)) (segmentAt (bytes text) 0))
     (comesOf (bodyAt (bytes text) 0) (periodOf (bodyAt (bytes text) 0)) outcome)

@@ -30,8 +30,8 @@ pub record Called : Type 0 where
   pub records : List Record
 
 -- a refusal changes nothing
-abbrev pub refusal : View → Answer ℕ → Called
-refusal v a = record { answer = a; records = v .records }
+abbrev pub refusedCall : View → Answer ℕ → Called
+refusedCall v a = record { answer = a; records = v .records }
 
 -- the record of a number
 unfoldable pub lookup : List ℕ → List Record → Option Record
@@ -89,7 +89,7 @@ withdrawn (some r) = keptLive r (r .live)
 unfoldable pub withdrawOf : List ℕ → View → Called
 withdrawOf x v =
     pick (hasPending (lookup x (v .records))) (record { answer = done 0; records = changed x withdrawn (v .records) })
-    (refusal v nothingPending)
+    (refusedCall v nothingPending)
 
 -- ---- show: "the account's k-th record, from 0"
 

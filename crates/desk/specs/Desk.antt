@@ -19,5 +19,5 @@ abbrev pub orNone : Made → Date
 orNone (Valid d) = d
 orNone NoDate = date 0 0 0
 
-abbrev pub dateOf : Day → Date
-dateOf d = orNone (madeOf (d .year) (d .month) (d .day))
+abbrev pub dayDate : Day → Date
+dayDate d = orNone (madeOf (d .year) (d .month) (d .day))

@@ -45,8 +45,8 @@ copiedAnswer NoRoom = outputTooShort
 abbrev pub numberAnswer : List ℕ → Part → List ℕ → Answer ℕ
 numberAnswer s p out = pick (ltb (length out) (length (plain (bytesOf s p)))) outputTooShort (done (length (plain (bytesOf s p))))
 
-abbrev pub numberBytes : List ℕ → Part → List ℕ → List ℕ
-numberBytes s p out = putAt out 0 (plain (bytesOf s p))
+abbrev pub numberOutput : List ℕ → Part → List ℕ → List ℕ
+numberOutput s p out = putAt out 0 (plain (bytesOf s p))
 
 -- ---- for `drumcallisto_number`: p is the part's bytes, w what came of copying them
 
@@ -54,5 +54,5 @@ module _ (s : List ℕ) (part : Part) (out p : List ℕ) (e : p ≡ bytesOf s pa
   pub number-told : (w : Copied) → w ≡ copiedOf (length (plain p)) (length out) → copiedAnswer w ≡ numberAnswer s part out
   number-told w q = rw (q, e) (choose (ltb (length out) (length (plain (bytesOf s part)))) (λ t. rw t) (λ t. rw t))
 
-  pub number-left : (last : List ℕ) → last ≡ putAt out 0 (plain p) → last ≡ numberBytes s part out
+  pub number-left : (last : List ℕ) → last ≡ putAt out 0 (plain p) → last ≡ numberOutput s part out
   number-left last q = q ∙ rw e

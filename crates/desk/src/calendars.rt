@@ -8,7 +8,7 @@ use dates::Date;
 use dates::Made;
 ghost use mathlib.Core.Path.{_≡_};
 ghost use Rattle.calendar.specs.Written.{writtenAnswer, dayStringAnswer, dayStringBytes, weekdayAnswer, weekdayBytes};
-ghost use Rattle.desk.specs.Desk.{replyOf, dateOf};
+ghost use Rattle.desk.specs.Desk.{replyOf, dayDate};
 
 /// A date as C gives it: any three numbers.
 #[repr(C)]
@@ -20,7 +20,7 @@ pub struct Day {
 
 /// The date that three numbers make, or one that is none.
 pub fn date_of(day: Day) -> Date
-    ensures { λ r. ⌜ r ≡ dateOf day ⌝ }
+    ensures { λ r. ⌜ r ≡ dayDate day ⌝ }
 {
     match Date::new(day.year, day.month, day.day) {
         Made::Valid(date) => date,
@@ -51,8 +51,8 @@ pub extern "C" fn drumcallisto_write_day_string(
     last: Day,
     out: &mut [u8],
 ) -> Reply
-    ensures told { λ r. ⌜ r ≡ replyOf (dayStringAnswer (now (days .entry)) (dateOf first) (dateOf last) (now (out .entry))) ⌝ }
-    ensures left { λ _. ⌜ now (out .exit) ≡ dayStringBytes (now (days .entry)) (dateOf first) (dateOf last) (now (out .entry)) ⌝ }
+    ensures told { λ r. ⌜ r ≡ replyOf (dayStringAnswer (now (days .entry)) (dayDate first) (dayDate last) (now (out .entry))) ⌝ }
+    ensures left { λ _. ⌜ now (out .exit) ≡ dayStringBytes (now (days .entry)) (dayDate first) (dayDate last) (now (out .entry)) ⌝ }
 {
     told(calendar::write_day_string(days, date_of(first), date_of(last), out))
 }
@@ -65,8 +65,8 @@ pub extern "C" fn drumcallisto_write_weekdays(
     last: Day,
     out: &mut [u8],
 ) -> Reply
-    ensures told { λ r. ⌜ r ≡ replyOf (weekdayAnswer (now (days .entry)) (dateOf first) (dateOf last) (now (out .entry))) ⌝ }
-    ensures left { λ _. ⌜ now (out .exit) ≡ weekdayBytes (now (days .entry)) (dateOf first) (dateOf last) (now (out .entry)) ⌝ }
+    ensures told { λ r. ⌜ r ≡ replyOf (weekdayAnswer (now (days .entry)) (dayDate first) (dayDate last) (now (out .entry))) ⌝ }
+    ensures left { λ _. ⌜ now (out .exit) ≡ weekdayBytes (now (days .entry)) (dayDate first) (dayDate last) (now (out .entry)) ⌝ }
 {
     told(calendar::write_weekdays(days, date_of(first), date_of(last), out))
 }

@@ -8,7 +8,7 @@ use interchange::reader::Reading;
 use interchange::reader::read;
 ghost use mathlib.Core.Path.{_≡_};
 ghost use lib.ListN.{length};
-ghost use Rattle.interchange.specs.Reader.{readingOf, readAnswer, answerOf, rowsAfter};
+ghost use Rattle.interchange.specs.Reader.{readingOf, readAnswer, outcomeAnswer, rowsAfter};
 ghost use Rattle.answers.specs.Answers as answer;
 ghost use Rattle.desk.specs.Desk.{replyOf};
 
@@ -55,7 +55,7 @@ fn told(reading: Reading) -> Reply
 /// refusal leaves the buffer as it was, and what stands past the rows stays too.
 #[no_mangle]
 pub extern "C" fn drumcallisto_read(interchange: &[u8], rows: &mut [u32]) -> Reply
-    ensures told { λ r. ⌜ r ≡ replyOf (answerOf (readingOf (now (interchange .entry))) (length (now (rows .entry)))) ⌝ }
+    ensures told { λ r. ⌜ r ≡ replyOf (outcomeAnswer (readingOf (now (interchange .entry))) (length (now (rows .entry)))) ⌝ }
     ensures left { λ _. ⌜ now (rows .exit) ≡ rowsAfter (readingOf (now (interchange .entry))) (now (rows .entry)) ⌝ }
 {
     told(read(interchange, rows))

@@ -17,9 +17,9 @@ ghost use mathlib.Core.Path.{_≡_};
 ghost use lib.ListN.{length};
 ghost use Rattle.services.specs.Services.{nextService, periodsFrom};
 ghost use Rattle.stages.specs.Stage.{firstOutside, daysOf};
-ghost use Rattle.desk.specs.Services.{foundService, partFrom, copiedAnswer, numberAnswer, numberBytes};
+ghost use Rattle.desk.specs.Services.{foundService, partFrom, copiedAnswer, numberAnswer, numberOutput};
 ghost use Rattle.desk.specs.Days.{insideAnswer, insideDays, daysAnswer, daysBytes};
-ghost use Rattle.desk.specs.Desk.{replyOf, dateOf};
+ghost use Rattle.desk.specs.Desk.{replyOf, dayDate};
 
 /// A service as C takes it, or that there is none more; then the rest is 0.
 #[repr(C)]
@@ -81,7 +81,7 @@ fn told(copied: Copied) -> Reply
 #[no_mangle]
 pub extern "C" fn drumcallisto_number(s: &[u8], from: usize, to: usize, out: &mut [u8]) -> Reply
     ensures told { λ r. ⌜ r ≡ replyOf (numberAnswer (now (s .entry)) (partFrom from to) (now (out .entry))) ⌝ }
-    ensures left { λ _. ⌜ now (out .exit) ≡ numberBytes (now (s .entry)) (partFrom from to) (now (out .entry)) ⌝ }
+    ensures left { λ _. ⌜ now (out .exit) ≡ numberOutput (now (s .entry)) (partFrom from to) (now (out .entry)) ⌝ }
 {
     let part = Part { from, to };
     told(values::copy_plain(bytes_of(s, part), out))
@@ -113,8 +113,8 @@ pub extern "C" fn drumcallisto_days(
     first: Day,
     days: &mut [u8],
 ) -> Reply
-    ensures told { λ r. ⌜ r ≡ replyOf (daysAnswer (now (s .entry)) (periodsFrom (now (rows .entry)) from to) (dateOf first) (now (days .entry))) ⌝ }
-    ensures left { λ _. ⌜ now (days .exit) ≡ daysBytes (now (s .entry)) (periodsFrom (now (rows .entry)) from to) (dateOf first) (now (days .entry)) ⌝ }
+    ensures told { λ r. ⌜ r ≡ replyOf (daysAnswer (now (s .entry)) (periodsFrom (now (rows .entry)) from to) (dayDate first) (now (days .entry))) ⌝ }
+    ensures left { λ _. ⌜ now (days .exit) ≡ daysBytes (now (s .entry)) (periodsFrom (now (rows .entry)) from to) (dayDate first) (now (days .entry)) ⌝ }
 {
     if days.len() != 64 {
         return refused(19, 0);

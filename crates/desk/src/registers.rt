@@ -16,7 +16,7 @@ ghost use Rattle.contents.specs.Calls.{releaseOf, withdrawOf, showAnswer, showB
 ghost use Rattle.register.specs.Register.{openedAnswer, releasedAnswer, withdrawnAnswer, recordAnswer};
 ghost use Rattle.stages.specs.Stage.{stageOf};
 ghost use Rattle.staging.specs.Room.{stagedAnswer};
-ghost use Rattle.desk.specs.Desk.{replyOf, dateOf};
+ghost use Rattle.desk.specs.Desk.{replyOf, dayDate};
 
 /// Whether a buffer is a register.
 #[no_mangle]
@@ -39,8 +39,8 @@ fn opened(answer: Opened) -> Reply
 /// Opens a register over a buffer: window and quotas, no records.
 #[no_mangle]
 pub extern "C" fn drumcallisto_open(b: &mut [u8], first: Day, quotas: &[u32; 8]) -> Reply
-    ensures told { λ r. ⌜ r ≡ replyOf (openAnswer (now (b .entry)) (dateOf first) (now (quotas .entry))) ⌝ }
-    ensures left { λ _. ⌜ now (b .exit) ≡ openBytes (now (b .entry)) (dateOf first) (now (quotas .entry)) ⌝ }
+    ensures told { λ r. ⌜ r ≡ replyOf (openAnswer (now (b .entry)) (dayDate first) (now (quotas .entry))) ⌝ }
+    ensures left { λ _. ⌜ now (b .exit) ≡ openBytes (now (b .entry)) (dayDate first) (now (quotas .entry)) ⌝ }
 {
     opened(register::open(b, date_of(first), *quotas))
 }

@@ -20,13 +20,13 @@ unfoldable pub keptSlot : List ℕ → List ℕ
 keptSlot slot = pick (eqb (getD slot 75 0) 0) slot (madeLive slot)
 
 -- by what is pending: "or removes its record"
-abbrev pub settledBy : List ℕ → Pending → List ℕ
-settledBy slot nothing = slot
-settledBy slot (put c) = madeLive slot
-settledBy slot removal = []
+abbrev pub slotSettledBy : List ℕ → Pending → List ℕ
+slotSettledBy slot nothing = slot
+slotSettledBy slot (put c) = madeLive slot
+slotSettledBy slot removal = []
 
 unfoldable pub settledSlot : List ℕ → List ℕ
-settledSlot slot = settledBy slot (pendingIn slot)
+settledSlot slot = slotSettledBy slot (pendingIn slot)
 
 -- one behind the other
 unfoldable pub settledSlots : List (List ℕ) → List ℕ

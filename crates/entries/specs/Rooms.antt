@@ -24,7 +24,7 @@ use Rattle.rooms.specs.Lookup.{none≢some, lookup-bad}
 use Rattle.rooms.specs.Changes.{placeIn, find-place, foundIn, changedAt, place-within, lookup-place, changed-place}
 use Rattle.rooms.specs.Places.{record-within, record-there, record-good, slot-there, slot-byte, used-slots, room-removed, room-replaced}
 use Rattle.rooms.specs.Settled.{released-good}
-use Rattle.entries.specs.Release.{madeLive, settledBy, settledSlot, settledSlots, pendingOne, pendingSlots, usedSlots, releasedRoom}
+use Rattle.entries.specs.Release.{madeLive, slotSettledBy, settledSlot, settledSlots, pendingOne, pendingSlots, usedSlots, releasedRoom}
 use Rattle.entries.specs.Withdraw.{slotFound, withdrawsAt, leftAt, withdraws, withdrawnRoom}
 use Rattle.entries.specs.Withdrawing.{found-is}
 
@@ -83,7 +83,7 @@ settled-records (r ∷ rs) q = rw (settledSlot, pending-slot r (w .0), settled-r
     w : (goodRecord r ≡ true) × (all goodRecord rs ≡ true)
     w = both-parts (goodRecord r) (all goodRecord rs) q
 
-    go : (p : Pending) → r .pending ≡ p → settledBy (slotOf r) p ++ joined (map slotOf (released rs)) ≡ joined (map slotOf (listed (calls.settledBy r p) ++ released rs))
+    go : (p : Pending) → r .pending ≡ p → slotSettledBy (slotOf r) p ++ joined (map slotOf (released rs)) ≡ joined (map slotOf (listed (calls.settledBy r p) ++ released rs))
     go nothing e = refl
     go (put c) e = rw (live-made r c (w .0) e)
     go removal e = refl

@@ -71,8 +71,8 @@ typeOf g = valueOf g 1 1
 abbrev pub versionOf : List ℕ → List ℕ
 versionOf g = valueOf g 1 2
 
-abbrev pub releaseOf : List ℕ → List ℕ
-releaseOf g = valueOf g 1 3
+abbrev pub releaseNumberOf : List ℕ → List ℕ
+releaseNumberOf g = valueOf g 1 3
 
 abbrev pub subFunctionOf : List ℕ → List ℕ
 subFunctionOf g = valueOf g 1 4
@@ -99,8 +99,8 @@ typed type reference = pick (says type SKDUPD) (Message Skdupd reference) (pick 
 -- an absent part is 7 also where another part is wrong; then what is not known is 8
 unfoldable pub uihOf : List ℕ → Headed
 uihOf g =
-    pick (complete (typeOf g) (versionOf g) (releaseOf g) (agencyOf g) (referenceOf g))
-    (pick (directory (versionOf g) (releaseOf g) (subFunctionOf g) (agencyOf g)) (typed (typeOf g) (placeOf g 2 1)) Unknown)
+    pick (complete (typeOf g) (versionOf g) (releaseNumberOf g) (agencyOf g) (referenceOf g))
+    (pick (directory (versionOf g) (releaseNumberOf g) (subFunctionOf g) (agencyOf g)) (typed (typeOf g) (placeOf g 2 1)) Unknown)
     Missing
 
 -- A trailer repeats a reference, as it was written, in its first element and gives a count in its second.
@@ -118,9 +118,9 @@ abbrev pub uizOf : List ℕ → List ℕ → ℕ → Bool
 uizOf g dialogue messages = trailerOf g dialogue messages
 
 -- what each case answers, of a segment at an offset: the dialogue reference's place; the type and the place of 0340; nothing
-abbrev pub openedAnswer : ℕ → Opened → Answer Part
-openedAnswer at (Dialogue p) = done p
-openedAnswer at Wrong = wrongEnvelope at
+abbrev pub openingAnswer : ℕ → Opened → Answer Part
+openingAnswer at (Dialogue p) = done p
+openingAnswer at Wrong = wrongEnvelope at
 
 pub record Head : Type 0 where
   pub message : MessageType
@@ -146,8 +146,8 @@ typeAnswer at type reference =
 
 unfoldable pub uihAnswer : ℕ → List ℕ → Answer Head
 uihAnswer at g =
-    pick (complete (typeOf g) (versionOf g) (releaseOf g) (agencyOf g) (referenceOf g))
-    (pick (directory (versionOf g) (releaseOf g) (subFunctionOf g) (agencyOf g)) (typeAnswer at (typeOf g) (placeOf g 2 1)) (unknownType at))
+    pick (complete (typeOf g) (versionOf g) (releaseNumberOf g) (agencyOf g) (referenceOf g))
+    (pick (directory (versionOf g) (releaseNumberOf g) (subFunctionOf g) (agencyOf g)) (typeAnswer at (typeOf g) (placeOf g 2 1)) (unknownType at))
     (wrongEnvelope at)
 
 abbrev pub uitAnswer : ℕ → List ℕ → List ℕ → ℕ → Answer (Unit {0})

@@ -21,7 +21,7 @@ use Rattle.messages.specs.declared.MessageType.{MessageType}
 use Rattle.messages.specs.declared.MessageType.the-variants.{Skdupd, Tsdupd}
 use Rattle.envelope.specs.declared.Opened.the-variants.{Dialogue, Wrong}
 use Rattle.envelope.specs.declared.Headed.the-variants.{Message, Missing, Unknown}
-use Rattle.envelope.specs.Envelope.{says, valueOf, placeOf, complete, directory, typed, typeOf, versionOf, releaseOf, agencyOf, subFunctionOf, referenceOf, UNOB, version4, SKDUPD, TSDUPD, uibOf, uihOf}
+use Rattle.envelope.specs.Envelope.{says, valueOf, placeOf, complete, directory, typed, typeOf, versionOf, releaseNumberOf, agencyOf, subFunctionOf, referenceOf, UNOB, version4, SKDUPD, TSDUPD, uibOf, uihOf}
 
 -- what stands up to a list's end; the parts of the whole segment are the segment's
 pub between-end : (g : List ℕ) (a : ℕ) → between g a (length g) ≡ drop a g
@@ -36,8 +36,8 @@ pub value-at : (g : List ℕ) (e c : ℕ) → bytesOf g (placeOf g e c) ≡ valu
 value-at g e c = part-bytes g (record { from = 0; to = length g }) e 1 c ∙ ap (λ (x : List ℕ). partOf x e 1 c) (whole-bytes g)
 
 -- where the first occurrence of an element stands
-abbrev pub occurrenceOf : List ℕ → ℕ → Part
-occurrenceOf g e = occurrenceAt g (elementAt g (record { from = 0; to = length g }) e) 1
+abbrev pub occurrenceFound : List ℕ → ℕ → Part
+occurrenceFound g e = occurrenceAt g (elementAt g (record { from = 0; to = length g }) e) 1
 
 -- a part that is present has a byte, and the other way round
 pub present-length : (l : List ℕ) → present l ≡ ltb 0 (length l)
@@ -133,11 +133,11 @@ module _ (g : List ℕ) (m : MessageType) (p : Part) where
   good-head : uihOf g ≡ Message m p → (present (referenceOf g) ≡ true) × (placeOf g 2 1 ≡ p)
   unfolding uihOf
   good-head q =
-      choose (complete (typeOf g) (versionOf g) (releaseOf g) (agencyOf g) (referenceOf g))
+      choose (complete (typeOf g) (versionOf g) (releaseNumberOf g) (agencyOf g) (referenceOf g))
       (λ k.
-      choose (directory (versionOf g) (releaseOf g) (subFunctionOf g) (agencyOf g))
+      choose (directory (versionOf g) (releaseNumberOf g) (subFunctionOf g) (agencyOf g))
       (λ d. (
-        complete-reference (typeOf g) (versionOf g) (releaseOf g) (agencyOf g) (referenceOf g) k,
+        complete-reference (typeOf g) (versionOf g) (releaseNumberOf g) (agencyOf g) (referenceOf g) k,
         typed-place (typeOf g) (placeOf g 2 1) p m (rw (k, d) at q),
       ))
       (λ d. absurd (unknown≢message m p (rw (k, d) at q))))

@@ -9,11 +9,11 @@ use Rattle.answers.specs.Answers.{done, wrongEnvelope}
 use Rattle.parts.specs.declared.Part.{Part}
 use Rattle.envelope.specs.declared.Opened.{Opened}
 use Rattle.envelope.specs.declared.Headed.{Headed}
-use Rattle.envelope.specs.Envelope.{says, SKDUPD, TSDUPD, placeOf, opens, uibOf, typeOf, versionOf, releaseOf, subFunctionOf, agencyOf, referenceOf, complete, directory, typed, uihOf, openedAnswer, headedAnswer, trailerAnswer, uibAnswer, typeAnswer, uihAnswer}
+use Rattle.envelope.specs.Envelope.{says, SKDUPD, TSDUPD, placeOf, opens, uibOf, typeOf, versionOf, releaseNumberOf, subFunctionOf, agencyOf, referenceOf, complete, directory, typed, uihOf, openingAnswer, headedAnswer, trailerAnswer, uibAnswer, typeAnswer, uihAnswer}
 
-pub uib-said : (g : List ℕ) {x : Opened} → x ≡ uibOf g → (x ≡ uibOf g) × ((at : ℕ) → openedAnswer at x ≡ uibAnswer at g)
+pub uib-said : (g : List ℕ) {x : Opened} → x ≡ uibOf g → (x ≡ uibOf g) × ((at : ℕ) → openingAnswer at x ≡ uibAnswer at g)
 unfolding uibOf uibAnswer
-uib-said g e = (e, λ at. ap (openedAnswer at) e ∙ choose (opens g) (λ q. rw q) (λ q. rw q))
+uib-said g e = (e, λ at. ap (openingAnswer at) e ∙ choose (opens g) (λ q. rw q) (λ q. rw q))
 
 type-said : (at : ℕ) (type : List ℕ) (p : Part) → headedAnswer at (typed type p) ≡ typeAnswer at type p
 type-said at type p = choose (says type SKDUPD) (λ q. rw q) (λ q. choose (says type TSDUPD) (λ r. rw (q, r)) (λ r. rw (q, r)))
@@ -21,9 +21,9 @@ type-said at type p = choose (says type SKDUPD) (λ q. rw q) (λ q. choose (says
 head-said : (at : ℕ) (g : List ℕ) → headedAnswer at (uihOf g) ≡ uihAnswer at g
 unfolding uihOf uihAnswer
 head-said at g =
-    choose (complete (typeOf g) (versionOf g) (releaseOf g) (agencyOf g) (referenceOf g))
+    choose (complete (typeOf g) (versionOf g) (releaseNumberOf g) (agencyOf g) (referenceOf g))
     (λ q.
-    choose (directory (versionOf g) (releaseOf g) (subFunctionOf g) (agencyOf g)) (λ d. rw (q, d) (type-said at (typeOf g) (placeOf g 2 1))) (λ d. rw (q, d)))
+    choose (directory (versionOf g) (releaseNumberOf g) (subFunctionOf g) (agencyOf g)) (λ d. rw (q, d) (type-said at (typeOf g) (placeOf g 2 1))) (λ d. rw (q, d)))
     (λ q. rw q)
 
 pub uih-said : (g : List ℕ) {x : Headed} → x ≡ uihOf g → (x ≡ uihOf g) × ((at : ℕ) → headedAnswer at x ≡ uihAnswer at g)

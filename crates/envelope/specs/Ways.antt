@@ -8,7 +8,7 @@ use Rattle.laws.specs.Choice.{all, both-false}
 use Rattle.parts.specs.Places.{present}
 use Rattle.envelope.specs.declared.Opened.the-variants.{Dialogue, Wrong}
 use Rattle.envelope.specs.declared.Headed.the-variants.{Missing, Unknown}
-use Rattle.envelope.specs.Envelope.{says, valueOf, placeOf, directory, typed, typeOf, versionOf, releaseOf, agencyOf, subFunctionOf, referenceOf, UNOB, version4, versionD, release04A, agencyUN, uibOf, uihOf}
+use Rattle.envelope.specs.Envelope.{says, valueOf, placeOf, directory, typed, typeOf, versionOf, releaseNumberOf, agencyOf, subFunctionOf, referenceOf, UNOB, version4, versionD, release04A, agencyUN, uibOf, uihOf}
 
 -- a test of four values, each known under another name
 pub of-four : (f : List ℕ → List ℕ → List ℕ → List ℕ → Bool) {a b d e a′ b′ d′ e′ : List ℕ} → a ≡ a′ → b ≡ b′ → d ≡ d′ → e ≡ e′ → f a b d e ≡ f a′ b′ d′ e′
@@ -54,15 +54,15 @@ module _ (g : List ℕ) where
   uih-absent h = simp (h, both-false)
 
   module _ (h : present (referenceOf g) ≡ true) where
-    pub uih-missing : all present (typeOf g ∷ versionOf g ∷ releaseOf g ∷ agencyOf g ∷ []) ≡ false → Missing ≡ uihOf g
+    pub uih-missing : all present (typeOf g ∷ versionOf g ∷ releaseNumberOf g ∷ agencyOf g ∷ []) ≡ false → Missing ≡ uihOf g
     unfolding uihOf
     uih-missing a = rw (h, a)
 
-    module _ (a : all present (typeOf g ∷ versionOf g ∷ releaseOf g ∷ agencyOf g ∷ []) ≡ true) where
-      pub uih-unknown : directory (versionOf g) (releaseOf g) (subFunctionOf g) (agencyOf g) ≡ false → Unknown ≡ uihOf g
+    module _ (a : all present (typeOf g ∷ versionOf g ∷ releaseNumberOf g ∷ agencyOf g ∷ []) ≡ true) where
+      pub uih-unknown : directory (versionOf g) (releaseNumberOf g) (subFunctionOf g) (agencyOf g) ≡ false → Unknown ≡ uihOf g
       unfolding uihOf
       uih-unknown b = rw (h, a, b)
 
-      pub uih-typed : directory (versionOf g) (releaseOf g) (subFunctionOf g) (agencyOf g) ≡ true → typed (typeOf g) (placeOf g 2 1) ≡ uihOf g
+      pub uih-typed : directory (versionOf g) (releaseNumberOf g) (subFunctionOf g) (agencyOf g) ≡ true → typed (typeOf g) (placeOf g 2 1) ≡ uihOf g
       unfolding uihOf
       uih-typed b = rw (h, a, b)

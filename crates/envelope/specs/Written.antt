@@ -12,7 +12,7 @@ use Rattle.laws.specs.Choice.{pick, both, both-false, both-parts, false≢true,
 use Rattle.laws.specs.Lists.{drop-here, drop-past}
 use Rattle.laws.specs.Text.{bytes}
 use Rattle.syntax.specs.Bytes.{plainOn}
-use Rattle.syntax.specs.Pieces.{first, later, partOf}
+use Rattle.syntax.specs.Pieces.{firstPiece, laterPieces, partOf}
 use Rattle.values.specs.Values.{sameText}
 use Rattle.parts.specs.declared.Part.{Part}
 use Rattle.parts.specs.Places.{partAt, elementAt, occurrenceAt, componentAt, spanOf, present}
@@ -85,7 +85,7 @@ record Known (message : MessageType) (text : List ℕ) : Type 0 where
   pub good : (rest : List ℕ) → uihOf (text ++ rest) ≡ pick (both (present (referenceOf (text ++ rest))) true) (Message message (placeOf (text ++ rest) 2 1)) Missing
 
 skdupd : Known Skdupd headSKDUPD
-unfolding uihOf partOf first later plainOn sameText elementAt spanOf
+unfolding uihOf partOf firstPiece laterPieces plainOn sameText elementAt spanOf
 skdupd =
     record {
       element = λ rest. rw (between-end (headSKDUPD ++ rest) 20, whole-bytes (headSKDUPD ++ rest));
@@ -93,7 +93,7 @@ skdupd =
     }
 
 tsdupd : Known Tsdupd headTSDUPD
-unfolding uihOf partOf first later plainOn sameText elementAt spanOf
+unfolding uihOf partOf firstPiece laterPieces plainOn sameText elementAt spanOf
 tsdupd =
     record {
       element = λ rest. rw (between-end (headTSDUPD ++ rest) 20, whole-bytes (headTSDUPD ++ rest));

@@ -12,8 +12,8 @@ ghost use Rattle.laws.specs.Decimal.{decimalOf};
 ghost use Rattle.syntax.specs.Bytes.{plain};
 ghost use Rattle.parts.specs.Places.{present};
 ghost use Rattle.values.specs.Values.{sameText};
-ghost use Rattle.envelope.specs.Envelope.{valueOf, placeOf, directory, typed, uibOf, uihOf, trailerOf, uitOf, uizOf, openedAnswer, headedAnswer, trailerAnswer, uibAnswer, uihAnswer, uitAnswer, uizAnswer};
-ghost use Rattle.envelope.specs.Laws.{occurrenceOf};
+ghost use Rattle.envelope.specs.Envelope.{valueOf, placeOf, directory, typed, uibOf, uihOf, trailerOf, uitOf, uizOf, openingAnswer, headedAnswer, trailerAnswer, uibAnswer, uihAnswer, uitAnswer, uizAnswer};
+ghost use Rattle.envelope.specs.Laws.{occurrenceFound};
 ghost use Rattle.envelope.specs.Written.{beginsWith, writtenOf};
 
 /// What a UIB says.
@@ -71,7 +71,7 @@ fn value(segment: &[u8], e: usize, c: usize) -> &[u8]
 
 // Where the first occurrence of element e stands.
 fn occurrence(segment: &[u8], e: usize) -> Part
-    ensures { λ r. ⌜ r ≡ occurrenceOf (now (segment .entry)) e ⌝ }
+    ensures { λ r. ⌜ r ≡ occurrenceFound (now (segment .entry)) e ⌝ }
 {
     let whole = Part {
         from: 0,
@@ -82,7 +82,7 @@ fn occurrence(segment: &[u8], e: usize) -> Part
 
 // Component c of the first element as written, its first occurrence found: an element may be long, and most of it not read.
 fn value_in(segment: &[u8], found: Part, c: usize) -> &[u8]
-    requires { ⌜ found ≡ occurrenceOf (now segment) 1 ⌝ }
+    requires { ⌜ found ≡ occurrenceFound (now segment) 1 ⌝ }
     ensures { λ r. ⌜ now r ≡ valueOf (now (segment .entry)) 1 c ⌝ }
 {
     parts::bytes_of(segment, parts::component(segment, found, c))
@@ -91,7 +91,7 @@ fn value_in(segment: &[u8], found: Part, c: usize) -> &[u8]
 /// Whether a UIB begins `UNOB:4` and where its dialogue reference stands.
 pub fn read_uib(segment: &[u8]) -> Opened
     ensures uib { λ r. ⌜ r ≡ uibOf (now (segment .entry)) ⌝ }
-    ensures said { λ r. ⌜ ((at : ℕ) → openedAnswer at r ≡ uibAnswer at (now (segment .entry))) ⌝ }
+    ensures said { λ r. ⌜ ((at : ℕ) → openingAnswer at r ≡ uibAnswer at (now (segment .entry))) ⌝ }
 {
     if !values::equals(value(segment, 1, 1), b"UNOB") {
         return Opened::Wrong;

@@ -10,7 +10,7 @@ use borrow.Author.Tests.{eq-eqb, ne-eqb, leb-true, not-true}
 use Rattle.laws.specs.Choice.{both, either, all, both-parts, either-parts}
 use Rattle.laws.specs.Sweep.{agree}
 use Rattle.syntax.specs.Bytes.{permittedOf, plain, plainOn}
-use Rattle.syntax.specs.Pieces.{first, later, pieces}
+use Rattle.syntax.specs.Pieces.{firstPiece, laterPieces, pieces}
 
 -- a test of each byte of two texts is one of both
 pub all-append : (f : ℕ → Bool) (a b : List ℕ) → all f a ≡ true → all f b ≡ true → all f (a ++ b) ≡ true
@@ -33,32 +33,32 @@ quiet-parts : (c b : ℕ) → quiet c b ≡ true → (eqb b c ≡ false) × (eqb
 quiet-parts c b p = either-parts (eqb b c) (eqb b 63) (not-true (either (eqb b c) (eqb b 63)) p)
 
 module _ (c : ℕ) where
-  pub first-all : (l : List ℕ) → all (quiet c) l ≡ true → first c false l ≡ l
-  unfolding first
+  pub first-all : (l : List ℕ) → all (quiet c) l ≡ true → firstPiece c false l ≡ l
+  unfolding firstPiece
   first-all [] p = refl
   first-all (b ∷ l) p =
       let u = both-parts (quiet c b) (all (quiet c) l) p in
       let q = quiet-parts c b (u .0) in
       rw (q .0, q .1) (ap (λ (x : List ℕ). b ∷ x) (first-all l (u .1)))
 
-  pub later-all : (l : List ℕ) → all (quiet c) l ≡ true → later c false l ≡ []
-  unfolding later
+  pub later-all : (l : List ℕ) → all (quiet c) l ≡ true → laterPieces c false l ≡ []
+  unfolding laterPieces
   later-all [] p = refl
   later-all (b ∷ l) p =
       let u = both-parts (quiet c b) (all (quiet c) l) p in
       let q = quiet-parts c b (u .0) in
       rw (q .0, q .1) (later-all l (u .1))
 
-  pub first-cut : (l m : List ℕ) → all (quiet c) l ≡ true → first c false (l ++ (c ∷ m)) ≡ l
-  unfolding first
+  pub first-cut : (l m : List ℕ) → all (quiet c) l ≡ true → firstPiece c false (l ++ (c ∷ m)) ≡ l
+  unfolding firstPiece
   first-cut [] m p = rw (eq-eqb c c refl)
   first-cut (b ∷ l) m p =
       let u = both-parts (quiet c b) (all (quiet c) l) p in
       let q = quiet-parts c b (u .0) in
       rw (q .0, q .1) (ap (λ (x : List ℕ). b ∷ x) (first-cut l m (u .1)))
 
-  pub later-cut : (l m : List ℕ) → eqb c 63 ≡ false → all (quiet c) l ≡ true → later c false (l ++ (c ∷ m)) ≡ pieces c m
-  unfolding later
+  pub later-cut : (l m : List ℕ) → eqb c 63 ≡ false → all (quiet c) l ≡ true → laterPieces c false (l ++ (c ∷ m)) ≡ pieces c m
+  unfolding laterPieces
   later-cut [] m n p = rw (eq-eqb c c refl, n)
   later-cut (b ∷ l) m n p =
       let u = both-parts (quiet c b) (all (quiet c) l) p in

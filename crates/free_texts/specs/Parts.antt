@@ -8,7 +8,7 @@ use lib.Dec.{ltb}
 use lib.ListN.{length}
 use Rattle.laws.specs.Choice.{all}
 use Rattle.laws.specs.Text.{bytes}
-use Rattle.syntax.specs.Pieces.{first, later, pieces, nth, elements, occurrences, components, partOf}
+use Rattle.syntax.specs.Pieces.{firstPiece, laterPieces, pieces, nth, elements, occurrences, components, partOf}
 use Rattle.parts.specs.Places.{repeats}
 use Rattle.free_texts.specs.Free.{all-append, quiet, later-cut, one-piece, more-pieces, numeric, no-plus, no-star, no-colon}
 
@@ -47,7 +47,7 @@ not-repeated g e es i a b o =
 
 -- what is not there is one empty piece
 pub empty-cut : (c : ℕ) → pieces c [] ≡ [] ∷ []
-unfolding first later
+unfolding firstPiece laterPieces
 empty-cut c = refl
 
 -- what is known of a written POP: its dates, its day string and its weekdays, and that none of them is repeated

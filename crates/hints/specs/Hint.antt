@@ -19,17 +19,17 @@ use Rattle.answers.specs.Answers.{Answer, done}
 
 -- no hint; "a later place of the same group", a segment or a group; "the same place again"; "the group once more";
 -- and the group once more after its own head, whose number does not allow it again
-abbrev pub none : ℕ
-none = 0
+abbrev pub noHint : ℕ
+noHint = 0
 
-abbrev pub later : ℕ → ℕ → ℕ
-later level row = level * 256 + row
+abbrev pub laterHint : ℕ → ℕ → ℕ
+laterHint level row = level * 256 + row
 
 abbrev pub laterGroup : ℕ → ℕ → ℕ
 laterGroup level row = 4096 + level * 256 + row
 
-abbrev pub again : ℕ → ℕ → ℕ
-again level row = 8192 + level * 256 + row
+abbrev pub againHint : ℕ → ℕ → ℕ
+againHint level row = 8192 + level * 256 + row
 
 abbrev pub onceMore : ℕ → ℕ → ℕ
 onceMore level row = 12288 + level * 256 + row
@@ -58,18 +58,18 @@ abbrev pub lastIn : ℕ → ℕ
 lastIn e = levelIn e + deeperIn e
 
 -- the place entered: a group's row stands above its head's
-abbrev pub placeIn : ℕ → ℕ
-placeIn e = rowIn e - deeperIn e
+abbrev pub enteredIn : ℕ → ℕ
+enteredIn e = rowIn e - deeperIn e
 
 abbrev pub laneOf : ℕ → ℕ → ℕ
 laneOf w k = w / 2 ^ (16 * k) % 65536
 
 -- which of a row's sixteen hints may tell of a tag: any number below 16 would be right, since a hint is taken for no tag but that of its row
-abbrev pub slotOf : ℕ → ℕ
-slotOf tag = tag * 12510139 / 2 ^ 21 % 16
+abbrev pub hintSlot : ℕ → ℕ
+hintSlot tag = tag * 12510139 / 2 ^ 21 % 16
 
 unfoldable pub hintAt : List ℕ → ℕ → ℕ → ℕ
-hintAt hints row tag = pick (ltb row (length hints / 4)) (laneOf (getD hints (row * 4 + slotOf tag / 4) 0) (slotOf tag % 4)) 0
+hintAt hints row tag = pick (ltb row (length hints / 4)) (laneOf (getD hints (row * 4 + hintSlot tag / 4) 0) (hintSlot tag % 4)) 0
 
 -- the counts of a level and of the one below it
 abbrev pub countsOf : Place → ℕ → Pair
@@ -80,7 +80,7 @@ abbrev pub allowedOf : ℕ → ℕ → ℕ
 allowedOf n number = pick (ltb n number) (n + 1) 0
 
 abbrev pub moreOf : Table → Place → ℕ → ℕ
-moreOf t p e = allowedOf (countAt p (levelIn e)) (most t (placeIn e))
+moreOf t p e = allowedOf (countAt p (levelIn e)) (most t (enteredIn e))
 
 -- one level deeper than a hint's, the number of the row reached allows it again
 abbrev pub unused : Table → Place → ℕ → Bool
@@ -102,8 +102,8 @@ unfoldable pub quickOf : Table → List ℕ → Place → ℕ → Stepped
 quickOf t hints p tag = quickBy t p tag (hintAt hints (p .row) tag) (timesOf t p tag (hintAt hints (p .row) tag))
 
 -- and what is answered then, of a segment at an offset: the hint's place, or what the placing rule answers
-abbrev pub answerBy : ℕ → Table → Place → ℕ → ℕ → ℕ → Answer Place
-answerBy at t p tag e n = pick (eqb n 0) (placeAnswer at t p tag) (done (reachedOf p (levelIn e) n (rowIn e) (lastIn e)))
+abbrev pub hintAnswer : ℕ → Table → Place → ℕ → ℕ → ℕ → Answer Place
+hintAnswer at t p tag e n = pick (eqb n 0) (placeAnswer at t p tag) (done (reachedOf p (levelIn e) n (rowIn e) (lastIn e)))
 
 unfoldable pub quickAnswer : ℕ → Table → List ℕ → Place → ℕ → Answer Place
-quickAnswer at t hints p tag = answerBy at t p tag (hintAt hints (p .row) tag) (timesOf t p tag (hintAt hints (p .row) tag))
+quickAnswer at t hints p tag = hintAnswer at t p tag (hintAt hints (p .row) tag) (timesOf t p tag (hintAt hints (p .row) tag))

@@ -26,8 +26,8 @@ use Rattle.placing.specs.Tables.{tableOf}
 use Rattle.placing.specs.Tables as tables
 use Rattle.placing.specs.Skdupd.{skdupdTable}
 use Rattle.placing.specs.Tsdupd.{tsdupdTable}
-use Rattle.hints.specs.Hint.{rowIn, levelIn, lastIn, placeIn, laneOf, slotOf, hintAt, moreOf, unused, timesOf, quickBy, quickOf}
-use Rattle.hints.specs.Told.{Told, More, Next, Silent, nextBy, toldBy, laterFit, passed, toldFrom, anewFrom, toldOf, says, agrees, deeper, rightBy, hintRight, wordBy, rightFrom, right}
+use Rattle.hints.specs.Hint.{rowIn, levelIn, lastIn, enteredIn, laneOf, hintSlot, hintAt, moreOf, unused, timesOf, quickBy, quickOf}
+use Rattle.hints.specs.Told.{Told, More, Next, Silent, nextTold, toldBy, laterFit, passed, toldFrom, anewFrom, hintTold, saysHint, agrees, deeper, rightBy, hintRight, wordBy, rightFrom, right}
 use Rattle.hints.specs.Ways.{repeated-again, repeated-unused, repeated-anew, times-none, times-other, times-later, times-repeated}
 use Rattle.hints.specs.Hints.{hintsOf}
 use Rattle.hints.specs.Hints as hints
@@ -44,7 +44,7 @@ module _ (t : Table) (p : Place) where
 
   -- the later places, `above` being what the levels above them come to
   next-meets : (level : ℕ) (x : Fit) (b : Bool) (up : Told) (above : Stepped) → Meets up above
-      → Meets (nextBy level x b up) (orStepped (placedAt p level 1 x) (pick b above OutOfPlace))
+      → Meets (nextTold level x b up) (orStepped (placedAt p level 1 x) (pick b above OutOfPlace))
   next-meets level (At r d) b up above m = refl
   next-meets level Nowhere true up above m = m
   next-meets level Nowhere false up above m = tt
@@ -125,10 +125,10 @@ module _ (t : Table) (p : Place) (e : ℕ) (s : Stepped) where
   abbrev Said : ℕ → Type 0
   Said n = s ≡ Placed (reachedOf p (levelIn e) n (rowIn e) (lastIn e))
 
-  level-said : (level r d : ℕ) → T (says e level r d) → level ≡ levelIn e
+  level-said : (level r d : ℕ) → T (saysHint e level r d) → level ≡ levelIn e
   level-said level r d h = eqb-true level (levelIn e) (holds _ (both-left (eqb level (levelIn e)) (both (eqb r (rowIn e)) (eqb (4 - d) (lastIn e))) h))
 
-  said-is : (level r d n : ℕ) → T (says e level r d) → s ≡ Placed (reachedOf p level n r (4 - d)) → Said n
+  said-is : (level r d n : ℕ) → T (saysHint e level r d) → s ≡ Placed (reachedOf p level n r (4 - d)) → Said n
   said-is level r d n h q =
       let a = level-said level r d h in
       let k = both-right (eqb level (levelIn e)) (both (eqb r (rowIn e)) (eqb (4 - d) (lastIn e))) h in
@@ -138,22 +138,22 @@ module _ (t : Table) (p : Place) (e : ℕ) (s : Stepped) where
 
   next-said : (x : Told) → T (agrees e x) → Meets t p x s → e < 8192 → Said 1
   next-said (More row level r d) h m l =
-      let k = leb-true 8192 e (holds _ (both-left (leb 8192 e) (both (eqb row (placeIn e)) (says e level r d)) h)) in
+      let k = leb-true 8192 e (holds _ (both-left (leb 8192 e) (both (eqb row (enteredIn e)) (saysHint e level r d)) h)) in
       absurd (omega arith)
-  next-said (Next level r d) h m l = said-is level r d 1 (both-right (ltb e 8192) (says e level r d) h) m
+  next-said (Next level r d) h m l = said-is level r d 1 (both-right (ltb e 8192) (saysHint e level r d) h) m
   next-said Silent h m l = absurd h
 
-  more-said : (x : Told) → T (agrees e x) → Meets t p x s → 8192 ≤ e → countAt p (levelIn e) < most t (placeIn e) → Said (countAt p (levelIn e) + 1)
+  more-said : (x : Told) → T (agrees e x) → Meets t p x s → 8192 ≤ e → countAt p (levelIn e) < most t (enteredIn e) → Said (countAt p (levelIn e) + 1)
   more-said (More row level r d) h m g l =
-      let k = both-right (leb 8192 e) (both (eqb row (placeIn e)) (says e level r d)) h in
-      let w = eqb-true row (placeIn e) (holds _ (both-left (eqb row (placeIn e)) (says e level r d) k)) in
-      let y = both-right (eqb row (placeIn e)) (says e level r d) k in
+      let k = both-right (leb 8192 e) (both (eqb row (enteredIn e)) (saysHint e level r d)) h in
+      let w = eqb-true row (enteredIn e) (holds _ (both-left (eqb row (enteredIn e)) (saysHint e level r d) k)) in
+      let y = both-right (eqb row (enteredIn e)) (saysHint e level r d) k in
       let a = level-said level r d y in
-      let l₁ = subst (λ x. countAt p x < most t (placeIn e)) (sym a) l in
+      let l₁ = subst (λ x. countAt p x < most t (enteredIn e)) (sym a) l in
       let l₂ = subst (λ x. countAt p level < most t x) (sym w) l₁ in
       subst (λ x. Said (countAt p x + 1)) a (said-is level r d (countAt p level + 1) y (m l₂))
   more-said (Next level r d) h m g l =
-      let k = ltb-true e 8192 (holds _ (both-left (ltb e 8192) (says e level r d) h)) in
+      let k = ltb-true e 8192 (holds _ (both-left (ltb e 8192) (saysHint e level r d) h)) in
       absurd (omega arith)
   more-said Silent h m g l = absurd h
 
@@ -171,13 +171,13 @@ module _ (t : Table) (p : Place) (tag e : ℕ) where
 
   told-more : (x : Told) → T (agrees e x) → Meets t p x (stepOf t p tag) → 8192 ≤ e → moreOf t p e ≡ timesOf t p tag e → Right
   told-more x h m g q =
-      elim (decLt (countAt p (levelIn e)) (most t (placeIn e))) [
+      elim (decLt (countAt p (levelIn e)) (most t (enteredIn e))) [
         | yes l ↦
-            let w : countAt p (levelIn e) + 1 ≡ moreOf t p e = rw (lt-ltb (countAt p (levelIn e)) (most t (placeIn e)) l) in
+            let w : countAt p (levelIn e) + 1 ≡ moreOf t p e = rw (lt-ltb (countAt p (levelIn e)) (most t (enteredIn e)) l) in
             told (countAt p (levelIn e) + 1) (w ∙ q) (omega arith) (more-said t p e (stepOf t p tag) x h m g l)
         | no l ↦
-            let k : most t (placeIn e) ≤ countAt p (levelIn e) = omega arith in
-            let w : 0 ≡ moreOf t p e = rw (le-ltb (countAt p (levelIn e)) (most t (placeIn e)) k) in
+            let k : most t (enteredIn e) ≤ countAt p (levelIn e) = omega arith in
+            let w : 0 ≡ moreOf t p e = rw (le-ltb (countAt p (levelIn e)) (most t (enteredIn e)) k) in
             untold (w ∙ q)
       ]
 
@@ -192,7 +192,7 @@ module _ (t : Table) (p : Place) (tag e : ℕ) where
   deeper-is : T (deeper t (p .row) e) → ltb e 16384 ≡ false → levelOf t (p .row) ≡ levelIn e + 1
   deeper-is h b = eqb-true (levelOf t (p .row)) (levelIn e + 1) (holds _ (rw b at h))
 
-  right-told : T (deeper t (p .row) e) → T (agrees e (toldOf (ltb e 16384) t tag (p .row))) → (e ≡ 0 → ⊥) → tagAt t (rowIn e) ≡ tag → Right
+  right-told : T (deeper t (p .row) e) → T (agrees e (hintTold (ltb e 16384) t tag (p .row))) → (e ≡ 0 → ⊥) → tagAt t (rowIn e) ≡ tag → Right
   right-told d h z k =
       choose (ltb e 8192) (λ a.
       let l = ltb-true e 8192 a in
@@ -214,11 +214,11 @@ module _ (t : Table) (p : Place) (tag e : ℕ) where
   right-hint h =
       choose (eqb e 0) (λ z. untold (times-none t p e tag (eqb-true e 0 z))) (λ z.
       let n = eqb-false e 0 z in
-      let d = both-left (deeper t (p .row) e) (agrees e (toldOf (ltb e 16384) t (tagAt t (rowIn e)) (p .row))) (rw z at h) in
-      let m = both-right (deeper t (p .row) e) (agrees e (toldOf (ltb e 16384) t (tagAt t (rowIn e)) (p .row))) (rw z at h) in
+      let d = both-left (deeper t (p .row) e) (agrees e (hintTold (ltb e 16384) t (tagAt t (rowIn e)) (p .row))) (rw z at h) in
+      let m = both-right (deeper t (p .row) e) (agrees e (hintTold (ltb e 16384) t (tagAt t (rowIn e)) (p .row))) (rw z at h) in
       choose (eqb (tagAt t (rowIn e)) tag) (λ k.
       let q = eqb-true (tagAt t (rowIn e)) tag k in
-      right-told d (subst (λ x. T (agrees e (toldOf (ltb e 16384) t x (p .row)))) q m) n q) (λ k.
+      right-told d (subst (λ x. T (agrees e (hintTold (ltb e 16384) t x (p .row)))) q m) n q) (λ k.
       untold (times-other t p e tag n (tagAt t (rowIn e)) refl (eqb-false (tagAt t (rowIn e)) tag k))))
 
 -- Every hint of a list
@@ -250,10 +250,10 @@ module _ (t : Table) where
   hint-right hints h row tag =
       choose (ltb row (length hints / 4)) (λ a.
       let b = ltb-true row (length hints / 4) a in
-      let k = row * 4 + slotOf tag / 4 in
+      let k = row * 4 + hintSlot tag / 4 in
       let w = word-right 0 hints h k (omega arith) in
       let z : (0 + k) / 4 ≡ row = omega arith in
-      rw a (lane-right row (getD hints k 0) (slotOf tag % 4) (rw z at w) (omega arith))) (λ a.
+      rw a (lane-right row (getD hints k 0) (hintSlot tag % 4) (rw z at w) (omega arith))) (λ a.
       rw a (no-hint row 0 refl))
 
 -- A step by hints that are right is the step of the placing rule.

@@ -16,7 +16,7 @@ use Rattle.placing.specs.Said.{place-said}
 use Rattle.laws.specs.Choice.{choose}
 use lib.Dec.{eqb}
 use Rattle.hints.specs.declared.Pair.{Pair}
-use Rattle.hints.specs.Hint.{rowIn, levelIn, lastIn, hintAt, countsOf, placeIn, allowedOf, moreOf, repeatedOf, timesOf, quickBy, quickOf, answerBy, quickAnswer}
+use Rattle.hints.specs.Hint.{rowIn, levelIn, lastIn, hintAt, countsOf, enteredIn, allowedOf, moreOf, repeatedOf, timesOf, quickBy, quickOf, hintAnswer, quickAnswer}
 
 -- the counts
 
@@ -67,7 +67,7 @@ module _ (t : Table) (p : Place) (e : ℕ) where
     unfolding repeatedOf
     repeated-anew l = rw (le-ltb e 16384 h, le-ltb (countAt p (levelIn e + 1)) (most t (p .row)) l)
 
-  module _ (c : Pair) (q number n m : ℕ) (ec : c ≡ countsOf p (levelIn e)) (eq : q ≡ placeIn e) (eu : number ≡ most t q) (en : n ≡ allowedOf (c .own) number) where
+  module _ (c : Pair) (q number n m : ℕ) (ec : c ≡ countsOf p (levelIn e)) (eq : q ≡ enteredIn e) (eu : number ≡ most t q) (en : n ≡ allowedOf (c .own) number) where
     pub more-is : n ≡ moreOf t p e
     more-is = en ∙ ap (λ x. allowedOf (x .own) number) ec ∙ ap (λ x. allowedOf (countAt p (levelIn e)) x) (eu ∙ ap (λ x. most t x) eq)
 
@@ -110,7 +110,7 @@ module _ (t : Table) (hints : List ℕ) (p : Place) (tag e n : ℕ) (ee : e ≡ 
   quick-told z q eq = let b = ne-eqb n 0 z in rw (sym ee, sym en, b) (ap Placed eq)
 
 -- what the step by hints comes to is what the table of numbers answers
-by-said : (at : ℕ) (t : Table) (p : Place) (tag e n : ℕ) → steppedAnswer at (quickBy t p tag e n) ≡ answerBy at t p tag e n
+by-said : (at : ℕ) (t : Table) (p : Place) (tag e n : ℕ) → steppedAnswer at (quickBy t p tag e n) ≡ hintAnswer at t p tag e n
 by-said at t p tag e n = choose (eqb n 0) (λ q. rw q (place-said at t p tag)) (λ q. rw q)
 
 pub quick-said : (t : Table) (hints : List ℕ) (p : Place) (tag : ℕ) {x : Stepped} → x ≡ quickOf t hints p tag

@@ -3,7 +3,7 @@ pub mod tables;
 
 ghost use mathlib.Core.Path.{_≡_};
 ghost use Prim.Native.Nat.{ℕ};
-ghost use Rattle.hints.specs.Hint.{hintAt, placeIn, countsOf, allowedOf, repeatedOf, timesOf, quickOf, quickAnswer};
+ghost use Rattle.hints.specs.Hint.{hintAt, enteredIn, countsOf, allowedOf, repeatedOf, timesOf, quickOf, quickAnswer};
 ghost use Rattle.placing.specs.Answer.{steppedAnswer};
 use placing::Place;
 use placing::Stepped;
@@ -68,7 +68,7 @@ fn hint(hints: &[u64], row: usize, tag: u32) -> usize
 
 // The place that a hint enters: a group's row stands above its head's.
 fn place_in(e: usize) -> usize
-    ensures { λ r. ⌜ r ≡ placeIn e ⌝ }
+    ensures { λ r. ⌜ r ≡ enteredIn e ⌝ }
 {
     let row = e % 256;
     let deeper = e / 4096 % 2;

@@ -19,21 +19,21 @@ use Rattle.answers.specs.Laws.{done≢refused, one-case}
 use Rattle.interchange.specs.declared.reader.Reading.{Reading}
 use Rattle.interchange.specs.declared.reader.Reading.the-variants.{Rows, Refused}
 use Rattle.steps.specs.State.{openingState}
-use Rattle.interchange.specs.Reader.{Verdict, accepted, faulty, Outcome, readOn, readingOf, numbers, readAnswer, answerOf, rowsAfter}
+use Rattle.interchange.specs.Reader.{Verdict, accepted, faulty, Outcome, readOn, readingOf, numbers, readAnswer, outcomeAnswer, rowsAfter}
 use Rattle.interchange.specs.Laws.{length-numbers}
 use Rattle.interchange.specs.Chunks.{wholeFrom, Filled}
 
 -- an answer and what the buffer holds, as they are to be for an outcome
 abbrev pub Right : Outcome → List ℕ → Answer ℕ → List ℕ → Type 0
-Right o lent r after = (r ≡ answerOf o (length lent)) × (after ≡ rowsAfter o lent)
+Right o lent r after = (r ≡ outcomeAnswer o (length lent)) × (after ≡ rowsAfter o lent)
 
 -- 3
 pub none-read : (s lent : List ℕ) → length s ≡ 0 → Right (readingOf s) lent badSize lent
-unfolding readingOf answerOf rowsAfter
+unfolding readingOf outcomeAnswer rowsAfter
 none-read s lent h = let e = eq-eqb (length s) 0 h in (rw e, rw e)
 
 pub long-read : (s lent : List ℕ) → 60000 < length s → Right (readingOf s) lent badSize lent
-unfolding readingOf answerOf rowsAfter
+unfolding readingOf outcomeAnswer rowsAfter
 long-read s lent h =
     let e : either (eqb (length s) 0) (ltb 60000 (length s)) ≡ true = rw (lt-ltb 60000 (length s) h) (either-true (eqb (length s) 0)) in
     (rw e, rw e)
@@ -43,7 +43,7 @@ unfolding readingOf
 sized-read s h g = rw (ne-eqb (length s) 0 h, le-ltb 60000 (length s) g)
 
 pub right-same : (o p : Outcome) (lent : List ℕ) (r : Answer ℕ) (after : List ℕ) → o ≡ p → Right o lent r after → Right p lent r after
-right-same o p lent r after e x = (x .0 ∙ ap (λ (y : Outcome). answerOf y (length lent)) e, x .1 ∙ ap (λ (y : Outcome). rowsAfter y lent) e)
+right-same o p lent r after e x = (x .0 ∙ ap (λ (y : Outcome). outcomeAnswer y (length lent)) e, x .1 ∙ ap (λ (y : Outcome). rowsAfter y lent) e)
 
 -- the answer for a reading before which n numbers are gathered already, and what the buffer holds then
 abbrev pub answerBehind : ℕ → List Row → ℕ → Verdict → Answer ℕ
@@ -59,8 +59,8 @@ Behind n o lent r after = (r ≡ answerBehind n (o .rows) (length lent) (o .verd
 
 -- with none before it is the answer itself
 module _ (rows : List Row) (lent : List ℕ) where
-  same-answer : (v : Verdict) → answerBehind 0 rows (length lent) v ≡ answerOf (record { rows = rows; verdict = v }) (length lent)
-  unfolding answerOf
+  same-answer : (v : Verdict) → answerBehind 0 rows (length lent) v ≡ outcomeAnswer (record { rows = rows; verdict = v }) (length lent)
+  unfolding outcomeAnswer
   same-answer (done _) =
       let z : 0 + 3 * length rows ≡ 3 * length rows = omega arith in
       choose (ltb (length lent) (3 * length rows)) (λ q. rw (z, q)) (λ q. rw (z, q) (ap done (omega arith)))

@@ -37,8 +37,8 @@ use Rattle.answers.specs.Answers.{Answer, done, refused}
 use Rattle.interchange.specs.declared.turn.Turn.{Turn}
 use Rattle.interchange.specs.declared.turn.Turn.the-variants.{On, Stop}
 use Rattle.steps.specs.State.{oneMore}
-use Rattle.steps.specs.Step.{Taken, taken, rowOf, opened, opening, headed, closing, between, trailing, judged, placed, settled, inside, stepBy, segmentStep}
-use Rattle.interchange.specs.Reader.{dialogueOf, referenceOf, turnStep, turnScan, turnAt}
+use Rattle.steps.specs.Step.{Taken, taken, rowOf, openedStep, opening, headed, closing, betweenMessages, trailing, judged, placed, settledStep, insideMessage, stepBy, segmentStep}
+use Rattle.interchange.specs.Reader.{dialogueOf, headedReference, turnStep, turnScan, turnAt}
 
 -- a step's row, if it has one, bears the offset
 abbrev RowAt : ℕ → Answer Taken → Type 0
@@ -46,7 +46,7 @@ RowAt at (done (taken st r)) = r .offset ≡ at
 RowAt at (refused number position) = Unit {0}
 
 module _ (st : State) (at : ℕ) (g : List ℕ) where
-  opened-row : (o : Opened) → RowAt at (opened st at g o)
+  opened-row : (o : Opened) → RowAt at (openedStep st at g o)
   opened-row (Dialogue p) = refl
   opened-row Wrong = tt
 
@@ -63,8 +63,8 @@ module _ (st : State) (at : ℕ) (g : List ℕ) where
   unfolding closing
   closing-row d = choose (both (ltb 0 (st .messages)) (uizOf g d (st .messages))) (λ q. rw q refl) (λ q. rw q tt)
 
-  between-row : (d : List ℕ) → RowAt at (between st at g d)
-  unfolding between
+  between-row : (d : List ℕ) → RowAt at (betweenMessages st at g d)
+  unfolding betweenMessages
   between-row d =
       choose (eqb (tagNumber g) UIH) (λ q. rw q (headed-row (uihOf g)))
       (λ q. rw q (choose (eqb (tagNumber g) UIZ) (λ p. rw p (closing-row d)) (λ p. rw p tt)))
@@ -83,12 +83,12 @@ module _ (st : State) (at : ℕ) (g : List ℕ) where
       choose (eqb (tagNumber g) UIT) (λ q. rw q (trailing-row r p group))
       (λ q. rw q (choose (isPeriod (st .message) (tagNumber g) group) (λ e. rw e (judged-row p group (periodOf g))) (λ e. rw e refl)))
 
-  settled-row : (t : Table) (r : List ℕ) (x : Stepped) → RowAt at (settled t st at g r x)
+  settled-row : (t : Table) (r : List ℕ) (x : Stepped) → RowAt at (settledStep t st at g r x)
   settled-row t r (Placed p) = placed-row r (groupOf t p) p
   settled-row t r OutOfPlace = tt
 
   step-row : (t : Table) (f : Phase) (d r : List ℕ) → RowAt at (stepBy t f st at g d r)
-  unfolding stepBy inside
+  unfolding stepBy insideMessage
   step-row t Opening d r = opening-row
   step-row t Between d r = between-row d
   step-row t Inside d r = settled-row (tableIn t (st .message)) r (stepOf (tableIn t (st .message)) (st .place) (tagNumber g))
@@ -107,7 +107,7 @@ module _ (st : State) (r : Row) (n : ℕ) where
   on-from : (t : Table) (s : List ℕ) (from : State) (at : ℕ) (x : Scanned) → segmentAt s at ≡ x → turnScan t s from at x ≡ On st r n
       → (r .offset ≡ at) × (at + 4 ≤ n) × (n ≤ length s)
   on-from t s from at (End e) h q =
-      let w = on-is (segmentStep t from at (bodyAt s at) (dialogueOf s from) (referenceOf s from)) at (e + 1) (step-row from at (bodyAt s at) t (from .phase) (dialogueOf s from) (referenceOf s from)) q in
+      let w = on-is (segmentStep t from at (bodyAt s at) (dialogueOf s from) (headedReference s from)) at (e + 1) (step-row from at (bodyAt s at) t (from .phase) (dialogueOf s from) (headedReference s from)) q in
       let b = end-within s at e h in
       (w .0, omega arith, omega arith)
   on-from t s from at (NotPermitted i) h q = absurd (stop≢on (refusalOf at (NotPermitted i)) st r n q)

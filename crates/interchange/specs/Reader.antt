@@ -59,8 +59,8 @@ isClosed Closed = true
 abbrev pub dialogueOf : List ℕ → State → List ℕ
 dialogueOf s st = bytesOf (drop (st .«opened_at») s) (st .dialogue)
 
-abbrev pub referenceOf : List ℕ → State → List ℕ
-referenceOf s st = bytesOf (drop (st .«headed_at») s) (st .reference)
+abbrev pub headedReference : List ℕ → State → List ℕ
+headedReference s st = bytesOf (drop (st .«headed_at») s) (st .reference)
 
 -- "the first faulty segment from the left, in it 4, 5, 6", then its step: the state and the offset after it, and its row
 abbrev pub turnStep : ℕ → Answer Taken → Turn
@@ -68,7 +68,7 @@ turnStep next (done (taken st r)) = On st r next
 turnStep next (refused number position) = Stop (record { number = number; position = position })
 
 abbrev pub turnScan : Table → List ℕ → State → ℕ → Scanned → Turn
-turnScan t s st at (End e) = turnStep (e + 1) (segmentStep t st at (bodyAt s at) (dialogueOf s st) (referenceOf s st))
+turnScan t s st at (End e) = turnStep (e + 1) (segmentStep t st at (bodyAt s at) (dialogueOf s st) (headedReference s st))
 turnScan t s st at (NotPermitted i) = Stop (refusalOf at (NotPermitted i))
 turnScan t s st at Unended = Stop (refusalOf at Unended)
 turnScan t s st at Malformed = Stop (refusalOf at Malformed)
@@ -92,11 +92,11 @@ readOn (suc f) s st at =
     (pick (isClosed (st .phase)) (record { rows = []; verdict = accepted }) (fault (wrongEnvelope (length s))))
 
 -- "An interchange has 1 to 60,000 bytes": else 3
-abbrev pub sized : List ℕ → Bool
-sized s = either (eqb (length s) 0) (ltb 60000 (length s))
+abbrev pub wrongSize : List ℕ → Bool
+wrongSize s = either (eqb (length s) 0) (ltb 60000 (length s))
 
 unfoldable pub readingOf : List ℕ → Outcome
-readingOf s = pick (sized s) (fault badSize) (readOn (length s + 1) s openingState 0)
+readingOf s = pick (wrongSize s) (fault badSize) (readOn (length s + 1) s openingState 0)
 
 -- the rows as they are written into a lent buffer: three numbers each, offset, group and tag
 abbrev pub rowNumbers : Row → List ℕ
@@ -112,12 +112,12 @@ readAnswer (Rows n) = done n
 readAnswer (Refused x) = faulty x
 
 -- "17 last": the answer for a buffer of that room, and what the buffer holds then
-abbrev pub answerBy : List Row → ℕ → Verdict → Answer ℕ
-answerBy rows room (done _) = pick (ltb room (3 * length rows)) outputTooShort (done (length rows))
-answerBy rows room (refused number position) = refused number position
+abbrev pub verdictAnswer : List Row → ℕ → Verdict → Answer ℕ
+verdictAnswer rows room (done _) = pick (ltb room (3 * length rows)) outputTooShort (done (length rows))
+verdictAnswer rows room (refused number position) = refused number position
 
-unfoldable pub answerOf : Outcome → ℕ → Answer ℕ
-answerOf o room = answerBy (o .rows) room (o .verdict)
+unfoldable pub outcomeAnswer : Outcome → ℕ → Answer ℕ
+outcomeAnswer o room = verdictAnswer (o .rows) room (o .verdict)
 
 abbrev pub rowsBy : List Row → List ℕ → Verdict → List ℕ
 rowsBy rows lent (done _) = putAt lent 0 (numbers rows)

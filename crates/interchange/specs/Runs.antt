@@ -25,7 +25,7 @@ use Rattle.hints.specs.Hints.{hints, hintsIn}
 use Rattle.hints.specs.Laws.{quick-own}
 use Rattle.period.specs.declared.Period.{Period}
 use Rattle.period.specs.declared.Period.the-variants as period
-use Rattle.period.specs.Period.{periodOf}
+use Rattle.period.specs.Period.{isGood, periodOf}
 use Rattle.steps.specs.declared.state.Phase.{Phase}
 use Rattle.steps.specs.declared.state.Phase.the-variants.{Opening, Between, Inside, Closed}
 use Rattle.steps.specs.declared.state.State.{State}
@@ -33,8 +33,8 @@ use Rattle.steps.specs.declared.state.Row.{Row}
 use Rattle.answers.specs.Answers.{done}
 use Rattle.interchange.specs.declared.turn.Turn.the-variants.{On}
 use Rattle.steps.specs.State.{oneMore, onwardState, movedState}
-use Rattle.steps.specs.Step.{taken, rowOf, judged, placed, inside, stepBy, segmentStep}
-use Rattle.interchange.specs.Reader.{isClosed, dialogueOf, referenceOf, turnStep, turnAt}
+use Rattle.steps.specs.Step.{taken, rowOf, judged, placed, insideMessage, stepBy, segmentStep}
+use Rattle.interchange.specs.Reader.{isClosed, dialogueOf, headedReference, turnStep, turnAt}
 use Rattle.interchange.specs.Laws.{putRow}
 use Rattle.steps.specs.Ways.{inside-placed}
 use Rattle.interchange.specs.Turns.{turn-is, body-slice}
@@ -51,10 +51,6 @@ inside-is Opening q = absurd (false≢true q)
 inside-is Between q = absurd (false≢true q)
 inside-is Inside q = refl
 inside-is Closed q = absurd (false≢true q)
-
-abbrev pub isGood : Period → Bool
-isGood (period.Good first days form) = true
-isGood (period.Wrong x) = false
 
 -- a period that is read is good
 abbrev pub goodPart : MessageType → ℕ → ℕ → List ℕ → Bool
@@ -103,7 +99,7 @@ module _ (s : List ℕ) (st : State) (at e : ℕ) (h : segmentAt s at ≡ End e)
       → turnAt tables s st at ≡ On (onwardState st p) (rowOf at body (groupOf table p)) (e + 1)
   turn-inside x u q =
       sym (turn-is tables s st at (End e) h)
-      ∙ ap (turnStep (e + 1)) (step-inside (dialogueOf s st) (referenceOf s st) x u q)
+      ∙ ap (turnStep (e + 1)) (step-inside (dialogueOf s st) (headedReference s st) x u q)
 
 open-inside : (f : Phase) → f ≡ Inside → isClosed f ≡ false
 open-inside f e = ap isClosed e

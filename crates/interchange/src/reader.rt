@@ -15,7 +15,7 @@ ghost use lib.ListN.{length};
 ghost use Rattle.placing.specs.Tables as placing;
 ghost use Rattle.hints.specs.Hints as hinting;
 ghost use Rattle.steps.specs.State.{openingState};
-ghost use Rattle.interchange.specs.Reader.{readingOf, readAnswer, answerOf, rowsAfter};
+ghost use Rattle.interchange.specs.Reader.{readingOf, readAnswer, outcomeAnswer, rowsAfter};
 ghost use Rattle.interchange.specs.Room.{leastBytes};
 ghost use Rattle.interchange.specs.Chunks.{wholeFrom};
 ghost use Rattle.interchange.specs.Answers.{Behind};
@@ -34,7 +34,7 @@ pub enum Reading {
 /// Reads an interchange and writes its rows, three numbers each, to the front of a lent buffer. A refusal leaves the
 /// buffer as it was, and what stands past the rows stays too.
 pub fn read(interchange: &[u8], rows: &mut [u32]) -> Reading
-    ensures told { λ r. ⌜ readAnswer r ≡ answerOf (readingOf (now (interchange .entry))) (length (now (rows .entry))) ⌝ }
+    ensures told { λ r. ⌜ readAnswer r ≡ outcomeAnswer (readingOf (now (interchange .entry))) (length (now (rows .entry))) ⌝ }
     ensures left { λ _. ⌜ now (rows .exit) ≡ rowsAfter (readingOf (now (interchange .entry))) (now (rows .entry)) ⌝ }
 {
     if interchange.len() == 0 {
@@ -97,7 +97,7 @@ fn read_on(
 // The same for an interchange of 1 to 60,000 bytes.
 fn read_sized(s: &[u8], rows: &mut [u32]) -> Reading
     requires { ⌜ length (now s) ≤ 60000 ⌝ }
-    ensures told { λ r. ⌜ readAnswer r ≡ answerOf (wholeFrom (now (s .entry)) openingState 0) (length (now (rows .entry))) ⌝ }
+    ensures told { λ r. ⌜ readAnswer r ≡ outcomeAnswer (wholeFrom (now (s .entry)) openingState 0) (length (now (rows .entry))) ⌝ }
     ensures left { λ _. ⌜ now (rows .exit) ≡ rowsAfter (wholeFrom (now (s .entry)) openingState 0) (now (rows .entry)) ⌝ }
 {
     let all = tables();

@@ -15,7 +15,7 @@ ghost use lib.ListN.{drop};
 ghost use Rattle.syntax.specs.Segment.{bodyAt, segmentAt};
 ghost use Rattle.parts.specs.Places.{bytesOf};
 ghost use Rattle.steps.specs.Step.{segmentStep};
-ghost use Rattle.interchange.specs.Reader.{dialogueOf, referenceOf, turnStep, turnAt};
+ghost use Rattle.interchange.specs.Reader.{dialogueOf, headedReference, turnStep, turnAt};
 
 /// What a turn comes to.
 pub(crate) enum Turn {
@@ -37,7 +37,7 @@ fn lent(s: &[u8], at: usize, part: Part) -> &[u8]
 // The step of a whole segment.
 fn take_step(s: &[u8], st: State, at: usize, end: usize, tables: &[[u32; 8]]) -> Turn
     requires { ⌜ segmentAt (now s) at ≡ Scanned.End end ⌝ }
-    ensures { λ r. ⌜ r ≡ turnStep (end + 1) (segmentStep (now (tables .entry)) st at (bodyAt (now (s .entry)) at) (dialogueOf (now (s .entry)) st) (referenceOf (now (s .entry)) st)) ⌝ }
+    ensures { λ r. ⌜ r ≡ turnStep (end + 1) (segmentStep (now (tables .entry)) st at (bodyAt (now (s .entry)) at) (dialogueOf (now (s .entry)) st) (headedReference (now (s .entry)) st)) ⌝ }
 {
     let dialogue = st.dialogue;
     let reference = st.reference;

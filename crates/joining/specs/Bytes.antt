@@ -15,7 +15,7 @@ use Rattle.calendar.specs.Days.{withBit, withDay}
 use Rattle.period.specs.Period.{periodOf, runsBy}
 use Rattle.period.specs.declared.Period.{Period}
 use Rattle.period.specs.declared.Period.the-variants.{Good, Wrong}
-use Rattle.joining.specs.Joined.{marked, inWindow, windowDays, joinedBy, joined}
+use Rattle.joining.specs.Joined.{marked, inWindow, windowDays, joinedBy, daysJoined}
 
 -- each element is a byte
 abbrev pub AreBytes : List ℕ → Type 0
@@ -64,6 +64,6 @@ by-bytes (Good f n form) c o g a = either-one (inWindow (8 * length c) o f n)
     either-one true = marked-bytes (runsBy g form f) c (f - o) 0 n a
     either-one false = a
 
-pub joined-bytes : (c : List ℕ) (o : ℕ) (g : List ℕ) → AreBytes c → AreBytes (joined c o g)
-unfolding joined
+pub joined-bytes : (c : List ℕ) (o : ℕ) (g : List ℕ) → AreBytes c → AreBytes (daysJoined c o g)
+unfolding daysJoined
 joined-bytes c o g a = by-bytes (periodOf g) c o g a

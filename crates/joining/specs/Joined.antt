@@ -32,25 +32,25 @@ unfoldable pub windowDays : List ℕ → ℕ → List ℕ → ℕ → ℕ → Fo
 windowDays c o g f n form = pick (inWindow (8 * length c) o f n) (marked (runsBy g form f) c (f - o) 0 n) c
 
 -- joining what a POP g says: 10, then 13
-abbrev pub answerBy : ℕ → ℕ → Period → Joined
-answerBy bytes o (Wrong x) = WrongPeriod x
-answerBy bytes o (Good f n form) = windowAnswer bytes o f n
+abbrev pub windowAnswerBy : ℕ → ℕ → Period → Joined
+windowAnswerBy bytes o (Wrong x) = WrongPeriod x
+windowAnswerBy bytes o (Good f n form) = windowAnswer bytes o f n
 
 unfoldable pub answered : ℕ → ℕ → List ℕ → Joined
-answered bytes o g = answerBy bytes o (periodOf g)
+answered bytes o g = windowAnswerBy bytes o (periodOf g)
 
 -- a refusal leaves the calendar as it was
 abbrev pub joinedBy : List ℕ → ℕ → List ℕ → Period → List ℕ
 joinedBy c o g (Wrong x) = c
 joinedBy c o g (Good f n form) = windowDays c o g f n form
 
-unfoldable pub joined : List ℕ → ℕ → List ℕ → List ℕ
-joined c o g = joinedBy c o g (periodOf g)
+unfoldable pub daysJoined : List ℕ → ℕ → List ℕ → List ℕ
+daysJoined c o g = joinedBy c o g (periodOf g)
 
 -- several POPs, one after the other
 unfoldable pub joinAll : List ℕ → ℕ → List (List ℕ) → List ℕ
 joinAll c o [] = c
-joinAll c o (g ∷ gs) = joinAll (joined c o g) o gs
+joinAll c o (g ∷ gs) = joinAll (daysJoined c o g) o gs
 
 -- what each case answers, of a POP at an offset
 abbrev pub joinedAnswer : ℕ → Joined → Answer (Unit {0})

@@ -15,7 +15,7 @@ use Rattle.laws.specs.Text.{bytes}
 use Rattle.laws.specs.Choice.{pick, both, either, all, both-parts, choose, false≢true}
 use Rattle.syntax.specs.Bytes.{stands, releases, unless, plain, plainOn}
 use Rattle.syntax.specs.Firsts.{first-take, first-length}
-use Rattle.syntax.specs.Pieces.{first, later, pieces, nth, elements, occurrences, components, partOf}
+use Rattle.syntax.specs.Pieces.{firstPiece, laterPieces, pieces, nth, elements, occurrences, components, partOf}
 use Rattle.parts.specs.Places.{bytesOf, present}
 use Rattle.parts.specs.Cuts.{later-split, later-none}
 use Rattle.values.specs.Values.{sameText}
@@ -49,50 +49,50 @@ text-plain p c at n e f l =
     ∙ ap (marked (λ (k : ℕ). eqb (getD (plain p) k 0) 49) c at 0) f
 
 -- a piece after the first that has bytes: the first ends before the text does, and the others are those of what follows it
-there : (l : List ℕ) (k : ℕ) → 1 ≤ length (getD (later 58 false l) k [])
-    → (length (first 58 false l) < length l) × (later 58 false l ≡ pieces 58 (drop (length (first 58 false l) + 1) l))
+there : (l : List ℕ) (k : ℕ) → 1 ≤ length (getD (laterPieces 58 false l) k [])
+    → (length (firstPiece 58 false l) < length l) × (laterPieces 58 false l ≡ pieces 58 (drop (length (firstPiece 58 false l) + 1) l))
 there l k h =
-    elim (decLt (length (first 58 false l)) (length l)) [
+    elim (decLt (length (firstPiece 58 false l)) (length l)) [
       | yes u ↦ (u, later-split 58 false l refl u)
       | no u ↦
           let e = later-none 58 false l (omega arith) in
-          let f : length (getD (later 58 false l) k []) ≡ 0 = ap (λ (x : List (List ℕ)). length (getD x k [])) e in
+          let f : length (getD (laterPieces 58 false l) k []) ≡ 0 = ap (λ (x : List (List ℕ)). length (getD x k [])) e in
           absurd (omega arith)
     ]
 
 -- a fourth component that has bytes stands behind the three before it
 record Fourth (l : List ℕ) : Type 0 where
   pub start : ℕ
-  pub is : nth (components l) 4 ≡ first 58 false (drop start l)
+  pub is : nth (components l) 4 ≡ firstPiece 58 false (drop start l)
   pub behind : length (nth (components l) 1) + length (nth (components l) 2) + 3 ≤ start
   pub inside : start ≤ length l
 
 fourth : (l : List ℕ) → 1 ≤ length (nth (components l) 4) → Fourth l
 fourth l h =
-    let l₁ = drop (length (first 58 false l) + 1) l in
-    let l₂ = drop (length (first 58 false l₁) + 1) l₁ in
-    let l₃ = drop (length (first 58 false l₂) + 1) l₂ in
+    let l₁ = drop (length (firstPiece 58 false l) + 1) l in
+    let l₂ = drop (length (firstPiece 58 false l₁) + 1) l₁ in
+    let l₃ = drop (length (firstPiece 58 false l₂) + 1) l₂ in
     let t₁ = there l 2 h in
-    let e₁ : getD (later 58 false l) 2 [] ≡ getD (later 58 false l₁) 1 [] = ap (λ (x : List (List ℕ)). getD x 2 []) (t₁ .1) in
+    let e₁ : getD (laterPieces 58 false l) 2 [] ≡ getD (laterPieces 58 false l₁) 1 [] = ap (λ (x : List (List ℕ)). getD x 2 []) (t₁ .1) in
     let t₂ = there l₁ 1 (rw e₁ at h) in
-    let e₂ : getD (later 58 false l₁) 1 [] ≡ getD (later 58 false l₂) 0 [] = ap (λ (x : List (List ℕ)). getD x 1 []) (t₂ .1) in
+    let e₂ : getD (laterPieces 58 false l₁) 1 [] ≡ getD (laterPieces 58 false l₂) 0 [] = ap (λ (x : List (List ℕ)). getD x 1 []) (t₂ .1) in
     let t₃ = there l₂ 0 (rw (e₁, e₂) at h) in
-    let e₃ : getD (later 58 false l₂) 0 [] ≡ first 58 false l₃ = ap (λ (x : List (List ℕ)). getD x 0 []) (t₃ .1) in
-    let s : getD (later 58 false l) 0 [] ≡ first 58 false l₁ = ap (λ (x : List (List ℕ)). getD x 0 []) (t₁ .1) in
-    let n₁ = length-drop (length (first 58 false l) + 1) l in
-    let n₂ = length-drop (length (first 58 false l₁) + 1) l₁ in
-    let n₃ = length-drop (length (first 58 false l₂) + 1) l₂ in
-    let m : length (getD (later 58 false l) 0 []) ≡ length (first 58 false l₁) = ap length s in
+    let e₃ : getD (laterPieces 58 false l₂) 0 [] ≡ firstPiece 58 false l₃ = ap (λ (x : List (List ℕ)). getD x 0 []) (t₃ .1) in
+    let s : getD (laterPieces 58 false l) 0 [] ≡ firstPiece 58 false l₁ = ap (λ (x : List (List ℕ)). getD x 0 []) (t₁ .1) in
+    let n₁ = length-drop (length (firstPiece 58 false l) + 1) l in
+    let n₂ = length-drop (length (firstPiece 58 false l₁) + 1) l₁ in
+    let n₃ = length-drop (length (firstPiece 58 false l₂) + 1) l₂ in
+    let m : length (getD (laterPieces 58 false l) 0 []) ≡ length (firstPiece 58 false l₁) = ap length s in
     let u₁ = t₁ .0 in
     let u₂ = t₂ .0 in
     let u₃ = t₃ .0 in
-    let a = length (first 58 false l) + 1 in
-    let b = length (first 58 false l₁) + 1 in
-    let c = length (first 58 false l₂) + 1 in
+    let a = length (firstPiece 58 false l) + 1 in
+    let b = length (firstPiece 58 false l₁) + 1 in
+    let c = length (firstPiece 58 false l₂) + 1 in
     let k : a + (b + c) ≡ a + b + c = omega arith in
     record {
       start = a + b + c;
-      is = e₁ ∙ e₂ ∙ e₃ ∙ ap (first 58 false) (drop-drop c b l₁ ∙ drop-drop (b + c) a l ∙ ap (λ (x : ℕ). drop x l) k);
+      is = e₁ ∙ e₂ ∙ e₃ ∙ ap (firstPiece 58 false) (drop-drop c b l₁ ∙ drop-drop (b + c) a l ∙ ap (λ (x : ℕ). drop x l) k);
       behind = omega arith;
       inside = omega arith;
     }
@@ -105,8 +105,8 @@ pub record Spoken (g : List ℕ) (n : ℕ) : Type 0 where
   pub dated : 21 ≤ length (partOf g 1 1 2)
   pub told : length (dayText g) ≡ n
 
-whole-first : (c : ℕ) (l : List ℕ) → length l ≤ length (first c false l) → first c false l ≡ l
-whole-first c l h = first-take c false l ∙ take-all (length (first c false l)) l h
+whole-first : (c : ℕ) (l : List ℕ) → length l ≤ length (firstPiece c false l) → firstPiece c false l ≡ l
+whole-first c l h = first-take c false l ∙ take-all (length (firstPiece c false l)) l h
 
 -- a POP that begins with its tag and a mark
 abbrev pub Tagged : List ℕ → Type 0
@@ -121,25 +121,25 @@ tag-begins g h a b c d =
 module _ (r : List ℕ) where
   -- the first occurrence of the first element behind a tag and its mark
   abbrev element : List ℕ
-  element = first 42 false (first 43 false r)
+  element = firstPiece 42 false (firstPiece 43 false r)
 
   place-in : (n : ℕ) → 1 ≤ n → 3 ≤ length (nth (components element) 1) → 21 ≤ length (nth (components element) 2) → n ≤ length (nth (components element) 4)
       → length r ≡ 27 + n → drop 27 r ≡ nth (components element) 4
   place-in n p q d t h =
       let o = fourth element (omega arith) in
       let u = first-length 43 false r in
-      let v = first-length 42 false (first 43 false r) in
+      let v = first-length 42 false (firstPiece 43 false r) in
       let w = first-length 58 false (drop (o .start) element) in
       let l = length-drop (o .start) element in
       let m = ap length (o .is) in
       let i = o .inside in
       let j = o .behind in
       let k : o .start ≡ 27 = omega arith in
-      let z : element ≡ r = whole-first 42 (first 43 false r) (omega arith) ∙ whole-first 43 r (omega arith) in
+      let z : element ≡ r = whole-first 42 (firstPiece 43 false r) (omega arith) ∙ whole-first 43 r (omega arith) in
       sym (o .is ∙ whole-first 58 (drop (o .start) element) (omega arith) ∙ ap (λ (x : ℕ). drop x element) k ∙ ap (drop 27) z)
 
 element-cut : (r : List ℕ) (m : ℕ) → partOf (bytes "POP+" ++ r) 1 1 m ≡ nth (components (element r)) m
-unfolding partOf later bytes
+unfolding partOf laterPieces bytes
 element-cut r m = refl
 
 -- so behind `POP+` and 27 bytes more it is the rest, where that is as long

@@ -14,7 +14,7 @@ use Rattle.period.specs.declared.Form.{Form}
 use Rattle.period.specs.declared.Period.the-variants.{Good, Wrong}
 use Rattle.joining.specs.declared.Joined.{Joined}
 use Rattle.joining.specs.declared.Joined.the-variants.{Done, WrongPeriod, Outside}
-use Rattle.joining.specs.Joined.{marked, inWindow, windowAnswer, windowDays, answerBy, answered, joined, joinedAnswer, windowed, joinAnswer}
+use Rattle.joining.specs.Joined.{marked, inWindow, windowAnswer, windowDays, windowAnswerBy, answered, daysJoined, joinedAnswer, windowed, joinAnswer}
 
 module _ (c : List ℕ) (o : ℕ) (g : List ℕ) (f n : ℕ) (form : Form) where
   pub before-window : f < o → (Outside ≡ windowAnswer (length c) o f n) × (c ≡ windowDays c o g f n form)
@@ -32,17 +32,17 @@ module _ (c : List ℕ) (o : ℕ) (g : List ℕ) (f n : ℕ) (form : Form) where
     in-window k e = (rw (le-leb o f h, le-leb (f - o + n) (8 * length c) k), rw (le-leb o f h, le-leb (f - o + n) (8 * length c) k) e)
 
 module _ (c : List ℕ) (o : ℕ) (g : List ℕ) where
-  pub wrong-told : {x : Fault} → periodOf g ≡ Wrong x → (WrongPeriod x ≡ answered (length c) o g) × (c ≡ joined c o g)
-  unfolding answered joined
+  pub wrong-told : {x : Fault} → periodOf g ≡ Wrong x → (WrongPeriod x ≡ answered (length c) o g) × (c ≡ daysJoined c o g)
+  unfolding answered daysJoined
   wrong-told e = (rw e, rw e)
 
   pub good-told : {f n : ℕ} {form : Form} {r : Joined} {last : List ℕ} → periodOf g ≡ Good f n form
-      → (r ≡ windowAnswer (length c) o f n) × (last ≡ windowDays c o g f n form) → (r ≡ answered (length c) o g) × (last ≡ joined c o g)
-  unfolding answered joined
+      → (r ≡ windowAnswer (length c) o f n) × (last ≡ windowDays c o g f n form) → (r ≡ answered (length c) o g) × (last ≡ daysJoined c o g)
+  unfolding answered daysJoined
   good-told e w = (rw e (w .0), rw e (w .1))
 
 -- what joining comes to is what the table answers
-by-said : (at bytes o : ℕ) (p : Period) → joinedAnswer at (answerBy bytes o p) ≡ windowed at bytes o (periodAnswer at p)
+by-said : (at bytes o : ℕ) (p : Period) → joinedAnswer at (windowAnswerBy bytes o p) ≡ windowed at bytes o (periodAnswer at p)
 unfolding windowAnswer
 by-said at bytes o (Wrong x) = refl
 by-said at bytes o (Good f n form) = choose (inWindow (8 * bytes) o f n) (λ q. rw q) (λ q. rw q)

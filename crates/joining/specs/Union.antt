@@ -19,7 +19,7 @@ use Rattle.period.specs.Period.{periodOf, runsBy, runsIn}
 use Rattle.period.specs.declared.Period.{Period}
 use Rattle.period.specs.declared.Period.the-variants.{Good, Wrong}
 use Rattle.joining.specs.declared.Joined.the-variants.{Done, Outside}
-use Rattle.joining.specs.Joined.{marked, inWindow, windowAnswer, windowDays, answerBy, answered, joinedBy, joined, joinAll, selectsBy, selects, anySelects}
+use Rattle.joining.specs.Joined.{marked, inWindow, windowAnswer, windowDays, windowAnswerBy, answered, joinedBy, daysJoined, joinAll, selectsBy, selects, anySelects}
 use Rattle.joining.specs.Marks.{length-step, length-marked}
 
 pub either-false : (a : Bool) → either a false ≡ a
@@ -110,7 +110,7 @@ by-number t o f n j h =
           ])
     ]
 
-by-day : (p : Period) (c : List ℕ) (o : ℕ) (g : List ℕ) (j : ℕ) → answerBy (length c) o p ≡ Done
+by-day : (p : Period) (c : List ℕ) (o : ℕ) (g : List ℕ) (j : ℕ) → windowAnswerBy (length c) o p ≡ Done
     → day (joinedBy c o g p) j ≡ either (day c j) (selectsBy g p (o + j))
 unfolding windowDays runsIn
 by-day (Wrong x) c o g j e = let z : _≡_ {A = ℕ} 0 1 = cc in absurd (omega arith)
@@ -120,7 +120,7 @@ by-day (Good f n form) c o g j e =
     rw (le-leb o f (i .from), le-leb (f - o + n) (8 * length c) (i .to))
     (day-marked (runsBy g form f) (f - o) j c 0 n (omega arith) ∙ ap (either (day c j)) (by-number (runsBy g form f) o f n j (i .from)))
 
-refused-by : (p : Period) (c : List ℕ) (o : ℕ) (g : List ℕ) → (answerBy (length c) o p ≡ Done → ⊥) → joinedBy c o g p ≡ c
+refused-by : (p : Period) (c : List ℕ) (o : ℕ) (g : List ℕ) → (windowAnswerBy (length c) o p ≡ Done → ⊥) → joinedBy c o g p ≡ c
 unfolding windowDays windowAnswer
 refused-by (Wrong x) c o g e = refl
 refused-by (Good f n form) c o g e = outside (inWindow (8 * length c) o f n) refl
@@ -140,17 +140,17 @@ length-by (Good f n form) c o g = picked (inWindow (8 * length c) o f n)
 
 module _ (c : List ℕ) (o : ℕ) (g : List ℕ) where
   -- after a period is joined a day is selected exactly when it was before or the period selects it
-  pub joined-day : answered (length c) o g ≡ Done → (j : ℕ) → day (joined c o g) j ≡ either (day c j) (selects g (o + j))
-  unfolding answered joined selects
+  pub joined-day : answered (length c) o g ≡ Done → (j : ℕ) → day (daysJoined c o g) j ≡ either (day c j) (selects g (o + j))
+  unfolding answered daysJoined selects
   joined-day e j = by-day (periodOf g) c o g j e
 
   -- a refusal changes nothing
-  pub joined-refused : (answered (length c) o g ≡ Done → ⊥) → joined c o g ≡ c
-  unfolding answered joined
+  pub joined-refused : (answered (length c) o g ≡ Done → ⊥) → daysJoined c o g ≡ c
+  unfolding answered daysJoined
   joined-refused e = refused-by (periodOf g) c o g e
 
-  pub length-joined : length (joined c o g) ≡ length c
-  unfolding joined
+  pub length-joined : length (daysJoined c o g) ≡ length c
+  unfolding daysJoined
   length-joined = length-by (periodOf g) c o g
 
 -- each of some POPs is good and in the window
@@ -163,7 +163,7 @@ pub joined-all : (gs : List (List ℕ)) (c : List ℕ) (o j : ℕ) → AllDone (
 unfolding joinAll
 joined-all [] c o j a = sym (either-false (day c j))
 joined-all (g ∷ gs) c o j a =
-    joined-all gs (joined c o g) o j (rw (length-joined c o g) (a .1))
+    joined-all gs (daysJoined c o g) o j (rw (length-joined c o g) (a .1))
     ∙ ap (λ (x : Bool). either x (anySelects gs (o + j))) (joined-day c o g (a .0) j)
     ∙ either-assoc (day c j) (selects g (o + j)) (anySelects gs (o + j))
 

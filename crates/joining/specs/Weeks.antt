@@ -14,7 +14,7 @@ use Rattle.dates.specs.Days.{weekdayOf}
 use Rattle.dates.specs.Laws.{weekday-range}
 use Rattle.calendar.specs.Days.{hasBit, withBit}
 use Rattle.calendar.specs.Bits.{bit-none, bit-same, bit-other}
-use Rattle.period.specs.Period.{weekText, rising, runsBy}
+use Rattle.period.specs.Period.{weekText, risingDays, runsBy}
 use Rattle.syntax.specs.Bytes.{plain}
 use Rattle.syntax.specs.Pieces.{partOf}
 use lib.ListN.{getD}
@@ -41,15 +41,15 @@ week-bit n week {w} e f =
 
 -- is set exactly when the text names it
 module _ (w : ℕ) (hw : w < 8) where
-  pub week-names : (low x : ℕ) (t : List ℕ) → 48 ≤ low → rising low t ≡ true → hasBit (weekBits x t) w ≡ either (hasBit x w) (among (48 + w) t)
-  unfolding weekBits rising
+  pub week-names : (low x : ℕ) (t : List ℕ) → 48 ≤ low → risingDays low t ≡ true → hasBit (weekBits x t) w ≡ either (hasBit x w) (among (48 + w) t)
+  unfolding weekBits risingDays
   week-names low x [] h r = sym (none (hasBit x w))
     where
       none : (b : Bool) → either b false ≡ b
       none true = refl
       none false = refl
   week-names low x (b ∷ l) h r =
-      let p = both-parts (both (ltb low b) (leb b 55)) (rising b l) r in
+      let p = both-parts (both (ltb low b) (leb b 55)) (risingDays b l) r in
       let q = both-parts (ltb low b) (leb b 55) (p .0) in
       let m = ltb-true low b (q .0) in
       let n = leb-true b 55 (q .1) in
@@ -81,7 +81,7 @@ module _ (g c : List ℕ) (at f n : ℕ) {form : Form} {last : List ℕ} where
       let r = weekday-range (f + j) in
       every-bit (weekdayOf (f + j)) (r .0) (omega arith)))
 
-  pub marked-week : {p : List ℕ} {week : ℕ} → rising 48 (weekText g) ≡ true → form ≡ ByWeekdays → p ≡ partOf g 2 1 1 → week ≡ weekBits 0 (plain p)
+  pub marked-week : {p : List ℕ} {week : ℕ} → risingDays 48 (weekText g) ≡ true → form ≡ ByWeekdays → p ≡ partOf g 2 1 1 → week ≡ weekBits 0 (plain p)
       → last ≡ marked (λ (k : ℕ). hasBit week (weekdayOf (f + k))) c at 0 n → last ≡ marked (runsBy g form f) c at 0 n
   unfolding runsBy
   marked-week {p} {week} q e a b l =

@@ -25,7 +25,7 @@ ghost use Rattle.dates.specs.Days.{weekdayOf};
 ghost use Rattle.calendar.specs.Days.{hasBit, withDay};
 ghost use Rattle.period.specs.Period.{runsBy, periodOf};
 ghost use Rattle.period.specs.declared.Period.the-variants.{Good};
-ghost use Rattle.joining.specs.Joined.{marked, weekBits, inWindow, windowAnswer, windowDays, answered, joined, joinedAnswer, joinAnswer};
+ghost use Rattle.joining.specs.Joined.{marked, weekBits, inWindow, windowAnswer, windowDays, answered, daysJoined, joinedAnswer, joinAnswer};
 ghost use Rattle.joining.specs.Places.{Tagged, Spoken};
 
 /// What came of joining a period.
@@ -272,7 +272,7 @@ fn join_form(days: &mut [u8], origin: usize, g: &[u8], first: usize, n: usize, f
 /// Selects the days of a POP's period in a calendar of 8 days for each byte, whose first day has the number `origin`.
 /// On a refusal the calendar stays as it was.
 pub fn join_period(days: &mut [u8], origin: usize, s: &[u8], segment: Part) -> Joined
-    ensures told { λ r. ⌜ (r ≡ answered (length (now (days .entry))) origin (bytesOf (now (s .entry)) segment)) × (now (days .exit) ≡ joined (now (days .entry)) origin (bytesOf (now (s .entry)) segment)) ⌝ }
+    ensures told { λ r. ⌜ (r ≡ answered (length (now (days .entry))) origin (bytesOf (now (s .entry)) segment)) × (now (days .exit) ≡ daysJoined (now (days .entry)) origin (bytesOf (now (s .entry)) segment)) ⌝ }
     ensures said { λ r. ⌜ joinedAnswer (segment .from) r ≡ joinAnswer (segment .from) (length (now (days .entry))) origin (bytesOf (now (s .entry)) segment) ⌝ }
 {
     match read_period(s, segment) {

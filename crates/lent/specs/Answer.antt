@@ -13,7 +13,7 @@ use Rattle.syntax.specs.Segment.{segmentAt, tagNumber, scannedAnswer, segmentAn
 use Rattle.syntax.specs.Said.{scan-said}
 use Rattle.lent.specs.declared.Found.{Found}
 use Rattle.lent.specs.declared.Found.the-variants.{Segment, Over, Refused}
-use Rattle.lent.specs.Lent.{toldOf, foundAt}
+use Rattle.lent.specs.Lent.{scannedFound, segmentFound}
 
 -- what stands at an offset: a segment, by its tag and where the next one begins; or nothing, the interchange being over
 pub data Standing : Type 0 where
@@ -34,15 +34,15 @@ standing s at (refused number position) = refused number position
 unfoldable pub standingAt : List ℕ → ℕ → Answer Standing
 standingAt s at = pick (leb (length s) at) (done over) (standing s at (segmentAnswer s at))
 
-told-said : (s : List ℕ) (at : ℕ) (x : Scanned) → foundAnswer (toldOf s at x) ≡ standing s at (scannedAnswer at x)
+told-said : (s : List ℕ) (at : ℕ) (x : Scanned) → foundAnswer (scannedFound s at x) ≡ standing s at (scannedAnswer at x)
 told-said s at (End e) = refl
 told-said s at (NotPermitted i) = refl
 told-said s at Unended = refl
 told-said s at Malformed = refl
 
 -- what is found is what the table answers
-pub found-said : (s : List ℕ) (at : ℕ) → foundAnswer (foundAt s at) ≡ standingAt s at
-unfolding foundAt standingAt
+pub found-said : (s : List ℕ) (at : ℕ) → foundAnswer (segmentFound s at) ≡ standingAt s at
+unfolding segmentFound standingAt
 found-said s at =
     choose (leb (length s) at)
     (λ q. rw q)
@@ -50,7 +50,7 @@ found-said s at =
 
 -- what a function promises of what it finds: the case, and the answer of the table that it is
 abbrev pub Told : List ℕ → ℕ → Found → Type 0
-Told s at r = (r ≡ foundAt s at) × (foundAnswer r ≡ standingAt s at)
+Told s at r = (r ≡ segmentFound s at) × (foundAnswer r ≡ standingAt s at)
 
-pub told-by : (s : List ℕ) (at : ℕ) (r : Found) → r ≡ foundAt s at → Told s at r
+pub told-by : (s : List ℕ) (at : ℕ) (r : Found) → r ≡ segmentFound s at → Told s at r
 told-by s at r e = (e, ap foundAnswer e ∙ found-said s at)

@@ -11,15 +11,15 @@ use Rattle.lent.specs.declared.Found.{Found}
 use Rattle.lent.specs.declared.Found.the-variants.{Segment, Over, Refused}
 
 -- a whole segment is told by its tag and where the next one begins, any other by its number and place
-abbrev pub toldOf : List ℕ → ℕ → Scanned → Found
-toldOf s at (End e) = Segment (tagNumber (drop at s)) (e + 1)
-toldOf s at (NotPermitted i) = Refused (refusalOf at (NotPermitted i))
-toldOf s at Unended = Refused (refusalOf at Unended)
-toldOf s at Malformed = Refused (refusalOf at Malformed)
+abbrev pub scannedFound : List ℕ → ℕ → Scanned → Found
+scannedFound s at (End e) = Segment (tagNumber (drop at s)) (e + 1)
+scannedFound s at (NotPermitted i) = Refused (refusalOf at (NotPermitted i))
+scannedFound s at Unended = Refused (refusalOf at Unended)
+scannedFound s at Malformed = Refused (refusalOf at Malformed)
 
 -- what stands at an offset, nothing where the interchange is over
-unfoldable pub foundAt : List ℕ → ℕ → Found
-foundAt s at = pick (leb (length s) at) Over (toldOf s at (segmentAt s at))
+unfoldable pub segmentFound : List ℕ → ℕ → Found
+segmentFound s at = pick (leb (length s) at) Over (scannedFound s at (segmentAt s at))
 
 -- past the segment that is found, and no further where none is
 abbrev pub afterFound : ℕ → Found → ℕ
@@ -29,7 +29,7 @@ afterFound at (Refused refusal) = at
 
 -- "The reader walks forward only": where it stands once it has passed what stands at an offset
 unfoldable pub offsetAfter : List ℕ → ℕ → ℕ
-offsetAfter s at = afterFound at (foundAt s at)
+offsetAfter s at = afterFound at (segmentFound s at)
 
 -- where it stands once it has passed n segments, from the first byte
 unfoldable pub offsetPast : List ℕ → ℕ → ℕ

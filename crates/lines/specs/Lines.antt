@@ -12,16 +12,16 @@ use Rattle.laws.specs.Choice.{pick, choose}
 use Rattle.laws.specs.Lists.{between, drop-here, drop-past}
 
 -- the bytes before the first mark, all where there is none
-unfoldable pub before : ℕ → List ℕ → List ℕ
-before mark [] = []
-before mark (b ∷ l) = pick (eqb b mark) [] (b ∷ before mark l)
+unfoldable pub beforeByte : ℕ → List ℕ → List ℕ
+beforeByte mark [] = []
+beforeByte mark (b ∷ l) = pick (eqb b mark) [] (b ∷ beforeByte mark l)
 
 -- the piece that starts at an index, and where it ends
-abbrev pub pieceAt : List ℕ → ℕ → ℕ → List ℕ
-pieceAt s from mark = before mark (drop from s)
+abbrev pub pieceText : List ℕ → ℕ → ℕ → List ℕ
+pieceText s from mark = beforeByte mark (drop from s)
 
 unfoldable pub endAt : List ℕ → ℕ → ℕ → ℕ
-endAt s from mark = from + length (pieceAt s from mark)
+endAt s from mark = from + length (pieceText s from mark)
 
 -- where the next piece starts: past the mark, or at the end
 unfoldable pub pastAt : List ℕ → ℕ → ℕ → ℕ
@@ -39,16 +39,16 @@ fieldAt line k = startAt line 0 9 k
 -- the ways through the search of a mark
 module _ (s : List ℕ) (i mark : ℕ) where
   pub end-none : length s ≤ i → endAt s i mark ≡ i
-  unfolding endAt before
+  unfolding endAt beforeByte
   end-none h = rw (drop-past s i h) (omega arith)
 
   module _ (h : i < length s) where
     pub end-here : getD s i 0 ≡ mark → endAt s i mark ≡ i
-    unfolding endAt before
+    unfolding endAt beforeByte
     end-here q = rw (drop-here s i h, eq-eqb (getD s i 0) mark q) (omega arith)
 
     pub end-on : (getD s i 0 ≡ mark → ⊥) → endAt s i mark ≡ endAt s (i + 1) mark
-    unfolding endAt before
+    unfolding endAt beforeByte
     end-on q = rw (drop-here s i h, ne-eqb (getD s i 0) mark q) (omega arith)
 
 -- the ways through the search of a field
@@ -65,15 +65,15 @@ module _ (s : List ℕ) (at mark left : ℕ) where
       let e : left ≡ suc (left - 1) = omega arith in
       ap (λ (k : ℕ). startAt s at mark k) e
 
-before-length : (mark : ℕ) (l : List ℕ) → length (before mark l) ≤ length l
-unfolding before
+before-length : (mark : ℕ) (l : List ℕ) → length (beforeByte mark l) ≤ length l
+unfolding beforeByte
 before-length mark [] = omega arith
 before-length mark (b ∷ l) =
     let h = before-length mark l in
     choose (eqb b mark) (λ q. rw q (omega arith)) (λ q. rw q (omega arith))
 
-before-front : (mark : ℕ) (l : List ℕ) → take (length (before mark l)) l ≡ before mark l
-unfolding before
+before-front : (mark : ℕ) (l : List ℕ) → take (length (beforeByte mark l)) l ≡ beforeByte mark l
+unfolding beforeByte
 before-front mark [] = refl
 before-front mark (b ∷ l) = choose (eqb b mark) (λ q. rw q) (λ q. rw q (ap (λ (x : List ℕ). b ∷ x) (before-front mark l)))
 
@@ -87,14 +87,14 @@ module _ (s : List ℕ) (from mark : ℕ) where
       (omega arith, omega arith)
 
   -- its bytes
-  pub piece-between : (e : ℕ) → e ≡ endAt s from mark → between s from e ≡ pieceAt s from mark
+  pub piece-between : (e : ℕ) → e ≡ endAt s from mark → between s from e ≡ pieceText s from mark
   unfolding endAt
   piece-between e q =
-      let d : e - from ≡ length (before mark (drop from s)) = omega arith in
+      let d : e - from ≡ length (beforeByte mark (drop from s)) = omega arith in
       rw d (before-front mark (drop from s))
 
-  pub piece-none : length s ≤ from → [] ≡ pieceAt s from mark
-  unfolding before
+  pub piece-none : length s ≤ from → [] ≡ pieceText s from mark
+  unfolding beforeByte
   piece-none h = rw (drop-past s from h)
 
   pub past-some : (e : ℕ) → e ≡ endAt s from mark → e < length s → e + 1 ≡ pastAt s from mark

@@ -24,15 +24,15 @@ valueOn n (b ∷ l) = pick (isDigit b) (valueOn (n * 10 + (b - 48)) l) n
 unfoldable pub lastOf : ℕ → ℕ
 lastOf n = n % 10000000000000000000
 
-unfoldable pub numberAt : List ℕ → ℕ → ℕ
-numberAt s from = lastOf (valueOn 0 (drop from s))
+unfoldable pub numberSaid : List ℕ → ℕ → ℕ
+numberSaid s from = lastOf (valueOn 0 (drop from s))
 
 -- a tag as one number: its three bytes
 abbrev pub lettersOf : ℕ → List ℕ
 lettersOf tag = (tag / 65536 % 256) ∷ (tag / 256 % 256) ∷ (tag % 256) ∷ []
 
-abbrev pub fourDigits : ℕ → List ℕ
-fourDigits n = (48 + n / 1000 % 10) ∷ (48 + n / 100 % 10) ∷ (48 + n / 10 % 10) ∷ (48 + n % 10) ∷ []
+abbrev pub fourDigitText : ℕ → List ℕ
+fourDigitText n = (48 + n / 1000 % 10) ∷ (48 + n / 100 % 10) ∷ (48 + n / 10 % 10) ∷ (48 + n % 10) ∷ []
 
 -- the digits that are left out change nothing
 last-step : (n d : ℕ) → lastOf (lastOf n * 10 + d) ≡ lastOf (n * 10 + d)
@@ -57,31 +57,31 @@ last-on n (b ∷ l) =
 
 -- a number being read: its last digits so far, and those that are still to come
 abbrev Reads : List ℕ → ℕ → ℕ → ℕ → Type 0
-Reads s from i v = (v < 10000000000000000000) × (lastOf (valueOn v (drop i s)) ≡ numberAt s from)
+Reads s from i v = (v < 10000000000000000000) × (lastOf (valueOn v (drop i s)) ≡ numberSaid s from)
 
 module _ (s : List ℕ) (from : ℕ) where
   pub number-starts : Reads s from from 0
-  unfolding numberAt
+  unfolding numberSaid
   number-starts = (omega arith, refl)
 
   module _ (i v : ℕ) (w : Reads s from i v) where
-    ended : valueOn v (drop i s) ≡ v → v ≡ numberAt s from
+    ended : valueOn v (drop i s) ≡ v → v ≡ numberSaid s from
     unfolding lastOf
     ended e =
         let h = w .0 in
         let k : v ≡ v % 10000000000000000000 = omega arith in
         k ∙ ap (λ (x : ℕ). x % 10000000000000000000) (sym e) ∙ w .1
 
-    pub number-none : length s ≤ i → v ≡ numberAt s from
+    pub number-none : length s ≤ i → v ≡ numberSaid s from
     unfolding valueOn
     number-none h = ended (rw (drop-past s i h))
 
     module _ (h : i < length s) where
-      pub number-low : getD s i 0 < 48 → v ≡ numberAt s from
+      pub number-low : getD s i 0 < 48 → v ≡ numberSaid s from
       unfolding valueOn
       number-low q = ended (rw (drop-here s i h, lt-leb 48 (getD s i 0) q))
 
-      pub number-high : 48 ≤ getD s i 0 → 57 < getD s i 0 → v ≡ numberAt s from
+      pub number-high : 48 ≤ getD s i 0 → 57 < getD s i 0 → v ≡ numberSaid s from
       unfolding valueOn
       number-high p q = ended (rw (drop-here s i h, le-leb 48 (getD s i 0) p, lt-leb (getD s i 0) 57 q))
 

@@ -15,8 +15,8 @@ pub use standard::say_line;
 pub use standard::say_number;
 pub use standard::say_refusal;
 ghost use mathlib.Core.Path.{_≡_};
-ghost use Rattle.lines.specs.Lines.{endAt, pastAt, pieceAt, fieldAt};
-ghost use Rattle.lines.specs.Numbers.{numberAt};
+ghost use Rattle.lines.specs.Lines.{endAt, pastAt, pieceText, fieldAt};
+ghost use Rattle.lines.specs.Numbers.{numberSaid};
 
 // Where the piece that starts at an index ends: at the next mark, or at the end.
 fn end_at(s: &[u8], from: usize, mark: u8) -> usize
@@ -34,7 +34,7 @@ fn end_at(s: &[u8], from: usize, mark: u8) -> usize
 
 /// The bytes from an index up to the next mark, or to the end: a line, a field, a word.
 pub fn piece_at(s: &[u8], from: usize, mark: u8) -> &[u8]
-    ensures { λ r. ⌜ now r ≡ pieceAt (now (s .entry)) from mark ⌝ }
+    ensures { λ r. ⌜ now r ≡ pieceText (now (s .entry)) from mark ⌝ }
 {
     if s.len() <= from {
         return &s[0..0];
@@ -66,7 +66,7 @@ pub fn field(line: &[u8], k: usize) -> usize
 
 /// The number that the digits from an index on say; of more than nineteen digits the last nineteen.
 pub fn number(s: &[u8], from: usize) -> usize
-    ensures { λ r. ⌜ r ≡ numberAt (now (s .entry)) from ⌝ }
+    ensures { λ r. ⌜ r ≡ numberSaid (now (s .entry)) from ⌝ }
 {
     let mut i = from;
     let mut value = 0;

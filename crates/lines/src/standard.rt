@@ -4,7 +4,7 @@ use libc::STDIN_FILENO;
 use libc::STDOUT_FILENO;
 ghost use mathlib.Core.Path.{_≡_};
 ghost use Rattle.io.specs.Counts.{Counts};
-ghost use Rattle.lines.specs.Numbers.{lettersOf, fourDigits};
+ghost use Rattle.lines.specs.Numbers.{lettersOf, fourDigitText};
 
 /// Reads standard input over the front of a buffer; how many bytes that are.
 pub fn read_input(buffer: &mut [u8]) -> usize
@@ -51,7 +51,7 @@ pub fn letters(tag: u32) -> [u8; 3]
 
 /// The lowest four digits of a number, as document 000 writes a position.
 pub fn four_digits(n: u32) -> [u8; 4]
-    ensures { λ r. ⌜ r ≡ fourDigits n ⌝ }
+    ensures { λ r. ⌜ r ≡ fourDigitText n ⌝ }
 {
     [
         b'0' + (n / 1000 % 10) as u8,

@@ -15,9 +15,9 @@ use Rattle.laws.specs.Choice.{both}
 use Rattle.laws.specs.Lists.{between, between-none}
 use Rattle.parts.specs.declared.Part.{Part}
 use Rattle.syntax.specs.Firsts.{first-take, first-length}
-use Rattle.syntax.specs.Pieces.{first, later, pieces, nth, elements, occurrences, components, partOf}
+use Rattle.syntax.specs.Pieces.{firstPiece, laterPieces, pieces, nth, elements, occurrences, components, partOf}
 use Rattle.parts.specs.Places.{absent, bytesOf, spanOf, pieceAt, countedAt, elementAt, occurrenceAt, componentAt, partAt, repeats}
-use Rattle.parts.specs.Cuts.{later-split, later-none, length-part, drop-between, take-between, endOf, later-cases, several}
+use Rattle.parts.specs.Cuts.{later-split, later-none, length-part, drop-between, take-between, cutEnd, later-cases, several}
 
 -- a part lies inside another, or is absent
 unfoldable pub Inside : Part → Part → Type 0
@@ -27,13 +27,13 @@ module _ (c : ℕ) (n : eqb c 63 ≡ false) (s : List ℕ) where
   pub span-bytes : (k a b : ℕ) → bytesOf s (spanOf a (pieces c (between s a b)) k) ≡ getD (pieces c (between s a b)) k []
   unfolding spanOf
   span-bytes zero a b =
-      let m = length (first c false (between s a b)) in
+      let m = length (firstPiece c false (between s a b)) in
       let l = length-part s a b in
       let f = first-length c false (between s a b) in
       let e : a + m - a ≡ m = omega arith in
       ap (λ (x : ℕ). take x (drop a s)) e ∙ sym (take-take m (b - a) (drop a s) (omega arith)) ∙ sym (first-take c false (between s a b))
   span-bytes (suc k) a b =
-      ⊎-elim (λ w. rw (w .0) (span-bytes k (endOf s a b c + 1) b)) (λ w. rw w) (later-cases s a b c n)
+      ⊎-elim (λ w. rw (w .0) (span-bytes k (cutEnd s a b c + 1) b)) (λ w. rw w) (later-cases s a b c n)
 
   pub span-inside : (k a b : ℕ) → a ≤ b → Inside (spanOf a (pieces c (between s a b)) k) (record { from = a; to = b })
   unfolding spanOf Inside
@@ -43,7 +43,7 @@ module _ (c : ℕ) (n : eqb c 63 ≡ false) (s : List ℕ) where
       inr (omega arith, omega arith, omega arith)
   span-inside (suc k) a b h =
       ⊎-elim
-      (λ w. rw (w .0) (⊎-elim (λ e. inl e) (λ i. inr (omega arith, i .1, i .2)) (span-inside k (endOf s a b c + 1) b (omega arith))))
+      (λ w. rw (w .0) (⊎-elim (λ e. inl e) (λ i. inr (omega arith, i .1, i .2)) (span-inside k (cutEnd s a b c + 1) b (omega arith))))
       (λ w. inl (rw w))
       (later-cases s a b c n)
 
@@ -145,7 +145,7 @@ bytes-present s p h g =
     omega arith
 
 -- an element is repeated where its first occurrence ends before it
-pub repeats-at : (s : List ℕ) (g p : Part) (e end : ℕ) → p ≡ elementAt s g e → end ≡ endOf s (p .from) (p .to) 42
+pub repeats-at : (s : List ℕ) (g p : Part) (e end : ℕ) → p ≡ elementAt s g e → end ≡ cutEnd s (p .from) (p .to) 42
     → repeats (bytesOf s g) e ≡ both (ltb end (p .to)) (ltb end (length s))
 repeats-at s g p e end q r =
     ap (λ (x : List ℕ). ltb 1 (length (occurrences x))) (sym (element-bytes s g e) ∙ ap (bytesOf s) (sym q))

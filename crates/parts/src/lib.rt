@@ -4,7 +4,7 @@ ghost use mathlib.Core.Path.{_≡_};
 ghost use mathlib.Core.Bool.{false};
 ghost use lib.Dec.{eqb, leb};
 ghost use Rattle.parts.specs.Places.{absent, bytesOf, pieceAt, countedAt, elementAt, occurrenceAt, componentAt, partAt, repeats};
-ghost use Rattle.parts.specs.Cuts.{endOf};
+ghost use Rattle.parts.specs.Cuts.{cutEnd};
 
 /// The bytes from one index up to and without another. Absent where there are none.
 pub struct Part {
@@ -30,7 +30,7 @@ impl Part {
 
 // Where the piece that starts at `from` ends: at the first byte that stands as the mark, or with the part.
 fn piece_end(s: &[u8], from: usize, to: usize, mark: u8) -> usize
-    ensures { λ r. ⌜ r ≡ endOf (now (s .entry)) from to mark ⌝ }
+    ensures { λ r. ⌜ r ≡ cutEnd (now (s .entry)) from to mark ⌝ }
 {
     let mut i = from;
     let mut released = false;

@@ -17,8 +17,8 @@ use Rattle.values.specs.Values.{sameText}
 use Rattle.period.specs.declared.elements.Element.{Element}
 use Rattle.period.specs.Period.{restGood}
 
-abbrev pub elementOf : List ℕ → Part → ℕ → Element
-elementOf s segment e =
+abbrev pub elementFound : List ℕ → Part → ℕ → Element
+elementFound s segment e =
     record { whole = elementAt s segment e; once = occurrenceAt s (elementAt s segment e) 1 }
 
 -- component c of the first occurrence
@@ -34,22 +34,22 @@ abbrev pub restIn : List ℕ → Element → Element → Bool
 restIn s x y = both (sameText (plain (textIn s x 1)) (bytes "273")) (both (not (againIn s x)) (not (againIn s y)))
 
 module _ (s : List ℕ) (g : Part) where
-  pub element-found : (e : ℕ) {w o : Part} → w ≡ elementAt s g e → o ≡ occurrenceAt s w 1 → record { whole = w; once = o } ≡ elementOf s g e
+  pub element-found : (e : ℕ) {w o : Part} → w ≡ elementAt s g e → o ≡ occurrenceAt s w 1 → record { whole = w; once = o } ≡ elementFound s g e
   element-found e {w} {o} p q =
       ap (λ (x : Part). record { whole = w; once = x }) q
       ∙ ap (λ (x : Part). record { whole = x; once = occurrenceAt s x 1 }) p
 
-  pub text-in : {x : Element} (e c : ℕ) → x ≡ elementOf s g e → textIn s x c ≡ partOf (bytesOf s g) e 1 c
+  pub text-in : {x : Element} (e c : ℕ) → x ≡ elementFound s g e → textIn s x c ≡ partOf (bytesOf s g) e 1 c
   text-in e c p = ap (λ (x : Element). textIn s x c) p ∙ part-bytes s g e 1 c
 
-  again-of : (e : ℕ) → againIn s (elementOf s g e) ≡ repeats (bytesOf s g) e
+  again-of : (e : ℕ) → againIn s (elementFound s g e) ≡ repeats (bytesOf s g) e
   unfolding countedAt spanOf
   again-of e = sym (repeats-at s g (elementAt s g e) e (occurrenceAt s (elementAt s g e) 1 .to) refl refl)
 
-  pub again-in : {x : Element} (e : ℕ) → x ≡ elementOf s g e → againIn s x ≡ repeats (bytesOf s g) e
+  pub again-in : {x : Element} (e : ℕ) → x ≡ elementFound s g e → againIn s x ≡ repeats (bytesOf s g) e
   again-in e p = ap (againIn s) p ∙ again-of e
 
-  pub rest-in : {x y : Element} → x ≡ elementOf s g 1 → y ≡ elementOf s g 2 → restIn s x y ≡ restGood (bytesOf s g)
+  pub rest-in : {x y : Element} → x ≡ elementFound s g 1 → y ≡ elementFound s g 2 → restIn s x y ≡ restGood (bytesOf s g)
   unfolding restGood
   rest-in {x} {y} p q = rw (text-in 1 1 p, again-in 1 p, again-in 2 q)
 

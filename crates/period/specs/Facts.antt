@@ -24,7 +24,7 @@ use Rattle.period.specs.declared.Fault.the-variants.{BadDayString, BadWe
 use Rattle.period.specs.declared.Period.the-variants.{Good}
 use Rattle.period.specs.declared.forms.Formed.{Formed}
 use Rattle.period.specs.declared.forms.Formed.the-variants.{Told, Faulty}
-use Rattle.period.specs.Period.{firstLast, dayText, weekText, madeSpan, spanIn, fitsDays, rising, formOf, formedOf, restGood, periodBy, periodOn, periodOf}
+use Rattle.period.specs.Period.{firstLast, dayText, weekText, madeSpan, spanIn, fitsDays, risingDays, formOf, formedOf, restGood, periodBy, periodOn, periodOf}
 
 -- two dates give the numbers
 pub record Spans (f n : ℕ) : Type 0 where
@@ -68,10 +68,10 @@ span-told t f n q =
 -- a form that is told
 pub record Forms (n : ℕ) (d w : List ℕ) (form : Form) : Type 0 where
   pub fits : fitsDays n d ≡ true
-  pub rises : rising 48 w ≡ true
+  pub rises : risingDays 48 w ≡ true
   pub is : formOf d w ≡ form
 
-forms-by : (p q r : Bool) (n : ℕ) (d w : List ℕ) (form : Form) → fitsDays n d ≡ p → rising 48 w ≡ q
+forms-by : (p q r : Bool) (n : ℕ) (d w : List ℕ) (form : Form) → fitsDays n d ≡ p → risingDays 48 w ≡ q
     → pick p (pick q (pick r (Faulty BothForms) (Told (formOf d w))) (Faulty BadWeekdays)) (Faulty BadDayString) ≡ Told form → Forms n d w form
 forms-by false q r n d w form a b e = let z : _≡_ {A = ℕ} 0 1 = cc in absurd (omega arith)
 forms-by true false r n d w form a b e = let z : _≡_ {A = ℕ} 0 1 = cc in absurd (omega arith)
@@ -80,7 +80,7 @@ forms-by true true false n d w form a b e = record { fits = a; rises = b; is = c
 
 pub form-told : (n : ℕ) (d w : List ℕ) (form : Form) → formedOf n d w ≡ Told form → Forms n d w form
 unfolding formedOf
-form-told n d w form e = forms-by (fitsDays n d) (rising 48 w) (both (present d) (present w)) n d w form refl refl e
+form-told n d w form e = forms-by (fitsDays n d) (risingDays 48 w) (both (present d) (present w)) n d w form refl refl e
 
 -- a good period: its dates, its form and the rest
 pub record Goods (g : List ℕ) (f n : ℕ) (form : Form) : Type 0 where
@@ -119,5 +119,5 @@ good-bounds g f n form e =
     let l = s .not-long in
     record { some = omega arith; few = omega arith; inside = omega arith }
 
-pub good-rising : (g : List ℕ) (f n : ℕ) (form : Form) → periodOf g ≡ Good f n form → rising 48 (weekText g) ≡ true
+pub good-rising : (g : List ℕ) (f n : ℕ) (form : Form) → periodOf g ≡ Good f n form → risingDays 48 (weekText g) ≡ true
 good-rising g f n form e = form-told n (dayText g) (weekText g) form (good-told g f n form e .told) .rises

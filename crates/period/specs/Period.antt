@@ -63,9 +63,9 @@ abbrev pub fitsDays : ℕ → List ℕ → Bool
 fitsDays n t = either (not (present t)) (dayString n t)
 
 -- "a string of weekdays, Monday 1 to Sunday 7, strictly rising": each after the one before it, the first after `0`
-unfoldable pub rising : ℕ → List ℕ → Bool
-rising before [] = true
-rising before (b ∷ l) = both (both (ltb before b) (leb b 55)) (rising b l)
+unfoldable pub risingDays : ℕ → List ℕ → Bool
+risingDays before [] = true
+risingDays before (b ∷ l) = both (both (ltb before b) (leb b 55)) (risingDays b l)
 
 -- "Giving neither means every day."
 abbrev pub formWithout : List ℕ → Form
@@ -78,7 +78,7 @@ formOf days weekdays = pick (present days) ByString (formWithout weekdays)
 unfoldable pub formedOf : ℕ → List ℕ → List ℕ → Formed
 formedOf n days weekdays =
     pick (fitsDays n days)
-    (pick (rising 48 weekdays)
+    (pick (risingDays 48 weekdays)
     (pick (both (present days) (present weekdays)) (Faulty BothForms) (Told (formOf days weekdays)))
     (Faulty BadWeekdays))
     (Faulty BadDayString)
@@ -98,6 +98,11 @@ periodOn (Days f n) g = periodBy (formedOf n (dayText g) (weekText g)) (restGood
 
 unfoldable pub periodOf : List ℕ → Period
 periodOf g = periodOn (spanIn (firstLast g)) g
+
+-- whether a POP says a period, so that it is no 10
+abbrev pub isGood : Period → Bool
+isGood (Good first days form) = true
+isGood (Wrong x) = false
 
 -- the part's number: dates 1, day string 2, weekdays 3, both 4, neither 5, anything else 6
 unfoldable pub faultNumber : Fault → ℕ

@@ -12,7 +12,7 @@ use borrow.Author.Tests.{eq-eqb, ne-eqb, lt-ltb, le-ltb, le-leb, lt-leb}
 use Rattle.laws.specs.Choice.{both, all, both-true, both-false, both-assoc}
 use Rattle.laws.specs.Lists.{drop-here, drop-past}
 use Rattle.parts.specs.Places.{present}
-use Rattle.period.specs.Period.{zeroOrOne, dayString, rising}
+use Rattle.period.specs.Period.{zeroOrOne, dayString, risingDays}
 
 eqb-next : (a b : ℕ) → eqb (suc a) (suc b) ≡ eqb a b
 eqb-next a b =
@@ -58,16 +58,16 @@ module _ (t l : List ℕ) (b : ℕ) (f : t ≡ b ∷ l) where
       rw (f, e, day-character b h k, eqb-next (length l) n)
 
   -- weekdays that rise
-  pub rises-not : (before : ℕ) → b ≤ before → false ≡ rising before t
-  unfolding rising
+  pub rises-not : (before : ℕ) → b ≤ before → false ≡ risingDays before t
+  unfolding risingDays
   rises-not before h = rw (f, le-ltb before b h)
 
-  pub rises-past : (before : ℕ) → before < b → 55 < b → false ≡ rising before t
-  unfolding rising
+  pub rises-past : (before : ℕ) → before < b → 55 < b → false ≡ risingDays before t
+  unfolding risingDays
   rises-past before h k = rw (f, lt-ltb before b h, lt-leb b 55 k)
 
-  pub rises-goes : (before : ℕ) → before < b → b ≤ 55 → rising b l ≡ rising before t
-  unfolding rising
+  pub rises-goes : (before : ℕ) → before < b → b ≤ 55 → risingDays b l ≡ risingDays before t
+  unfolding risingDays
   rises-goes before h k = rw (f, lt-ltb before b h, le-leb b 55 k)
 
 module _ (t : List ℕ) (f : t ≡ []) where
@@ -79,8 +79,8 @@ module _ (t : List ℕ) (f : t ≡ []) where
   string-ends zero = rw f
   string-ends (suc n) = rw (f, ne-eqb 0 (suc n) (λ q. omega arith)) (ne-eqb (suc n) 0 (λ q. omega arith))
 
-  pub rises-ends : (before : ℕ) → true ≡ rising before t
-  unfolding rising
+  pub rises-ends : (before : ℕ) → true ≡ risingDays before t
+  unfolding risingDays
   rises-ends before = rw f
 
 -- a whole text of such characters, at an index of it

@@ -27,7 +27,7 @@ use Rattle.period.specs.declared.forms.Formed.the-variants.{Told, Faulty
 use Rattle.period.specs.declared.Fault.{Fault}
 use Rattle.period.specs.declared.Period.{Period}
 use Rattle.period.specs.declared.Period.the-variants.{Good, Wrong}
-use Rattle.period.specs.Period.{firstLast, dayText, weekText, spanIn, dayString, fitsDays, rising, formWithout, formedOf, restGood, periodOf, runsBy, runsIn}
+use Rattle.period.specs.Period.{firstLast, dayText, weekText, spanIn, dayString, fitsDays, risingDays, formWithout, formedOf, restGood, periodOf, runsBy, runsIn}
 
 -- the text of the two dates
 module _ (t : List ℕ) where
@@ -60,11 +60,11 @@ module _ (n : ℕ) (d w : List ℕ) where
   bad-string p = rw p
 
   module _ (p : fitsDays n d ≡ true) where
-    pub bad-weekdays : rising 48 w ≡ false → Faulty BadWeekdays ≡ formedOf n d w
+    pub bad-weekdays : risingDays 48 w ≡ false → Faulty BadWeekdays ≡ formedOf n d w
     unfolding formedOf
     bad-weekdays q = rw (p, q)
 
-    module _ (q : rising 48 w ≡ true) where
+    module _ (q : risingDays 48 w ≡ true) where
       pub no-string : present d ≡ false → Told (formWithout w) ≡ formedOf n d w
       unfolding formedOf
       no-string a = rw (p, q, a)

@@ -27,7 +27,7 @@ use Rattle.period.specs.declared.Form.the-variants.{Every, ByString, ByW
 use Rattle.period.specs.declared.Period.{Period}
 use Rattle.period.specs.declared.Period.the-variants.{Good, Wrong}
 use Rattle.period.specs.declared.forms.Formed.the-variants.{Told}
-use Rattle.period.specs.Period.{firstLast, dayText, weekText, spanIn, zeroOrOne, dayString, rising, formedOf, restGood, periodOf}
+use Rattle.period.specs.Period.{firstLast, dayText, weekText, spanIn, zeroOrOne, dayString, risingDays, formedOf, restGood, periodOf}
 use Rattle.period.specs.Facts.{span-told}
 use Rattle.period.specs.Tests.{two-dates, good-period}
 
@@ -203,11 +203,11 @@ day-numeric : (b : ℕ) → zeroOrOne b ≡ true → numeric b ≡ true
 day-numeric b p =
     choose (eqb b 48) (λ q. rw (eqb-true b 48 q)) (λ q. rw (eqb-true b 49 (rw q at p)))
 
-rising-numeric : (low : ℕ) (l : List ℕ) → 45 ≤ low → rising low l ≡ true → all numeric l ≡ true
-unfolding rising
+rising-numeric : (low : ℕ) (l : List ℕ) → 45 ≤ low → risingDays low l ≡ true → all numeric l ≡ true
+unfolding risingDays
 rising-numeric low [] h p = refl
 rising-numeric low (b ∷ l) h p =
-    let u = both-parts (both (ltb low b) (leb b 55)) (rising b l) p in
+    let u = both-parts (both (ltb low b) (leb b 55)) (risingDays b l) p in
     let v = both-parts (ltb low b) (leb b 55) (u .0) in
     let k = ltb-true low b (v .0) in
     let m = leb-true b 55 (v .1) in
@@ -218,16 +218,16 @@ some-text [] h = absurd (omega arith)
 some-text (b ∷ l) h = refl
 
 module _ (n : ℕ) (l : List ℕ) (k : present l ≡ true) where
-  told-weekdays : rising 48 l ≡ true → formedOf n [] l ≡ Told ByWeekdays
+  told-weekdays : risingDays 48 l ≡ true → formedOf n [] l ≡ Told ByWeekdays
   unfolding formedOf
   told-weekdays r = rw (r, k)
 
   told-string : length l ≡ n → all zeroOrOne l ≡ true → formedOf n l [] ≡ Told ByString
-  unfolding formedOf rising dayString
+  unfolding formedOf risingDays dayString
   told-string e z = rw (k, eq-eqb (length l) n e, z)
 
 told-every : (n : ℕ) → formedOf n [] [] ≡ Told Every
-unfolding formedOf rising
+unfolding formedOf risingDays
 told-every n = refl
 
 -- what stands behind the dates tells the form
@@ -255,7 +255,7 @@ module _ (g : List ℕ) {f n : ℕ} (b : Begins g f n) where
         of-rest (43 ∷ 43 ∷ drop 31 g) Every (two-more 43 43 p q)
         (cut-good (twoElements (withoutString (b .dates)) (43 ∷ drop 31 g)) (b .dates) [] [] (passed-cut (b .dates) (b .numerics) (drop 31 g)) (b .numerics) refl refl (b .span) (told-every n))
 
-    pub weekdays-good : getD g 29 0 ≡ 43 → rising 48 (drop 30 g) ≡ true → Good f n ByWeekdays ≡ periodOf g
+    pub weekdays-good : getD g 29 0 ≡ 43 → risingDays 48 (drop 30 g) ≡ true → Good f n ByWeekdays ≡ periodOf g
     unfolding bytes
     weekdays-good p r =
         let l = length-drop 30 g in

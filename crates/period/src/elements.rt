@@ -6,7 +6,7 @@ use parts::part_at;
 ghost use mathlib.Core.Path.{_≡_};
 ghost use Rattle.syntax.specs.Pieces.{partOf};
 ghost use Rattle.parts.specs.Places.{bytesOf};
-ghost use Rattle.period.specs.Elements.{elementOf, textIn, againIn};
+ghost use Rattle.period.specs.Elements.{elementFound, textIn, againIn};
 
 // Where an element of a POP stands, and its first occurrence.
 pub(crate) struct Element {
@@ -23,7 +23,7 @@ pub fn part_of(s: &[u8], segment: Part, e: usize, c: usize) -> &[u8]
 
 // An element of the segment and its first occurrence, found once: an element may be long, and most of it not read.
 pub(crate) fn find_element(s: &[u8], segment: Part, e: usize) -> Element
-    ensures { λ r. ⌜ r ≡ elementOf (now (s .entry)) segment e ⌝ }
+    ensures { λ r. ⌜ r ≡ elementFound (now (s .entry)) segment e ⌝ }
 {
     let whole = parts::element(s, segment, e);
     let once = parts::occurrence(s, whole, 1);

@@ -7,7 +7,7 @@ use values::next_byte;
 ghost use mathlib.Core.Path.{_≡_};
 ghost use Rattle.syntax.specs.Bytes.{plain};
 ghost use Rattle.parts.specs.Places.{present};
-ghost use Rattle.period.specs.Period.{dayString, fitsDays, rising, formWithout, formedOf};
+ghost use Rattle.period.specs.Period.{dayString, fitsDays, risingDays, formWithout, formedOf};
 
 // The form in which the days are told, or what is wrong with it.
 pub(crate) enum Formed {
@@ -66,7 +66,7 @@ fn fits_days(part: &[u8], n: usize) -> bool
 
 // Whether the weekdays rise from each to the next.
 fn is_rising(part: &[u8]) -> bool
-    ensures { λ r. ⌜ r ≡ rising 48 (plain (now (part .entry))) ⌝ }
+    ensures { λ r. ⌜ r ≡ risingDays 48 (plain (now (part .entry))) ⌝ }
 {
     let mut i = 0;
     let mut low = b'0';

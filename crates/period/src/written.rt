@@ -10,7 +10,7 @@ ghost use mathlib.Core.Path.{_≡_};
 ghost use Prim.Native.Nat.{_≤_};
 ghost use lib.ListN.{length, getD, drop};
 ghost use Rattle.laws.specs.Choice.{both, all};
-ghost use Rattle.period.specs.Period.{zeroOrOne, rising};
+ghost use Rattle.period.specs.Period.{zeroOrOne, risingDays};
 ghost use Rattle.period.specs.Written.{Begins, spanTold, periodTold, Word};
 
 // Four bytes as one number.
@@ -73,7 +73,7 @@ fn are_days(g: &[u8], from: usize) -> bool
 
 // Whether the bytes from an index on are weekdays that rise.
 fn are_rising(g: &[u8], from: usize) -> bool
-    ensures { λ r. ⌜ r ≡ rising 48 (drop from (now (g .entry))) ⌝ }
+    ensures { λ r. ⌜ r ≡ risingDays 48 (drop from (now (g .entry))) ⌝ }
 {
     let mut i = from;
     let mut last = b'0';

@@ -15,7 +15,7 @@ use Rattle.placing.specs.Table.{Table, rows, entryOf, tagAt, most, group
 use Rattle.placing.specs.Place.{startPlace}
 use Rattle.placing.specs.Rule.{reachable, again, laterOnes, choicesFrom, firstOf, stepOf, groupOf, isPlaced, mayEnd}
 use Rattle.placing.specs.Walks.{after-grows, places-past}
-use Rattle.placing.specs.Laws.{absent, onlyAt, absent-out, only-there, placed-row, placed-segment}
+use Rattle.placing.specs.Laws.{absentTag, onlyAt, absent-out, only-there, placed-row, placed-segment}
 use Rattle.placing.specs.Formed.{nth, group-none, group-inside}
 use Rattle.placing.specs.WellFormed.{isNot, every, wellFormed, skdupd-formed, tsdupd-formed}
 use Rattle.placing.specs.Message.{InMessage, start-in, first-out}
@@ -39,8 +39,8 @@ pub record MessageTable (t : Table) (last : ℕ) : Type 0 where
   pub uit-once : most t last ≡ 1
   pub uit-free : levelOf t last ≡ 0
   pub uit-apart : T (below (apart t last) (rows t))
-  pub uib-none : T (absent t UIB)
-  pub uiz-none : T (absent t UIZ)
+  pub uib-none : T (absentTag t UIB)
+  pub uiz-none : T (absentTag t UIZ)
 
 -- the same as tests, for any table that is well formed
 abbrev messageTests : Table → ℕ → List Bool
@@ -54,8 +54,8 @@ messageTests t last =
     ∷ eqb (most t last) 1
     ∷ eqb (levelOf t last) 0
     ∷ below (apart t last) (rows t)
-    ∷ absent t UIB
-    ∷ absent t UIZ
+    ∷ absentTag t UIB
+    ∷ absentTag t UIZ
     ∷ []
 
 tested : (t : Table) (last : ℕ) → T (wellFormed t) → T (every (messageTests t last)) → MessageTable t last

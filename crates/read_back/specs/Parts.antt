@@ -11,14 +11,14 @@ use borrow.Author.Tests.{le-leb, lt-ltb}
 use Rattle.laws.specs.Choice.{both, all}
 use Rattle.laws.specs.Text.{bytes}
 use Rattle.syntax.specs.Bytes.{permittedOf, plainOn}
-use Rattle.syntax.specs.Pieces.{first, elements, occurrences, components}
+use Rattle.syntax.specs.Pieces.{firstPiece, elements, occurrences, components}
 use Rattle.syntax.specs.Segment.{bodyAt, tagged, componentFits, occurrenceFits, elementFits, withinLimits, wellFormed, scanOf, segmentAt}
 use Rattle.syntax.specs.declared.segment.Scanned.the-variants.{End}
 use Rattle.free_texts.specs.Free.{all-append, quiet, first-cut, plain-all, numeric, no-quote, no-release, all-permitted}
 use Rattle.free_texts.specs.Parts.{code, oneElement, twoElements, withString, withoutString, Cut, string-quiet, string-components, string-elements, string-once, string-cut, dates-quiet, week-components, week-elements, week-once, named-once, named-components, week-cut}
 
 -- a segment cut into its elements is whole where each of them is within the limits
-module _ (g : List ℕ) (es : List (List ℕ)) (tag : first 43 false g ≡ 80 ∷ 79 ∷ 80 ∷ []) (cut : elements g ≡ es) where
+module _ (g : List ℕ) (es : List (List ℕ)) (tag : firstPiece 43 false g ≡ 80 ∷ 79 ∷ 80 ∷ []) (cut : elements g ≡ es) where
   formed : leb (length es) 64 ≡ true → all elementFits es ≡ true → wellFormed g ≡ true
   unfolding wellFormed tagged withinLimits
   formed h f = rw (tag, cut, h, f)

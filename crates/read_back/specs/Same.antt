@@ -17,7 +17,7 @@ use Rattle.calendar.specs.Written.{dayCount, goodCalendar}
 use Rattle.period.specs.Period.{runsIn}
 use Rattle.period.specs.declared.Form.{Form}
 use Rattle.joining.specs.declared.Joined.the-variants.{Done}
-use Rattle.joining.specs.Joined.{windowAnswer, answered, joined, selects}
+use Rattle.joining.specs.Joined.{windowAnswer, answered, daysJoined, selects}
 use Rattle.joining.specs.Union.{no-days, no-day, no-byte, length-none, length-joined, joined-day}
 use Rattle.joining.specs.Bytes.{AreBytes, joined-bytes}
 use Rattle.read_back.specs.Written.{ReadsBack}
@@ -49,14 +49,14 @@ module _ (text c : List ℕ) (first last : Date) (form : Form) (r : ReadsBack te
             (sym (f .none-past k (omega arith) h))
       ]
 
-  pub joined-same : joined empty (number first) (r .body) ≡ c
+  pub joined-same : daysJoined empty (number first) (r .body) ≡ c
   joined-same =
       let f = good-facts c first last good in
       let n = length-none 64 in
       let j = length-joined empty (number first) (r .body) in
       let b = f .bytes in
       let d = ap (λ (x : ℕ). answered x (number first) (r .body)) n ∙ joined-done in
-      days-same (joined empty (number first) (r .body)) c (j ∙ n ∙ sym (f .bytes))
+      days-same (daysJoined empty (number first) (r .body)) c (j ∙ n ∙ sym (f .bytes))
       (λ i l. joined-bytes empty (number first) (r .body) none i)
       (λ i l. a i)
       (λ k l.

@@ -21,7 +21,7 @@ use Rattle.calendar.specs.Days.{day}
 use Rattle.calendar.specs.Form.{HasForm, named-some, some-named, form-told}
 use Rattle.calendar.specs.Good.{good-facts}
 use Rattle.calendar.specs.Written.{dayCount, goodCalendar, start, named, weekdayForm, digitsFrom, namedText, weekdayText}
-use Rattle.period.specs.Period.{rising, runsBy, runsIn}
+use Rattle.period.specs.Period.{risingDays, runsBy, runsIn}
 use Rattle.period.specs.declared.Form.the-variants.{Every, ByWeekdays}
 use Rattle.period.specs.declared.Period.the-variants.{Good}
 use Rattle.free_texts.specs.Free.{numeric}
@@ -48,8 +48,8 @@ module _ (t : ℕ → Bool) where
       let r = digits-few (v + 1) m in
       choose (t v) (λ q. rw q (omega arith)) (λ q. rw q (omega arith))
 
-  digits-rise : (low v m : ℕ) → low < 48 + v → v + m ≤ 8 → rising low (digitsFrom t v m) ≡ true
-  unfolding digitsFrom rising
+  digits-rise : (low v m : ℕ) → low < 48 + v → v + m ≤ 8 → risingDays low (digitsFrom t v m) ≡ true
+  unfolding digitsFrom risingDays
   digits-rise low v zero h k = refl
   digits-rise low v (suc m) h k =
       choose (t v)

@@ -22,7 +22,7 @@ use Rattle.calendar.specs.Days.{day}
 use Rattle.calendar.specs.Steps.{length-characters, character-at}
 use Rattle.calendar.specs.Good.{GoodCalendar, good-facts}
 use Rattle.calendar.specs.Written.{dayCount, goodPeriod, daysSpan, goodCalendar, start, dayCharacter, dayCharacters, dayStringText}
-use Rattle.period.specs.Period.{zeroOrOne, dayString, fitsDays, rising, formOf, formedOf, periodOf, runsBy, runsIn, runs}
+use Rattle.period.specs.Period.{zeroOrOne, dayString, fitsDays, risingDays, formOf, formedOf, periodOf, runsBy, runsIn, runs}
 use Rattle.period.specs.Tests.{two-dates}
 use Rattle.period.specs.Written.{string-plain, cut-good}
 use Rattle.period.specs.declared.Form.{Form}
@@ -76,7 +76,7 @@ module _ (c : List ℕ) (a b : Date) (good : GoodCalendar c a b) where
 
   -- a POP whose parts are these dates and a form that is told is a good period
   module _ (g s w : List ℕ) (p : Parts g (dates a b) s w) (ns : all numeric s ≡ true) (nw : all numeric w ≡ true) where
-    pub period-read : fitsDays (dayCount a b) s ≡ true → rising 48 w ≡ true → both (present s) (present w) ≡ false
+    pub period-read : fitsDays (dayCount a b) s ≡ true → risingDays 48 w ≡ true → both (present s) (present w) ≡ false
         → periodOf g ≡ Good (number a) (dayCount a b) (formOf s w)
     unfolding daysSpan formedOf
     period-read f r n =
@@ -116,8 +116,8 @@ string-fits c n = fits (present (dayCharacters c 0 n)) (dayString n (dayCharacte
     fits true q e = e
     fits false q e = refl
 
-no-weekdays : rising 48 [] ≡ true
-unfolding rising
+no-weekdays : risingDays 48 [] ≡ true
+unfolding risingDays
 no-weekdays = refl
 
 day-of : (d : Bool) → eqb (pick d 49 48) 49 ≡ d

@@ -63,30 +63,30 @@ changedAt (At k) f rs = take k rs ++ (listed (f (recordAt k rs)) ++ drop (k + 1)
 changedAt (Gap k) f rs = take k rs ++ (listed (f none) ++ drop k rs)
 
 -- one place on
-abbrev later : Found → Found
-later (At k) = At (suc k)
-later (Gap k) = Gap (suc k)
+abbrev laterFound : Found → Found
+laterFound (At k) = At (suc k)
+laterFound (Gap k) = Gap (suc k)
 
-later-by : (o : Order) (f : Found) (k : ℕ) → byOrder o (later f) (At (suc k)) (Gap (suc k)) ≡ later (byOrder o f (At k) (Gap k))
+later-by : (o : Order) (f : Found) (k : ℕ) → byOrder o (laterFound f) (At (suc k)) (Gap (suc k)) ≡ laterFound (byOrder o f (At k) (Gap k))
 later-by Before f k = refl
 later-by Same f k = refl
 later-by After f k = refl
 
-place-later : (x : List ℕ) (rs : List Record) (k : ℕ) → placeIn x rs (suc k) ≡ later (placeIn x rs k)
+place-later : (x : List ℕ) (rs : List Record) (k : ℕ) → placeIn x rs (suc k) ≡ laterFound (placeIn x rs k)
 unfolding placeIn
 place-later x [] k = refl
 place-later x (r ∷ rs) k = rw (place-later x rs (suc k)) (later-by (orderOf (r .number) x) (placeIn x rs (suc k)) k)
 
-place-by : (x : List ℕ) (r : Record) (rs : List Record) (o : Order) → orderOf (r .number) x ≡ o → placeIn x (r ∷ rs) 0 ≡ byOrder o (later (placeIn x rs 0)) (At 0) (Gap 0)
+place-by : (x : List ℕ) (r : Record) (rs : List Record) (o : Order) → orderOf (r .number) x ≡ o → placeIn x (r ∷ rs) 0 ≡ byOrder o (laterFound (placeIn x rs 0)) (At 0) (Gap 0)
 unfolding placeIn
 place-by x r rs o e = rw (e, place-later x rs 0)
 
-found-later : (p : Found) (r : Record) (rs : List Record) → foundIn (later p) (r ∷ rs) ≡ foundIn p rs
+found-later : (p : Found) (r : Record) (rs : List Record) → foundIn (laterFound p) (r ∷ rs) ≡ foundIn p rs
 unfolding recordAt
 found-later (At k) r rs = refl
 found-later (Gap k) r rs = refl
 
-changed-later : (p : Found) (f : Option Record → Option Record) (r : Record) (rs : List Record) → changedAt (later p) f (r ∷ rs) ≡ r ∷ changedAt p f rs
+changed-later : (p : Found) (f : Option Record → Option Record) (r : Record) (rs : List Record) → changedAt (laterFound p) f (r ∷ rs) ≡ r ∷ changedAt p f rs
 unfolding changedAt recordAt
 changed-later (At k) f r rs =
     let e : suc k + 1 ≡ suc (k + 1) = omega arith in
@@ -94,7 +94,7 @@ changed-later (At k) f r rs =
 changed-later (Gap k) f r rs = refl
 
 -- a place is among the records or at their end
-within-by : (n : ℕ) (o : Order) (p : Found) → Within n p → Within (suc n) (byOrder o (later p) (At 0) (Gap 0))
+within-by : (n : ℕ) (o : Order) (p : Found) → Within n p → Within (suc n) (byOrder o (laterFound p) (At 0) (Gap 0))
 within-by n Before (At k) h = suc-le-suc h
 within-by n Before (Gap k) h = suc-le-suc h
 within-by n Same p h = omega arith

@@ -16,7 +16,7 @@ use Rattle.records.specs.Order.{after≢before, before-trans, before-flip, afte
 use Rattle.records.specs.Found.{is-before}
 use Rattle.contents.specs.Contents.{Record, goodNumber, goodRecord, comesBefore, beforeNext, inOrder}
 use Rattle.contents.specs.Calls.{lookup, listed, changed}
-use Rattle.rooms.specs.Order.{isSame, before-order, same-order, same-told, same-itself}
+use Rattle.rooms.specs.Order.{isSameOrder, before-order, same-order, same-told, same-itself}
 use Rattle.rooms.specs.Slots.{record-number}
 
 pub none≢some : {A : Type 0} {a : A} → none ≡ some a → ⊥
@@ -26,8 +26,8 @@ pub some-is : {A : Type 0} {a b : A} → some a ≡ some b → a ≡ b
 some-is q = cc
 
 -- the tests by the order that they come to
-pub same-by : (a b : List ℕ) (o : Order) → orderOf a b ≡ o → sameText a b ≡ isSame o
-same-by a b o e = same-order a b ∙ ap isSame e
+pub same-by : (a b : List ℕ) (o : Order) → orderOf a b ≡ o → sameText a b ≡ isSameOrder o
+same-by a b o e = same-order a b ∙ ap isSameOrder e
 
 pub before-by : (a b : List ℕ) (o : Order) → orderOf a b ≡ o → comesBefore a b ≡ isBefore o
 before-by a b o e = before-order a b ∙ ap isBefore e

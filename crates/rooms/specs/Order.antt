@@ -21,10 +21,10 @@ use Rattle.records.specs.Padded.{NoZero, order-filled}
 use Rattle.contents.specs.Contents.{goodNumber, comesBefore}
 use Rattle.contents.specs.Written.{filledUp, upToZero}
 
-abbrev pub isSame : Order → Bool
-isSame Before = false
-isSame Same = true
-isSame After = false
+abbrev pub isSameOrder : Order → Bool
+isSameOrder Before = false
+isSameOrder Same = true
+isSameOrder After = false
 
 pub before-order : (a b : List ℕ) → comesBefore a b ≡ isBefore (orderOf a b)
 unfolding comesBefore orderOf
@@ -44,7 +44,7 @@ before-order (x ∷ l) (y ∷ m) =
     let k = ltb-false y x t in
     rw (p, t, eq-eqb x y (omega arith)) (before-order l m)))
 
-pub same-order : (a b : List ℕ) → sameText a b ≡ isSame (orderOf a b)
+pub same-order : (a b : List ℕ) → sameText a b ≡ isSameOrder (orderOf a b)
 unfolding sameText orderOf
 same-order [] [] = refl
 same-order [] (y ∷ m) = refl
@@ -66,7 +66,7 @@ same-order (x ∷ l) (y ∷ m) =
 
 -- ---- the test of two texts decides whether they are one
 
-is-same : (o : Order) → isSame o ≡ true → o ≡ Same
+is-same : (o : Order) → isSameOrder o ≡ true → o ≡ Same
 is-same Before q = absurd (false≢true q)
 is-same Same q = refl
 is-same After q = absurd (false≢true q)
@@ -75,7 +75,7 @@ pub same-told : (a b : List ℕ) → sameText a b ≡ true → a ≡ b
 same-told a b q = same-text a b (is-same (orderOf a b) (sym (same-order a b) ∙ q))
 
 pub same-itself : (a : List ℕ) → sameText a a ≡ true
-same-itself a = same-order a a ∙ ap isSame (same-self a)
+same-itself a = same-order a a ∙ ap isSameOrder (same-self a)
 
 pub same-when : (a b : List ℕ) → a ≡ b → sameText a b ≡ true
 same-when a b e = ap (sameText a) (sym e) ∙ same-itself a

@@ -56,11 +56,11 @@ unfoldable pub putIn : List ℕ → List ℕ → List ℕ → List ℕ
 putIn room x entry = putBy room x entry (findOf room x)
 
 -- a removal: pending where there is a live calendar; else the slot goes
-unfoldable pub removeAt : List ℕ → ℕ → List ℕ
-removeAt room at = pick (eqb (getD room (at + 10) 0) 0) (closedIn room at 140) (putAt room (at + 75) removalEntry)
+unfoldable pub slotRemoved : List ℕ → ℕ → List ℕ
+slotRemoved room at = pick (eqb (getD room (at + 10) 0) 0) (closedIn room at 140) (putAt room (at + 75) removalEntry)
 
 abbrev pub removeBy : List ℕ → Found → List ℕ
-removeBy room (At k) = removeAt room (k * 140)
+removeBy room (At k) = slotRemoved room (k * 140)
 removeBy room (Gap k) = room
 
 unfoldable pub removeIn : List ℕ → List ℕ → List ℕ

@@ -29,7 +29,7 @@ use Rattle.rooms.specs.Places.{record-within, record-there, record-good, slot-t
 use Rattle.stages.specs.Stage.{isRemoval, removedBy, removed, putOver}
 use Rattle.stages.specs.Changing.{keeps-found, removed-keeps, put-keeps}
 use Rattle.stages.specs.Kept.{removed-good, put-good, found-good}
-use Rattle.service_entries.specs.Room.{isLive, knownOf, lookIn, numberBytes, knownAt, knownBy, lookAt, putEntry, newSlot, putBy, putIn, removeAt, removeBy, removeIn}
+use Rattle.service_entries.specs.Room.{isLive, knownOf, lookIn, numberBytes, knownAt, knownBy, lookAt, putEntry, newSlot, putBy, putIn, slotRemoved, removeBy, removeIn}
 
 -- ---- numbers
 
@@ -192,8 +192,8 @@ module _ (quota : ℕ) (rs : List Record) (g : goodAccount quota rs ≡ true) wh
         ∙ ap (λ (x : List ℕ). paste room (k * 140) x 140) (other-pending r good-at p)
         ∙ room-replaced quota rs records k (record { number = r .number; live = r .live; pending = p }) h fits (record-within k rs r e)
 
-    removed-there : (l : Option (List ℕ)) → r .live ≡ l → removeAt room (k * 140) ≡ roomBytes quota (take k rs ++ (listed (removedBy r l) ++ drop (k + 1) rs))
-    unfolding removeAt closedIn pendingBytes
+    removed-there : (l : Option (List ℕ)) → r .live ≡ l → slotRemoved room (k * 140) ≡ roomBytes quota (take k rs ++ (listed (removedBy r l) ++ drop (k + 1) rs))
+    unfolding slotRemoved closedIn pendingBytes
     removed-there none q =
         let f : eqb (getD room (k * 140 + 10) 0) 0 ≡ true = not-is (eqb (getD room (k * 140 + 10) 0) 0) true (rw (byte 10 (lit≤ tt)) (live-flag r good-at ∙ ap isLive q)) in
         rw (f, le-leb (k * 140 + 140) (length room) within) (room-removed quota rs records k fits (record-within k rs r e))

@@ -15,7 +15,7 @@ use Rattle.syntax.specs.Segment.{bodyAt}
 use Rattle.parts.specs.declared.Part.{Part}
 use Rattle.parts.specs.Places.{bytesOf}
 use Rattle.laws.specs.Put.{putAt, put-room}
-use Rattle.joining.specs.Joined.{joined, joinAll}
+use Rattle.joining.specs.Joined.{daysJoined, joinAll}
 use Rattle.slots.specs.declared.Found.{Found}
 use Rattle.slots.specs.declared.Found.the-variants.{At, Gap}
 use Rattle.slots.specs.Find.{findOf, Within, find-within}
@@ -26,7 +26,7 @@ use Rattle.services.specs.Services.{segmentOf, periodsOf}
 use Rattle.service_entries.specs.declared.Known.{Known}
 use Rattle.service_entries.specs.declared.Known.the-variants as known
 use Rattle.stages.specs.Stage.{numberIn, daysOf}
-use Rattle.service_entries.specs.Room.{numberBytes, knownAt, knownBy, lookAt, removalEntry, newSlot, putBy, putIn, removeAt, removeBy, removeIn, removeBytes, putBytes, removesIn, putsIn}
+use Rattle.service_entries.specs.Room.{numberBytes, knownAt, knownBy, lookAt, removalEntry, newSlot, putBy, putIn, slotRemoved, removeBy, removeIn, removeBytes, putBytes, removesIn, putsIn}
 
 -- ---- the days of a service
 
@@ -35,7 +35,7 @@ module _ (first : ℕ) (s l days : List ℕ) where
   unfolding joinAll
   join-none e = rw e
 
-  pub join-on : (at : ℕ) (rest : List ℕ) → l ≡ at ∷ rest → (p : Part) (last : List ℕ) → p ≡ segmentOf s at → last ≡ joined days first (bytesOf s p)
+  pub join-on : (at : ℕ) (rest : List ℕ) → l ≡ at ∷ rest → (p : Part) (last : List ℕ) → p ≡ segmentOf s at → last ≡ daysJoined days first (bytesOf s p)
       → joinAll last first (map (bodyAt s) rest) ≡ joinAll days first (map (bodyAt s) l)
   unfolding joinAll
   join-on at rest e p last a b = rw (e, b, segment-body s at p a)
@@ -82,7 +82,7 @@ module _ (room x : List ℕ) (f : Found) (q : f ≡ findOf room x) where
   unfolding putIn
   put-gap k entry slot last e b a = a ∙ ap (insertedIn room (k * 140)) b ∙ sym (ap (putBy room x entry) (sym q ∙ e))
 
-  pub remove-found : (k : ℕ) (last : List ℕ) → f ≡ At k → last ≡ removeAt room (k * 140) → last ≡ removeIn room x
+  pub remove-found : (k : ℕ) (last : List ℕ) → f ≡ At k → last ≡ slotRemoved room (k * 140) → last ≡ removeIn room x
   unfolding removeIn
   remove-found k last e a = a ∙ sym (ap (removeBy room) (sym q ∙ e))
 
@@ -91,12 +91,12 @@ module _ (room x : List ℕ) (f : Found) (q : f ≡ findOf room x) where
   remove-gap k e = sym (ap (removeBy room) (sym q ∙ e))
 
 module _ (room : List ℕ) (at : ℕ) (last : List ℕ) where
-  pub remove-dead : getD room (at + 10) 0 ≡ 0 → last ≡ closedIn room at 140 → last ≡ removeAt room at
-  unfolding removeAt
+  pub remove-dead : getD room (at + 10) 0 ≡ 0 → last ≡ closedIn room at 140 → last ≡ slotRemoved room at
+  unfolding slotRemoved
   remove-dead q a = a ∙ sym (rw (eq-eqb (getD room (at + 10) 0) 0 q))
 
-  pub remove-live : (getD room (at + 10) 0 ≡ 0 → ⊥) → (entry : List ℕ) → entry ≡ removalEntry → last ≡ putAt room (at + 75) entry → last ≡ removeAt room at
-  unfolding removeAt
+  pub remove-live : (getD room (at + 10) 0 ≡ 0 → ⊥) → (entry : List ℕ) → entry ≡ removalEntry → last ≡ putAt room (at + 75) entry → last ≡ slotRemoved room at
+  unfolding slotRemoved
   remove-live q entry b a = a ∙ ap (putAt room (at + 75)) b ∙ sym (rw (ne-eqb (getD room (at + 10) 0) 0 q))
 
 pub entry-is : (flag : ℕ) (days last : List ℕ) → length days ≡ 64 → last ≡ putAt (set (replicate 65 0) 0 flag) 1 days → last ≡ flag ∷ days

@@ -19,7 +19,7 @@ ghost use Rattle.parts.specs.Places.{bytesOf};
 ghost use Rattle.joining.specs.Joined.{joinAll};
 ghost use Rattle.services.specs.Services.{periodsFrom, servicesOf};
 ghost use Rattle.stages.specs.Stage.{daysOf};
-ghost use Rattle.service_entries.specs.Room.{numberBytes, knownAt, lookAt, newSlot, putIn, removeAt, removeIn, removeBytes, putBytes, removesIn, putsIn};
+ghost use Rattle.service_entries.specs.Room.{numberBytes, knownAt, lookAt, newSlot, putIn, slotRemoved, removeIn, removeBytes, putBytes, removesIn, putsIn};
 
 const SLOT: usize = 140;
 
@@ -128,7 +128,7 @@ fn put_service(room: &mut [u8], number: [u8; 10], entry: [u8; 65])
 // Removes the record of the slot at an index: its removal is pending where it is live, else it goes.
 fn remove_at(room: &mut [u8], at: usize)
     requires { ⌜ at + 140 ≤ length (now room) ⌝ }
-    ensures { λ _. ⌜ now (room .exit) ≡ removeAt (now (room .entry)) at ⌝ }
+    ensures { λ _. ⌜ now (room .exit) ≡ slotRemoved (now (room .entry)) at ⌝ }
 {
     if room[at + LIVE] == 0 {
         gaps::close_gap(room, at, SLOT);

@@ -13,16 +13,16 @@ use Rattle.answers.specs.Answers.{Answer, done, refused}
 use Rattle.parts.specs.Places.{bytesOf}
 use Rattle.messages.specs.Tags.{PRD, MSD, POP, UIT}
 use Rattle.services.specs.declared.Service.{Service}
-use Rattle.services.specs.Rows.{offsetAt, isRow, rowCount, firstOf, firstFrom, listOf, first-bounds}
-use Rattle.services.specs.Services.{isService, isPeriod, serviceEnd, removes, serviceAt, nextService, nextPeriod, hasPeriod, isWrong, isSame, isTwice, testedOf, afterTest, countOn, countedOf}
+use Rattle.services.specs.Rows.{offsetAt, isRow, rowCount, firstIn, firstFrom, listOf, first-bounds}
+use Rattle.services.specs.Services.{isService, isPeriodRow, serviceEnd, removes, serviceAt, nextService, nextPeriod, hasPeriod, isWrong, isSameService, isTwice, testedOf, afterTest, countOn, countedOf}
 use Rattle.services.specs.Laws.{service-rows}
 
 -- two tests that agree from i on and below n
 abbrev Agree : (ℕ → Bool) → (ℕ → Bool) → ℕ → ℕ → Type 0
 Agree f g i n = (j : ℕ) → i ≤ j → j < n → f j ≡ g j
 
-of-same : (f g : ℕ → Bool) (k i : ℕ) → Agree f g i (i + k) → firstOf f k i ≡ firstOf g k i
-unfolding firstOf
+of-same : (f g : ℕ → Bool) (k i : ℕ) → Agree f g i (i + k) → firstIn f k i ≡ firstIn g k i
+unfolding firstIn
 of-same f g zero i h = refl
 of-same f g (suc k) i h = rw (h i (omega arith) (omega arith), of-same f g k (i + 1) (λ j a b. h j (omega arith) (omega arith)))
 
@@ -94,14 +94,14 @@ module _ (l m : List ℕ) (n : ℕ) (h : 3 * n ≤ length l) where
         (λ q. rw (q, service-front x (ltb-true x n q)))
         (λ q. rw q))
 
-    same-front : (number : List ℕ) (j : ℕ) → j < n → isSame s (l ++ m) number j ≡ isSame s l number j
-    unfolding isSame
+    same-front : (number : List ℕ) (j : ℕ) → j < n → isSameService s (l ++ m) number j ≡ isSameService s l number j
+    unfolding isSameService
     same-front number j a = rw (row-front j a 2 PRD, offset-front j a)
 
     twice-front : (number : List ℕ) (before : ℕ) → before ≤ n → isTwice s (l ++ m) number before ≡ isTwice s l number before
     unfolding isTwice
     twice-front number before a =
-        rw (count-whole before a, count-front before a, first-same (isSame s (l ++ m) number) (isSame s l number) 0 before (λ j b d. same-front number j (omega arith)))
+        rw (count-whole before a, count-front before a, first-same (isSameService s (l ++ m) number) (isSameService s l number) 0 before (λ j b d. same-front number j (omega arith)))
 
     period-has : (from to : ℕ) → to ≤ n → hasPeriod (l ++ m) from to ≡ hasPeriod l from to
     unfolding hasPeriod
@@ -130,9 +130,9 @@ module _ (l m : List ℕ) (n : ℕ) (h : 3 * n ≤ length l) where
   pub period-front : (i to : ℕ) → to ≤ n → nextPeriod (l ++ m) i to ≡ nextPeriod l i to
   unfolding nextPeriod
   period-front i to a =
-      let x = firstFrom (isPeriod l) i to in
+      let x = firstFrom (isPeriodRow l) i to in
       rw (count-whole to a, count-front to a, search-front 4 POP i to a)
-      (choose (ltb (firstFrom (isPeriod l) i to) to)
+      (choose (ltb (firstFrom (isPeriodRow l) i to) to)
       (λ q.
       let b = ltb-true x to q in
       rw (q, offset-front x (omega arith)))

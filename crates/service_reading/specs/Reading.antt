@@ -13,7 +13,7 @@ use Rattle.laws.specs.Put.{put-front}
 use Rattle.steps.specs.declared.state.Row.{Row}
 use Rattle.answers.specs.Answers.{done, refused}
 use Rattle.answers.specs.Laws.{refused≢done, done-is}
-use Rattle.interchange.specs.Reader.{Verdict, readingOf, numbers, answerBy, answerOf, rowsBy, rowsAfter}
+use Rattle.interchange.specs.Reader.{Verdict, readingOf, numbers, verdictAnswer, outcomeAnswer, rowsBy, rowsAfter}
 use Rattle.interchange.specs.Laws.{length-numbers}
 use Rattle.services.specs.declared.Service.{Service}
 use Rattle.services.specs.Rows.{offsetAt, isRow}
@@ -52,7 +52,7 @@ module _ (rows : List Row) (i : ℕ) (z : Row) (h : i < length rows) where
 abbrev Stands : List Row → List ℕ → ℕ → Verdict → Type 0
 Stands rows lent n v = (length rows ≡ n) × (rowsBy rows lent v ≡ numbers rows ++ drop (length (numbers rows)) lent)
 
-stands-by : (rows : List Row) (lent : List ℕ) (n : ℕ) (v : Verdict) → answerBy rows (length lent) v ≡ done n → Stands rows lent n v
+stands-by : (rows : List Row) (lent : List ℕ) (n : ℕ) (v : Verdict) → verdictAnswer rows (length lent) v ≡ done n → Stands rows lent n v
 stands-by rows lent n (done _) q =
     choose (ltb (length lent) (3 * length rows))
     (λ p. absurd (refused≢done (rw p at q)))
@@ -62,7 +62,7 @@ stands-by rows lent n (done _) q =
     (done-is (rw p at q), put-front lent (numbers rows) (omega arith)))
 stands-by rows lent n (refused number position) q = absurd (refused≢done q)
 
-module _ (s lent : List ℕ) (n : ℕ) (q : answerOf (readingOf s) (length lent) ≡ done n) where
+module _ (s lent : List ℕ) (n : ℕ) (q : outcomeAnswer (readingOf s) (length lent) ≡ done n) where
   abbrev rows : List ℕ
   rows = numbers (readingOf s .rows)
 
@@ -70,7 +70,7 @@ module _ (s lent : List ℕ) (n : ℕ) (q : answerOf (readingOf s) (length lent)
   past = drop (length (numbers (readingOf s .rows))) lent
 
   stands : (length (readingOf s .rows) ≡ n) × (rowsAfter (readingOf s) lent ≡ numbers (readingOf s .rows) ++ drop (length (numbers (readingOf s .rows))) lent)
-  unfolding answerOf rowsAfter
+  unfolding outcomeAnswer rowsAfter
   stands = stands-by (readingOf s .rows) lent n (readingOf s .verdict) q
 
   enough : 3 * n ≤ length (numbers (readingOf s .rows))

@@ -19,9 +19,9 @@ use Rattle.service_tests.specs.declared.Window.the-variants as window
 use Rattle.stages.specs.Stage.{numberIn, firstOutside}
 
 -- "What each number means"
-abbrev pub testedAnswer : Tested → Answer Totals
-testedAnswer (Passed t) = done t
-testedAnswer (Refused x) = refused (x .number) (x .position)
+abbrev pub totalsAnswer : Tested → Answer Totals
+totalsAnswer (Passed t) = done t
+totalsAnswer (Refused x) = refused (x .number) (x .position)
 
 -- where the first period outside stands
 abbrev pub windowFound : Window → Option ℕ

@@ -22,7 +22,7 @@ ghost use Rattle.joining.specs.Joined.{inWindow};
 ghost use Rattle.answers.specs.Answers.{refused};
 ghost use Rattle.services.specs.Services.{periodsFrom, servicesOf};
 ghost use Rattle.stages.specs.Stage.{numberIn, outsideBy, firstOutside};
-ghost use Rattle.service_tests.specs.Tests.{windowFound, testedAnswer, unknownBy, adds, drops, testKnown, testOne, testAll, noTotals};
+ghost use Rattle.service_tests.specs.Tests.{windowFound, totalsAnswer, unknownBy, adds, drops, testKnown, testOne, testAll, noTotals};
 ghost use Rattle.service_entries.specs.Room.{lookAt};
 
 /// What the services of an interchange come to.
@@ -93,7 +93,7 @@ pub fn test_window(first: usize, s: &[u8], rows: &[u32], from: usize, to: usize)
 
 // What a refusal is.
 fn refuse(number: u8, position: usize) -> Tested
-    ensures { λ r. ⌜ testedAnswer r ≡ refused number position ⌝ }
+    ensures { λ r. ⌜ totalsAnswer r ≡ refused number position ⌝ }
 {
     Tested::Refused(Refusal { number, position })
 }
@@ -136,7 +136,7 @@ fn is_unknown(removal: bool, held: Known) -> bool
 // Tests a service for 14, and counts it.
 fn test_known(room: &[u8], s: &[u8], service: Service, totals: Totals) -> Tested
     requires { ⌜ (totals .services < 18446744073709551615) × (totals .added < 18446744073709551615) × (totals .dropped < 18446744073709551615) ⌝ }
-    ensures { λ r. ⌜ testedAnswer r ≡ testKnown (service .removal) (service .prd) (lookAt (now (room .entry)) (numberIn (now (s .entry)) service)) totals ⌝ }
+    ensures { λ r. ⌜ totalsAnswer r ≡ testKnown (service .removal) (service .prd) (lookAt (now (room .entry)) (numberIn (now (s .entry)) service)) totals ⌝ }
 {
     let number = service.number;
     let known = held(room, s, number);
@@ -160,7 +160,7 @@ fn test_one(
     totals: Totals,
 ) -> Tested
     requires { ⌜ (totals .services < 18446744073709551615) × (totals .added < 18446744073709551615) × (totals .dropped < 18446744073709551615) ⌝ }
-    ensures { λ r. ⌜ testedAnswer r ≡ testOne first (now (s .entry)) (now (rows .entry)) (lookAt (now (room .entry))) service totals ⌝ }
+    ensures { λ r. ⌜ totalsAnswer r ≡ testOne first (now (s .entry)) (now (rows .entry)) (lookAt (now (room .entry))) service totals ⌝ }
 {
     match test_service(s, rows, service) {
         services::Tested::Good => match test_window(first, s, rows, service.from, service.to) {
@@ -173,7 +173,7 @@ fn test_one(
 
 /// Tests the services of n rows in order, all against the room as it stands.
 pub fn test_all(room: &[u8], first: usize, s: &[u8], rows: &[u32], n: usize) -> Tested
-    ensures { λ r. ⌜ testedAnswer r ≡ testAll first (now (s .entry)) (now (rows .entry)) (lookAt (now (room .entry))) (servicesOf (now (s .entry)) (now (rows .entry)) n) noTotals ⌝ }
+    ensures { λ r. ⌜ totalsAnswer r ≡ testAll first (now (s .entry)) (now (rows .entry)) (lookAt (now (room .entry))) (servicesOf (now (s .entry)) (now (rows .entry)) n) noTotals ⌝ }
 {
     let mut i = 0;
     let mut totals = Totals {

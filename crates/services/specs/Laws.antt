@@ -25,12 +25,12 @@ use Rattle.services.specs.declared.Counted.{Counted}
 use Rattle.services.specs.declared.Counted.the-variants as counted
 use Rattle.services.specs.Rows.{isRow, rowCount, firstFrom, first-bounds, some-none}
 use Rattle.services.specs.Marks.{body-end}
-use Rattle.services.specs.Services.{isService, segmentOf, serviceEnd, numberOf, numberFits, periodsFit, hasPeriod, periodsOf, isWrong, isSame, isTwice, testedOf, testedAnswer, countedAnswer}
+use Rattle.services.specs.Services.{isService, segmentOf, serviceEnd, serviceNumber, numberFits, periodsFit, hasPeriod, periodsOf, isWrong, isSameService, isTwice, testedOf, testedAnswer, countedAnswer}
 use Rattle.services.specs.Ways.{segment-bytes, has-none}
 
 -- the bytes of a number are the first component of the first occurrence of the PRD's first element
-pub number-part : (s : List ℕ) (at : ℕ) → bytesOf s (numberOf s at) ≡ partOf (bodyAt s at) 1 1 1
-unfolding numberOf
+pub number-part : (s : List ℕ) (at : ℕ) → bytesOf s (serviceNumber s at) ≡ partOf (bodyAt s at) 1 1 1
+unfolding serviceNumber
 number-part s at =
     part-bytes s (segmentOf s at) 1 1 1 ∙ ap (λ (y : List ℕ). partOf y 1 1 1) (segment-bytes s at (at + length (bodyAt s at)) (body-end s at))
 
@@ -55,7 +55,7 @@ pub record Fine (s rows : List ℕ) (v : Service) : Type 0 where
   pub removal : v .removal ≡ true → periodsOf rows v ≡ []
   pub put : v .removal ≡ false → hasPeriod rows (v .from) (v .to) ≡ true
   -- no service before it has its number
-  pub alone : (j : ℕ) → j < rowCount rows (v .from) → isSame s rows (bytesOf s (v .number)) j ≡ false
+  pub alone : (j : ℕ) → j < rowCount rows (v .from) → isSameService s rows (bytesOf s (v .number)) j ≡ false
 
 module _ (s rows : List ℕ) (v : Service) where
   abbrev size : ℕ
@@ -74,7 +74,7 @@ module _ (s rows : List ℕ) (v : Service) where
         few = leb-true size 10 (n .1);
         removal = λ r. has-none rows (v .from) (v .to) (not-true carries (rw r at (w .1)));
         put = λ r. rw r at (w .1);
-        alone = λ j h. some-none (isSame s rows (bytesOf s (v .number))) 0 (rowCount rows (v .from)) q j (omega arith) h;
+        alone = λ j h. some-none (isSameService s rows (bytesOf s (v .number))) 0 (rowCount rows (v .from)) q j (omega arith) h;
       }
 
   pub good-fine : testedOf s rows v ≡ done tt → Fine s rows v

@@ -12,11 +12,11 @@ use lib.ListN.{length, getD, take, drop, List·getD-eq-default}
 use lib.Seq.{drop-drop, getD-drop}
 use Rattle.laws.specs.Choice.{pick, either, either-parts, either-true, choose}
 use Rattle.laws.specs.Lists.{between, drop-here, drop-past}
-use Rattle.syntax.specs.Pieces.{first}
+use Rattle.syntax.specs.Pieces.{firstPiece}
 use Rattle.syntax.specs.Segment.{bodyAt}
 use Rattle.parts.specs.declared.Part.{Part}
 use Rattle.parts.specs.Places.{absent, spanOf, elementAt, countedAt, occurrenceAt, componentAt, partAt}
-use Rattle.parts.specs.Cuts.{endOf, span-step, span-stop, span-last}
+use Rattle.parts.specs.Cuts.{cutEnd, span-step, span-stop, span-last}
 
 either-false : (a : Bool) → either a false ≡ a
 either-false true = refl
@@ -103,14 +103,14 @@ module _ (f : ℕ → Bool) (s : List ℕ) (i : ℕ) where
     stop-goes q = rw (drop-here s i h, q) (omega arith)
 
 -- a piece is what stands before one mark, and a piece of that what stands before either
-pub first-by : (c : ℕ) (r : Bool) (l : List ℕ) → first c r l ≡ firstBy (λ b. eqb b c) r l
-unfolding first firstBy
+pub first-by : (c : ℕ) (r : Bool) (l : List ℕ) → firstPiece c r l ≡ firstBy (λ b. eqb b c) r l
+unfolding firstPiece firstBy
 first-by c r [] = refl
 first-by c true (b ∷ l) = ap (λ (x : List ℕ). b ∷ x) (first-by c false l)
 first-by c false (b ∷ l) = choose (eqb b c) (λ q. rw q) (λ q. rw q (ap (λ (x : List ℕ). b ∷ x) (first-by c (eqb b 63) l)))
 
-pub first-first : (c : ℕ) (f : ℕ → Bool) (r : Bool) (l : List ℕ) → first c r (firstBy f r l) ≡ firstBy (alsoMark c f) r l
-unfolding first firstBy
+pub first-first : (c : ℕ) (f : ℕ → Bool) (r : Bool) (l : List ℕ) → firstPiece c r (firstBy f r l) ≡ firstBy (alsoMark c f) r l
+unfolding firstPiece firstBy
 first-first c f r [] = refl
 first-first c f true (b ∷ l) = ap (λ (x : List ℕ). b ∷ x) (first-first c f false l)
 first-first c f false (b ∷ l) =
@@ -130,7 +130,7 @@ by-between f s a =
     rw e (by-take f false (drop a s))
 
 -- so where a piece of it ends
-pub stop-end : (c : ℕ) (f : ℕ → Bool) (s : List ℕ) (a b : ℕ) → b ≡ stopOf f s a → endOf s a b c ≡ stopOf (alsoMark c f) s a
+pub stop-end : (c : ℕ) (f : ℕ → Bool) (s : List ℕ) (a b : ℕ) → b ≡ stopOf f s a → cutEnd s a b c ≡ stopOf (alsoMark c f) s a
 stop-end c f s a b q = rw (q, by-between f s a, first-first c f false (drop a s))
 
 -- the first `+` of a segment, or its end: where it is a `+` the segment goes on behind it, else it ends there
@@ -205,7 +205,7 @@ first-component s a =
     ∙ sym (span-last s a (stopOf (alsoMark 42 endsElement) s a) 58 refl 0 (stopOf endsComponent s a) (sym (stop-end 58 (alsoMark 42 endsElement) s a (stopOf (alsoMark 42 endsElement) s a) refl)) (omega arith))
 
 no-component : (s : List ℕ) → componentAt s (occurrenceAt s absent 1) 1 ≡ absent
-unfolding countedAt spanOf first
+unfolding countedAt spanOf firstPiece
 no-component s = refl
 
 -- where a segment ends

@@ -24,13 +24,13 @@ abbrev pub rowCount : List ℕ → ℕ → ℕ
 rowCount rows n = min n (length rows / 3)
 
 -- the first of k numbers from i on of which a test holds; where it holds of none, the number past them
-unfoldable pub firstOf : (ℕ → Bool) → ℕ → ℕ → ℕ
-firstOf f zero i = i
-firstOf f (suc k) i = pick (f i) i (firstOf f k (i + 1))
+unfoldable pub firstIn : (ℕ → Bool) → ℕ → ℕ → ℕ
+firstIn f zero i = i
+firstIn f (suc k) i = pick (f i) i (firstIn f k (i + 1))
 
 -- the first number from i on and below n of which a test holds; where it holds of none, n, or i where i is not below n
 abbrev pub firstFrom : (ℕ → Bool) → ℕ → ℕ → ℕ
-firstFrom f i n = firstOf f (n - i) i
+firstFrom f i n = firstIn f (n - i) i
 
 -- whether it holds of any
 abbrev pub someFrom : (ℕ → Bool) → ℕ → ℕ → Bool
@@ -75,41 +75,41 @@ module _ (rows : List ℕ) (group tag i : ℕ) where
 -- the steps of a search
 module _ (f : ℕ → Bool) (i n : ℕ) where
   pub first-past : n ≤ i → firstFrom f i n ≡ i
-  unfolding firstOf
+  unfolding firstIn
   first-past h =
       let e : n - i ≡ 0 = omega arith in
       rw e
 
   module _ (h : i < n) where
     pub first-here : f i ≡ true → firstFrom f i n ≡ i
-    unfolding firstOf
+    unfolding firstIn
     first-here q =
         let e : n - i ≡ suc (n - (i + 1)) = omega arith in
         rw (e, q)
 
     pub first-on : f i ≡ false → firstFrom f i n ≡ firstFrom f (i + 1) n
-    unfolding firstOf
+    unfolding firstIn
     first-on q =
         let e : n - i ≡ suc (n - (i + 1)) = omega arith in
         rw (e, q)
 
 -- a search ends at or behind its start, and at or before its end
-pub first-bounds : (f : ℕ → Bool) (k i : ℕ) → (i ≤ firstOf f k i) × (firstOf f k i ≤ i + k)
-unfolding firstOf
+pub first-bounds : (f : ℕ → Bool) (k i : ℕ) → (i ≤ firstIn f k i) × (firstIn f k i ≤ i + k)
+unfolding firstIn
 first-bounds f zero i = (omega arith, omega arith)
 first-bounds f (suc k) i =
     let w = first-bounds f k (i + 1) in
     choose (f i) (λ q. rw q (omega arith, omega arith)) (λ q. rw q (omega arith, omega arith))
 
 -- the test holds where a search ends before its end, and of nothing before that
-first-holds : (f : ℕ → Bool) (k i : ℕ) → firstOf f k i < i + k → f (firstOf f k i) ≡ true
-unfolding firstOf
+first-holds : (f : ℕ → Bool) (k i : ℕ) → firstIn f k i < i + k → f (firstIn f k i) ≡ true
+unfolding firstIn
 first-holds f zero i h = absurd (omega arith)
 first-holds f (suc k) i h =
     choose (f i) (λ q. rw q q) (λ q. let x = rw q at h in rw q (first-holds f k (i + 1) (omega arith)))
 
-first-skips : (f : ℕ → Bool) (k i j : ℕ) → i ≤ j → j < firstOf f k i → f j ≡ false
-unfolding firstOf
+first-skips : (f : ℕ → Bool) (k i j : ℕ) → i ≤ j → j < firstIn f k i → f j ≡ false
+unfolding firstIn
 first-skips f zero i j a h = absurd (omega arith)
 first-skips f (suc k) i j a h =
     choose (f i) (λ q. let x = rw q at h in absurd (omega arith))
@@ -136,15 +136,15 @@ module _ (f : ℕ → Bool) (i n : ℕ) where
 
 -- a list begins with what a search finds
 module _ {A : Type 0} (f : ℕ → Bool) (g : ℕ → A) where
-  of-none : (k i : ℕ) → i + k ≤ firstOf f k i → listOf f g k i ≡ []
-  unfolding firstOf listOf
+  of-none : (k i : ℕ) → i + k ≤ firstIn f k i → listOf f g k i ≡ []
+  unfolding firstIn listOf
   of-none zero i h = refl
   of-none (suc k) i h =
       choose (f i) (λ q. let x = rw q at h in absurd (omega arith))
       (λ q. let x = rw q at h in rw q (of-none k (i + 1) (omega arith)))
 
-  of-some : (k i n : ℕ) → firstOf f k i < i + k → i + k ≡ n → listOf f g k i ≡ g (firstOf f k i) ∷ listOf f g (n - (firstOf f k i + 1)) (firstOf f k i + 1)
-  unfolding firstOf listOf
+  of-some : (k i n : ℕ) → firstIn f k i < i + k → i + k ≡ n → listOf f g k i ≡ g (firstIn f k i) ∷ listOf f g (n - (firstIn f k i + 1)) (firstIn f k i + 1)
+  unfolding firstIn listOf
   of-some zero i n h z = absurd (omega arith)
   of-some (suc k) i n h z =
       choose (f i)

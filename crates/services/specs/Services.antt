@@ -31,8 +31,8 @@ abbrev pub isService : List ℕ → ℕ → Bool
 isService rows = isRow rows 2 PRD
 
 -- "POP in group 4 of SKDUPD": no POP of a TSDUPD stands in group 4
-abbrev pub isPeriod : List ℕ → ℕ → Bool
-isPeriod rows = isRow rows 4 POP
+abbrev pub isPeriodRow : List ℕ → ℕ → Bool
+isPeriodRow rows = isRow rows 4 POP
 
 -- the segment that starts at an offset, up to its terminator
 abbrev pub segmentOf : List ℕ → ℕ → Part
@@ -40,8 +40,8 @@ segmentOf s at = record { from = at; to = at + length (bodyAt s at) }
 
 -- "The number .. and 1225-1 stand where the PRD and MSD tables of 000 place them": in the first occurrence of the first
 -- element, the number as first component of the PRD, 1225-1 as second of the MSD
-unfoldable pub numberOf : List ℕ → ℕ → Part
-numberOf s at = partAt s (segmentOf s at) 1 1 1
+unfoldable pub serviceNumber : List ℕ → ℕ → Part
+serviceNumber s at = partAt s (segmentOf s at) 1 1 1
 
 unfoldable pub saysRemoval : List ℕ → ℕ → Bool
 saysRemoval s at = sameText (plain (partOf (bodyAt s at) 1 1 2)) (53 ∷ 54 ∷ [])
@@ -62,36 +62,36 @@ unfoldable pub serviceAt : List ℕ → List ℕ → ℕ → ℕ → Service
 serviceAt s rows n k =
     record {
       prd = offsetAt rows k;
-      number = numberOf s (offsetAt rows k);
+      number = serviceNumber s (offsetAt rows k);
       removal = removes s rows (k + 1) (serviceEnd rows n k);
       from = k;
       to = serviceEnd rows n k;
     }
 
 -- the first service from row i on, of n rows
-abbrev pub foundAt : List ℕ → List ℕ → ℕ → ℕ → Found
-foundAt s rows n k = pick (ltb k n) (found.At (serviceAt s rows n k)) found.NoMore
+abbrev pub serviceFound : List ℕ → List ℕ → ℕ → ℕ → Found
+serviceFound s rows n k = pick (ltb k n) (found.At (serviceAt s rows n k)) found.NoMore
 
 unfoldable pub nextService : List ℕ → List ℕ → ℕ → ℕ → Found
-nextService s rows n i = foundAt s rows (rowCount rows n) (firstFrom (isService rows) i (rowCount rows n))
+nextService s rows n i = serviceFound s rows (rowCount rows n) (firstFrom (isService rows) i (rowCount rows n))
 
 -- the first period from row i on, before row `to`: its row and its offset
 abbrev pub periodAt : List ℕ → ℕ → ℕ → FoundPeriod
 periodAt rows n k = pick (ltb k n) (period.Pop k (offsetAt rows k)) period.NoMore
 
 unfoldable pub nextPeriod : List ℕ → ℕ → ℕ → FoundPeriod
-nextPeriod rows i to = periodAt rows (rowCount rows to) (firstFrom (isPeriod rows) i (rowCount rows to))
+nextPeriod rows i to = periodAt rows (rowCount rows to) (firstFrom (isPeriodRow rows) i (rowCount rows to))
 
 -- the offsets of the periods from row i on, before row `to`: those of a service are from its first row on
 abbrev pub periodsFrom : List ℕ → ℕ → ℕ → List ℕ
-periodsFrom rows i to = listFrom (isPeriod rows) (offsetAt rows) i (rowCount rows to)
+periodsFrom rows i to = listFrom (isPeriodRow rows) (offsetAt rows) i (rowCount rows to)
 
 abbrev pub periodsOf : List ℕ → Service → List ℕ
 periodsOf rows v = periodsFrom rows (v .from) (v .to)
 
 -- whether there is any
 unfoldable pub hasPeriod : List ℕ → ℕ → ℕ → Bool
-hasPeriod rows from to = someFrom (isPeriod rows) from (rowCount rows to)
+hasPeriod rows from to = someFrom (isPeriodRow rows) from (rowCount rows to)
 
 -- "The number, 1 to 10 characters after release"
 abbrev pub numberFits : ℕ → Bool
@@ -108,15 +108,15 @@ isWrong s rows v =
 
 -- whether the PRD at an offset has a number, both read after release
 unfoldable pub saysNumber : List ℕ → ℕ → List ℕ → Bool
-saysNumber s at number = sameText (plain (bytesOf s (numberOf s at))) (plain number)
+saysNumber s at number = sameText (plain (bytesOf s (serviceNumber s at))) (plain number)
 
 -- whether row k begins a service of a number
-unfoldable pub isSame : List ℕ → List ℕ → List ℕ → ℕ → Bool
-isSame s rows number k = both (isService rows k) (saysNumber s (offsetAt rows k) number)
+unfoldable pub isSameService : List ℕ → List ℕ → List ℕ → ℕ → Bool
+isSameService s rows number k = both (isService rows k) (saysNumber s (offsetAt rows k) number)
 
 -- 12: "service number twice in the interchange": a service before this one has it
 unfoldable pub isTwice : List ℕ → List ℕ → List ℕ → ℕ → Bool
-isTwice s rows number before = someFrom (isSame s rows number) 0 (rowCount rows before)
+isTwice s rows number before = someFrom (isSameService s rows number) 0 (rowCount rows before)
 
 -- "services in order, each 11, 12", at its PRD
 unfoldable pub testedOf : List ℕ → List ℕ → Service → Answer (Unit {0})

@@ -27,7 +27,7 @@ use Rattle.services.specs.declared.FoundPeriod.the-variants as period
 use Rattle.services.specs.Rows.{offsetAt, isRow, rowCount, firstFrom, first-past, first-here, first-bounds, list-none, list-some}
 use Rattle.services.specs.Marks.{endsSegment, endsElement, endsComponent, firstBy, stopOf, by-between, first-by, body-end, part-none, part-past, part-some}
 use Rattle.services.specs.Same.{startOf}
-use Rattle.services.specs.Services.{isService, isPeriod, segmentOf, numberOf, saysNumber, saysRemoval, removes, serviceAt, nextService, nextPeriod, hasPeriod, isWrong, isSame, isTwice, testedOf, servicesFrom, periodsFrom, countOn, countedOf}
+use Rattle.services.specs.Services.{isService, isPeriodRow, segmentOf, serviceNumber, saysNumber, saysRemoval, removes, serviceAt, nextService, nextPeriod, hasPeriod, isWrong, isSameService, isTwice, testedOf, servicesFrom, periodsFrom, countOn, countedOf}
 
 -- the bytes of a segment
 pub segment-bytes : (s : List ℕ) (at to : ℕ) → to ≡ stopOf endsSegment s at → bytesOf s (record { from = at; to = to }) ≡ bodyAt s at
@@ -49,20 +49,20 @@ removal-says s at to p t x a b d e =
 
 -- where a number stands
 module _ (s : List ℕ) (at e : ℕ) (q : e ≡ stopOf endsElement s at) where
-  pub number-none : (getD s e 0 ≡ 43 → ⊥) → absent ≡ numberOf s at
-  unfolding numberOf
+  pub number-none : (getD s e 0 ≡ 43 → ⊥) → absent ≡ serviceNumber s at
+  unfolding serviceNumber
   number-none h = part-none s at e q h
 
-  pub number-past : length s ≤ e → absent ≡ numberOf s at
-  unfolding numberOf
+  pub number-past : length s ≤ e → absent ≡ serviceNumber s at
+  unfolding serviceNumber
   number-past h = part-past s at e q h
 
-  pub number-some : (t : ℕ) → t ≡ stopOf endsComponent s (e + 1) → e < length s → getD s e 0 ≡ 43 → record { from = e + 1; to = t } ≡ numberOf s at
-  unfolding numberOf
+  pub number-some : (t : ℕ) → t ≡ stopOf endsComponent s (e + 1) → e < length s → getD s e 0 ≡ 43 → record { from = e + 1; to = t } ≡ serviceNumber s at
+  unfolding serviceNumber
   number-some t w l h = part-some s at e q t w l h
 
 -- its bytes stand from the first `+` on, up to the next mark
-pub number-bytes : (s : List ℕ) (at : ℕ) → bytesOf s (numberOf s at) ≡ firstBy endsComponent false (drop (startOf s at) s)
+pub number-bytes : (s : List ℕ) (at : ℕ) → bytesOf s (serviceNumber s at) ≡ firstBy endsComponent false (drop (startOf s at) s)
 unfolding startOf firstBy
 number-bytes s at =
     let e = stopOf endsElement s at in
@@ -83,7 +83,7 @@ number-says s at from number x a e =
     e ∙ ap (λ (y : List ℕ). sameText (plain y) (plain number)) (ap (λ (y : ℕ). firstBy endsComponent false (drop y s)) a ∙ sym (number-bytes s at))
 
 -- the first period
-module _ (rows : List ℕ) (i to n k : ℕ) (a : n ≡ rowCount rows to) (b : k ≡ firstFrom (isPeriod rows) i n) where
+module _ (rows : List ℕ) (i to n k : ℕ) (a : n ≡ rowCount rows to) (b : k ≡ firstFrom (isPeriodRow rows) i n) where
   pub period-none : n ≤ k → period.NoMore ≡ nextPeriod rows i to
   unfolding nextPeriod
   period-none h = rw (sym a, sym b, le-ltb k n h)
@@ -108,7 +108,7 @@ module _ (s rows : List ℕ) (from to k : ℕ) (b : k ≡ firstFrom (isRow rows 
 
 -- a service
 pub service-is : (s rows : List ℕ) (n k next to prd : ℕ) (number : Part) (removal : Bool)
-    → next ≡ firstFrom (isService rows) (k + 1) n → to ≡ firstFrom (isRow rows 0 UIT) (k + 1) next → prd ≡ offsetAt rows k → number ≡ numberOf s prd → removal ≡ removes s rows (k + 1) to
+    → next ≡ firstFrom (isService rows) (k + 1) n → to ≡ firstFrom (isRow rows 0 UIT) (k + 1) next → prd ≡ offsetAt rows k → number ≡ serviceNumber s prd → removal ≡ removes s rows (k + 1) to
     → record { prd = prd; number = number; removal = removal; from = k; to = to } ≡ serviceAt s rows n k
 unfolding serviceAt
 service-is s rows n k next to prd number removal a b d e f = rw (f, e, d, b, a)
@@ -143,22 +143,22 @@ module _ (s rows : List ℕ) (v : Service) (n : ℕ) (a : n ≡ length (plain (b
 
 -- 12
 module _ (s rows number : List ℕ) (i : ℕ) where
-  pub same-no : isRow rows 2 PRD i ≡ false → false ≡ isSame s rows number i
-  unfolding isSame
+  pub same-no : isRow rows 2 PRD i ≡ false → false ≡ isSameService s rows number i
+  unfolding isSameService
   same-no q = rw q
 
-  pub same-yes : isRow rows 2 PRD i ≡ true → (o : ℕ) (x : Bool) → o ≡ offsetAt rows i → x ≡ saysNumber s o number → x ≡ isSame s rows number i
-  unfolding isSame
+  pub same-yes : isRow rows 2 PRD i ≡ true → (o : ℕ) (x : Bool) → o ≡ offsetAt rows i → x ≡ saysNumber s o number → x ≡ isSameService s rows number i
+  unfolding isSameService
   same-yes q o x a e = rw q (e ∙ ap (λ (y : ℕ). saysNumber s y number) a)
 
-module _ (s rows number : List ℕ) (before n i : ℕ) (a : n ≡ rowCount rows before) (v : firstFrom (isSame s rows number) i n ≡ firstFrom (isSame s rows number) 0 n) where
-  pub twice-yes : i < n → isSame s rows number i ≡ true → true ≡ isTwice s rows number before
+module _ (s rows number : List ℕ) (before n i : ℕ) (a : n ≡ rowCount rows before) (v : firstFrom (isSameService s rows number) i n ≡ firstFrom (isSameService s rows number) 0 n) where
+  pub twice-yes : i < n → isSameService s rows number i ≡ true → true ≡ isTwice s rows number before
   unfolding isTwice
-  twice-yes h q = rw (sym a, sym v, first-here (isSame s rows number) i n h q, lt-ltb i n h)
+  twice-yes h q = rw (sym a, sym v, first-here (isSameService s rows number) i n h q, lt-ltb i n h)
 
   pub twice-no : n ≤ i → false ≡ isTwice s rows number before
   unfolding isTwice
-  twice-no h = rw (sym a, sym v, first-past (isSame s rows number) i n h, le-ltb i n h)
+  twice-no h = rw (sym a, sym v, first-past (isSameService s rows number) i n h, le-ltb i n h)
 
 -- 11, then 12
 module _ (s rows : List ℕ) (v : Service) where
@@ -229,7 +229,7 @@ module _ (rows : List ℕ) (i to : ℕ) where
   end = rowCount rows to
 
   abbrev pop : ℕ
-  pop = firstFrom (isPeriod rows) i (rowCount rows to)
+  pop = firstFrom (isPeriodRow rows) i (rowCount rows to)
 
   pub period-found : (k o : ℕ) → nextPeriod rows i to ≡ period.Pop k o → NextPeriod rows to i k o
   unfolding nextPeriod
@@ -237,11 +237,11 @@ module _ (rows : List ℕ) (i to : ℕ) where
       choose (ltb pop end)
       (λ l.
       let h = ltb-true pop end l in
-      let w = first-bounds (isPeriod rows) (end - i) i in
+      let w = first-bounds (isPeriodRow rows) (end - i) i in
       let e = pop-is pop (offsetAt rows pop) k o (rw l at q) in
       subst (λ (x : ℕ). NextPeriod rows to i k x) (e .1)
       (subst (λ (x : ℕ). NextPeriod rows to i x (offsetAt rows pop)) (e .0)
-      (record { rest = list-some (isPeriod rows) (offsetAt rows) i end h; further = w .0; inside = h })))
+      (record { rest = list-some (isPeriodRow rows) (offsetAt rows) i end h; further = w .0; inside = h })))
       (λ l. absurd (more≢pop k o (rw l at q)))
 
   pub period-gone : nextPeriod rows i to ≡ period.NoMore → periodsFrom rows i to ≡ []
@@ -249,12 +249,12 @@ module _ (rows : List ℕ) (i to : ℕ) where
   period-gone q =
       choose (ltb pop end)
       (λ l. absurd (more≢pop pop (offsetAt rows pop) (sym (rw l at q))))
-      (λ l. list-none (isPeriod rows) (offsetAt rows) i end (ltb-false pop end l))
+      (λ l. list-none (isPeriodRow rows) (offsetAt rows) i end (ltb-false pop end l))
 
   -- where there is no period the list is empty
   pub has-none : hasPeriod rows i to ≡ false → periodsFrom rows i to ≡ []
   unfolding hasPeriod
-  has-none q = list-none (isPeriod rows) (offsetAt rows) i end (ltb-false pop end q)
+  has-none q = list-none (isPeriodRow rows) (offsetAt rows) i end (ltb-false pop end q)
 
 -- the count goes on
 module _ (s rows : List ℕ) (l : List Service) (count : ℕ) where

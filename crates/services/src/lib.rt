@@ -21,7 +21,7 @@ use parts::bytes_of;
 use syntax::segment::Refusal;
 ghost use mathlib.Core.Path.{_≡_};
 ghost use Prim.Native.Nat.{_<_};
-ghost use Rattle.services.specs.Services.{segmentOf, removes, serviceAt, nextService, nextPeriod, hasPeriod, isWrong, isSame, isTwice, testedOf, countedOf, testedAnswer, countedAnswer};
+ghost use Rattle.services.specs.Services.{segmentOf, removes, serviceAt, nextService, nextPeriod, hasPeriod, isWrong, isSameService, isTwice, testedOf, countedOf, testedAnswer, countedAnswer};
 
 /// A service: a group 2 of a SKDUPD message.
 pub struct Service {
@@ -155,7 +155,7 @@ fn is_wrong(s: &[u8], rows: &[u32], service: Service) -> bool
 
 // Whether a row begins a service of the given number.
 fn is_same(s: &[u8], rows: &[u32], number: &[u8], i: usize) -> bool
-    ensures { λ r. ⌜ r ≡ isSame (now (s .entry)) (now (rows .entry)) (now (number .entry)) i ⌝ }
+    ensures { λ r. ⌜ r ≡ isSameService (now (s .entry)) (now (rows .entry)) (now (number .entry)) i ⌝ }
 {
     if !is_row(rows, i, 2, PRD) {
         return false;

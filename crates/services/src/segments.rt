@@ -12,7 +12,7 @@ ghost use Rattle.syntax.specs.Bytes.{plain};
 ghost use Rattle.values.specs.Values.{sameText, isEmpty};
 ghost use Rattle.services.specs.Marks.{endsComponent, endsBy, firstBy, stopOf};
 ghost use Rattle.services.specs.Same.{startOf, nextIn};
-ghost use Rattle.services.specs.Services.{numberOf, saysNumber, saysRemoval};
+ghost use Rattle.services.specs.Services.{serviceNumber, saysNumber, saysRemoval};
 
 // Whether a byte that is not released ends a segment (kind 0), an element (1) or a component (else).
 fn is_end(b: u8, kind: u8) -> bool
@@ -59,7 +59,7 @@ pub(crate) fn end_of(s: &[u8], from: usize, kind: u8) -> usize
 
 // Where the number of the PRD at an offset stands: behind the first `+`, up to the next mark.
 pub(crate) fn number_at(s: &[u8], at: usize) -> Part
-    ensures { λ r. ⌜ r ≡ numberOf (now (s .entry)) at ⌝ }
+    ensures { λ r. ⌜ r ≡ serviceNumber (now (s .entry)) at ⌝ }
 {
     let e = end_of(s, at, 1);
     if s.len() <= e {

@@ -11,7 +11,7 @@ use Rattle.laws.specs.Text.{bytes}
 use Rattle.laws.specs.Joined as lists
 use Rattle.answers.specs.Answers.{Answer, done, refused}
 use Rattle.syntax.specs.Bytes.{permittedOf, plainOn}
-use Rattle.syntax.specs.Pieces.{first, later, partOf}
+use Rattle.syntax.specs.Pieces.{firstPiece, laterPieces, partOf}
 use Rattle.syntax.specs.Segment.{tagged, componentFits, occurrenceFits, elementFits, withinLimits, wellFormed, scanOf}
 use Rattle.parts.specs.Places.{spanOf, countedAt, elementAt}
 use Rattle.values.specs.Values.{sameText}
@@ -20,7 +20,7 @@ use Rattle.dates.specs.Dates.{date, number, madeOf}
 use Rattle.dates.specs.Text.{twoDigits, digitsAt, dateAt}
 use Rattle.calendar.specs.Days.{withBit, withDay}
 use Rattle.calendar.specs.Written.{goodPeriod, daysSpan}
-use Rattle.period.specs.Period.{spanIn, dayString, rising, formedOf, restGood, periodOf, runsBy}
+use Rattle.period.specs.Period.{spanIn, dayString, risingDays, formedOf, restGood, periodOf, runsBy}
 use Rattle.placing.specs.Table.{entryOf, afterOf, endOf, placesOn}
 use Rattle.placing.specs.Rule.{reachable, firstFit, inGroup, again, laterOnes, choicesFrom, firstOf, stepOf}
 use Rattle.placing.specs.Skdupd.{skdupdTable}
@@ -28,11 +28,11 @@ use Rattle.placing.specs.Tsdupd.{tsdupdTable}
 use Rattle.placing.specs.Tables.{tables, tableIn}
 use Rattle.laws.specs.Decimal.{decimalOn}
 use Rattle.envelope.specs.Envelope.{uibOf, uihOf, trailerOf}
-use Rattle.steps.specs.Step.{opening, between, closing, trailing, placed, inside, stepBy}
+use Rattle.steps.specs.Step.{opening, betweenMessages, closing, trailing, placed, insideMessage, stepBy}
 use Rattle.interchange.specs.Reader.{turnAt, readOn, readingOf, numbers}
-use Rattle.joining.specs.Joined.{marked, windowDays, joined, joinAll}
+use Rattle.joining.specs.Joined.{marked, windowDays, daysJoined, joinAll}
 use Rattle.services.specs.Rows as rows
-use Rattle.services.specs.Services.{numberOf, saysRemoval, removes, serviceAt, hasPeriod, isWrong, saysNumber, isSame, isTwice}
+use Rattle.services.specs.Services.{serviceNumber, saysRemoval, removes, serviceAt, hasPeriod, isWrong, saysNumber, isSameService, isTwice}
 use Rattle.contents.specs.Contents as contents
 use Rattle.contents.specs.Contents.{Contents, good}
 use Rattle.contents.specs.Written.{written}
@@ -72,9 +72,9 @@ good-start = refl
 -- account 1 stages one and releases one; account 2 finds nothing to withdraw, though account 1 has that number, and stages one; account 3
 -- releases none; 9 is no account
 pub in-one-order : replies called (written start) oneOrder ≡ (1, told (done 1)) ∷ (2, told (refused 16 0)) ∷ (1, told (done 1)) ∷ (3, told (done 0)) ∷ (9, told (refused 2 0)) ∷ (2, told (done 1)) ∷ []
-unfolding replies permittedOf plainOn first later partOf tagged componentFits occurrenceFits elementFits withinLimits wellFormed scanOf sameText leapYear monthLength isDate monthDays yearDays dayNumber madeOf twoDigits digitsAt dateAt goodPeriod daysSpan spanIn dayString rising formedOf restGood periodOf runsBy spanOf countedAt elementAt withBit withDay entryOf afterOf endOf placesOn reachable firstFit inGroup again laterOnes choicesFrom firstOf stepOf skdupdTable tsdupdTable tables tableIn decimalOn uibOf uihOf trailerOf opening between closing trailing placed inside stepBy turnAt readOn readingOf numbers marked windowDays joined joinAll rows.offsetAt rows.isRow rows.firstOf rows.listOf numberOf saysRemoval removes serviceAt hasPeriod isWrong saysNumber isSame isTwice contents.comesBefore lookup changed pendingCount released releaseOf withdrawOf viewOf withRecords firstOutside daysOf entry enterKnown enter enterAll stageOf inContents
+unfolding replies permittedOf plainOn firstPiece laterPieces partOf tagged componentFits occurrenceFits elementFits withinLimits wellFormed scanOf sameText leapYear monthLength isDate monthDays yearDays dayNumber madeOf twoDigits digitsAt dateAt goodPeriod daysSpan spanIn dayString risingDays formedOf restGood periodOf runsBy spanOf countedAt elementAt withBit withDay entryOf afterOf endOf placesOn reachable firstFit inGroup again laterOnes choicesFrom firstOf stepOf skdupdTable tsdupdTable tables tableIn decimalOn uibOf uihOf trailerOf opening betweenMessages closing trailing placed insideMessage stepBy turnAt readOn readingOf numbers marked windowDays daysJoined joinAll rows.offsetAt rows.isRow rows.firstIn rows.listOf serviceNumber saysRemoval removes serviceAt hasPeriod isWrong saysNumber isSameService isTwice contents.comesBefore lookup changed pendingCount released releaseOf withdrawOf viewOf withRecords firstOutside daysOf entry enterKnown enter enterAll stageOf inContents
 in-one-order = replies-written start good-start oneOrder
 
 pub in-another-order : replies called (written start) anotherOrder ≡ (9, told (refused 2 0)) ∷ (2, told (refused 16 0)) ∷ (3, told (done 0)) ∷ (2, told (done 1)) ∷ (1, told (done 1)) ∷ (1, told (done 1)) ∷ []
-unfolding replies permittedOf plainOn first later partOf tagged componentFits occurrenceFits elementFits withinLimits wellFormed scanOf sameText leapYear monthLength isDate monthDays yearDays dayNumber madeOf twoDigits digitsAt dateAt goodPeriod daysSpan spanIn dayString rising formedOf restGood periodOf runsBy spanOf countedAt elementAt withBit withDay entryOf afterOf endOf placesOn reachable firstFit inGroup again laterOnes choicesFrom firstOf stepOf skdupdTable tsdupdTable tables tableIn decimalOn uibOf uihOf trailerOf opening between closing trailing placed inside stepBy turnAt readOn readingOf numbers marked windowDays joined joinAll rows.offsetAt rows.isRow rows.firstOf rows.listOf numberOf saysRemoval removes serviceAt hasPeriod isWrong saysNumber isSame isTwice contents.comesBefore lookup changed pendingCount released releaseOf withdrawOf viewOf withRecords firstOutside daysOf entry enterKnown enter enterAll stageOf inContents
+unfolding replies permittedOf plainOn firstPiece laterPieces partOf tagged componentFits occurrenceFits elementFits withinLimits wellFormed scanOf sameText leapYear monthLength isDate monthDays yearDays dayNumber madeOf twoDigits digitsAt dateAt goodPeriod daysSpan spanIn dayString risingDays formedOf restGood periodOf runsBy spanOf countedAt elementAt withBit withDay entryOf afterOf endOf placesOn reachable firstFit inGroup again laterOnes choicesFrom firstOf stepOf skdupdTable tsdupdTable tables tableIn decimalOn uibOf uihOf trailerOf opening betweenMessages closing trailing placed insideMessage stepBy turnAt readOn readingOf numbers marked windowDays daysJoined joinAll rows.offsetAt rows.isRow rows.firstIn rows.listOf serviceNumber saysRemoval removes serviceAt hasPeriod isWrong saysNumber isSameService isTwice contents.comesBefore lookup changed pendingCount released releaseOf withdrawOf viewOf withRecords firstOutside daysOf entry enterKnown enter enterAll stageOf inContents
 in-another-order = replies-written start good-start anotherOrder

@@ -9,13 +9,13 @@ use Rattle.contents.specs.Contents.{Contents}
 use Rattle.contents.specs.Calls.{isAccount, viewOf, withRecords}
 use Rattle.rooms.specs.Views.{view-other, records-swap}
 use Rattle.shuffle.specs.Calls.{Apart}
-use Rattle.shuffle.specs.Register.{Ask, Reply, answerBy, recordsBy, lentBy, outputBy}
+use Rattle.shuffle.specs.Register.{Ask, Reply, askedAnswer, recordsBy, lentBy, outputBy}
 
 -- what the call of an account leaves of the contents, and its reply
 abbrev pub byView : Contents → ℕ × Ask → Contents × Reply
 byView c d = (
   withRecords c (d .0) (recordsBy (d .1) (viewOf c (d .0))),
-  record { answer = answerBy (d .1) (viewOf c (d .0)); output = outputBy (d .1) (viewOf c (d .0)) },
+  record { answer = askedAnswer (d .1) (viewOf c (d .0)); output = outputBy (d .1) (viewOf c (d .0)) },
 )
 
 -- a number that is no account's gets 2, and nothing changes

@@ -23,11 +23,11 @@ pub record Reply : Type 0 where
   pub output : List ℕ
 
 -- each on the account's view
-abbrev pub answerBy : Ask → View → Answer ℕ
-answerBy (stage s) v = stageOf s v .answer
-answerBy release v = releaseOf v .answer
-answerBy (withdraw x) v = withdrawOf x v .answer
-answerBy (show k out) v = showAnswer k out v
+abbrev pub askedAnswer : Ask → View → Answer ℕ
+askedAnswer (stage s) v = stageOf s v .answer
+askedAnswer release v = releaseOf v .answer
+askedAnswer (withdraw x) v = withdrawOf x v .answer
+askedAnswer (show k out) v = showAnswer k out v
 
 abbrev pub recordsBy : Ask → View → List Record
 recordsBy (stage s) v = stageOf s v .records
@@ -51,5 +51,5 @@ outputBy (show k out) v = showBytes k out v
 unfoldable pub called : List ℕ → ℕ × Ask → List ℕ × Reply
 called b c = (
   bytesAfter b (c .0) (recordsBy (c .1)),
-  record { answer = answerOn b (c .0) (answerBy (c .1)); output = outputAfter b (c .0) (lentBy (c .1)) (outputBy (c .1)) },
+  record { answer = answerOn b (c .0) (askedAnswer (c .1)); output = outputAfter b (c .0) (lentBy (c .1)) (outputBy (c .1)) },
 )

@@ -20,7 +20,7 @@ use Rattle.rooms.specs.Views.{roomStart, roomEnd, account-number, view-good, un
 use Rattle.shuffle.specs.Calls.{own, SameForEach, replies, left, Apart, AnyOrder}
 use Rattle.shuffle.specs.Buffer.{onState, onBuffer, buffer-apart, buffer-any-order}
 use Rattle.shuffle.specs.Order.{any-order}
-use Rattle.shuffle.specs.Register.{Ask, Reply, answerBy, recordsBy, lentBy, outputBy, called}
+use Rattle.shuffle.specs.Register.{Ask, Reply, askedAnswer, recordsBy, lentBy, outputBy, called}
 use Rattle.shuffle.specs.Kept.{keeps}
 use Rattle.shuffle.specs.InContents.{inContents, byView, noAccount, in-yes, in-no, in-apart}
 

@@ -26,8 +26,8 @@ isSlot s = both (goodRecord (recordIn s)) (sameText (slotOf (recordIn s)) s)
 
 -- what the two flags ask of the calendars behind them, of which it is told whether they are zero: "a removal only beside a live
 -- calendar; at least one of the two is there"
-unfoldable pub fits : ℕ → ℕ → Bool → Bool → Bool
-fits live pending noLive noPut =
+unfoldable pub flagsFit : ℕ → ℕ → Bool → Bool → Bool
+flagsFit live pending noLive noPut =
     pick (eqb live 0) (both (eqb pending 1) noLive)
     (both (eqb live 1) (either (eqb pending 1) (both (leb pending 2) noPut)))
 
@@ -65,8 +65,8 @@ module _ (l p : ℕ) (c d : List ℕ) (hc : isCalendar c ≡ true) (hd : isCalen
   entries-fit :
       both (goodEntries (pick (eqb l 0) none (some c)) (pick (eqb p 0) nothing (pick (eqb p 1) (put d) removal)))
       (both (pick (eqb l 0) z (eqb l 1)) (pick (eqb p 0) w (either (eqb p 1) (both (eqb p 2) w))))
-      ≡ fits l p z w
-  unfolding goodEntries fits
+      ≡ flagsFit l p z w
+  unfolding goodEntries flagsFit
   entries-fit =
       choose (eqb l 0)
       (λ a.
@@ -145,7 +145,7 @@ module _ (s : List ℕ) (h : length s ≡ 140) where
     unfolding isCalendar
     calendar-at k g = rw (eq-eqb (length (take 64 (drop k s))) 64 (part-length k g)) (bytes-all 64 (drop k s) (bytes-drop k s b))
 
-    pub slot-is : isSlot s ≡ both (isNumber (take 10 s)) (fits (getD s 10 0) (getD s 75 0) (allZero (take 64 (drop 11 s))) (allZero (take 64 (drop 76 s))))
+    pub slot-is : isSlot s ≡ both (isNumber (take 10 s)) (flagsFit (getD s 10 0) (getD s 75 0) (allZero (take 64 (drop 11 s))) (allZero (take 64 (drop 76 s))))
     slot-is =
         let c : List ℕ = take 64 (drop 11 s) in
         let d : List ℕ = take 64 (drop 76 s) in
@@ -157,37 +157,37 @@ module _ (s : List ℕ) (h : length s ≡ 140) where
 -- ---- for the code, way by way
 
 module _ (l p : ℕ) (z w : Bool) where
-  pub fits-put : l ≡ 0 → p ≡ 1 → z ≡ fits l p z w
-  unfolding fits
+  pub fits-put : l ≡ 0 → p ≡ 1 → z ≡ flagsFit l p z w
+  unfolding flagsFit
   fits-put e q = rw (e, q)
 
-  pub fits-none : l ≡ 0 → (p ≡ 1 → ⊥) → false ≡ fits l p z w
-  unfolding fits
+  pub fits-none : l ≡ 0 → (p ≡ 1 → ⊥) → false ≡ flagsFit l p z w
+  unfolding flagsFit
   fits-none e q = rw (e, ne-eqb p 1 q)
 
-  pub fits-no-flag : (l ≡ 0 → ⊥) → (l ≡ 1 → ⊥) → false ≡ fits l p z w
-  unfolding fits
+  pub fits-no-flag : (l ≡ 0 → ⊥) → (l ≡ 1 → ⊥) → false ≡ flagsFit l p z w
+  unfolding flagsFit
   fits-no-flag e q = rw (ne-eqb l 0 e, ne-eqb l 1 q)
 
   module _ (e : l ≡ 1) where
-    pub fits-both : p ≡ 1 → true ≡ fits l p z w
-    unfolding fits
+    pub fits-both : p ≡ 1 → true ≡ flagsFit l p z w
+    unfolding flagsFit
     fits-both q = rw (e, q)
 
     module _ (q : p ≡ 1 → ⊥) where
-      pub fits-no-entry : 2 < p → false ≡ fits l p z w
-      unfolding fits
+      pub fits-no-entry : 2 < p → false ≡ flagsFit l p z w
+      unfolding flagsFit
       fits-no-entry k = rw (e, ne-eqb p 1 q, lt-leb p 2 k)
 
-      pub fits-live : p ≤ 2 → w ≡ fits l p z w
-      unfolding fits
+      pub fits-live : p ≤ 2 → w ≡ flagsFit l p z w
+      unfolding flagsFit
       fits-live k = rw (e, ne-eqb p 1 q, le-leb p 2 k)
 
 module _ (s : List ℕ) (h : length s ≡ 140) (b : Bytes s) (m : Bool) (q : m ≡ isNumber (take 10 s)) where
   pub slot-no-number : m ≡ false → false ≡ isSlot s
   slot-no-number t = sym (slot-is s h b ∙ rw (← q, t))
 
-  pub slot-number-fits : m ≡ true → fits (getD s 10 0) (getD s 75 0) (allZero (take 64 (drop 11 s))) (allZero (take 64 (drop 76 s))) ≡ isSlot s
+  pub slot-number-fits : m ≡ true → flagsFit (getD s 10 0) (getD s 75 0) (allZero (take 64 (drop 11 s))) (allZero (take 64 (drop 76 s))) ≡ isSlot s
   slot-number-fits t = sym (slot-is s h b ∙ rw (← q, t))
 
 -- ---- bytes of another length are no slot

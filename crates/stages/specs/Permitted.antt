@@ -10,7 +10,7 @@ use borrow.Author.Tests.{lt-ltb, eq-eqb}
 use lib.ListN.{length, getD, replicate, length-replicate}
 use Rattle.laws.specs.Choice.{all, choose, both-parts}
 use Rattle.syntax.specs.Bytes.{permittedOf, stands, releases, plainOn}
-use Rattle.syntax.specs.Pieces.{first, later, join, pieces, nth, partOf}
+use Rattle.syntax.specs.Pieces.{firstPiece, laterPieces, joinPiece, pieces, nth, partOf}
 use Rattle.syntax.specs.Segment.{bodyAt, scanOf, segmentAt}
 use Rattle.syntax.specs.declared.segment.Scanned.{Scanned}
 use Rattle.syntax.specs.declared.segment.Scanned.the-variants.{End, NotPermitted, Unended, Malformed}
@@ -21,14 +21,14 @@ use Rattle.steps.specs.declared.state.State.{State}
 use Rattle.steps.specs.declared.state.Row.{Row}
 use Rattle.steps.specs.Step.{Taken, taken, segmentStep}
 use Rattle.steps.specs.State.{openingState}
-use Rattle.interchange.specs.Reader.{isClosed, dialogueOf, referenceOf, turnStep, turnScan, turnAt, afterTurn, readOn, sized, readingOf, numbers}
+use Rattle.interchange.specs.Reader.{isClosed, dialogueOf, headedReference, turnStep, turnScan, turnAt, afterTurn, readOn, wrongSize, readingOf, numbers}
 use Rattle.interchange.specs.Offsets.{turn-on}
 use Rattle.interchange.specs.Turns.{turn-is}
 use Rattle.interchange.specs.Laws.{length-numbers}
 use Rattle.services.specs.Rows.{offsetAt}
 use Rattle.services.specs.Services.{serviceAt}
 use Rattle.services.specs.Laws.{number-part}
-use Rattle.joining.specs.Joined.{joined, joinAll}
+use Rattle.joining.specs.Joined.{daysJoined, joinAll}
 use Rattle.joining.specs.Bytes.{AreBytes, joined-bytes}
 use Rattle.joining.specs.Union.{length-joined}
 use Rattle.contents.specs.Contents.{isCalendar}
@@ -46,23 +46,23 @@ AllPermitted (p ∷ ps) = Permitted p × AllPermitted ps
 more : (b : ℕ) (l : List ℕ) → permittedOf b ≡ true → Permitted l → Permitted (b ∷ l)
 more b l p q = rw p q
 
-first-permitted : (c : ℕ) (r : Bool) (l : List ℕ) → Permitted l → Permitted (first c r l)
-unfolding first
+first-permitted : (c : ℕ) (r : Bool) (l : List ℕ) → Permitted l → Permitted (firstPiece c r l)
+unfolding firstPiece
 first-permitted c r [] q = refl
 first-permitted c r (b ∷ l) q =
     let w = both-parts (permittedOf b) (all permittedOf l) q in
-    choose (stands c r b) (λ p. rw p) (λ p. rw p (more b (first c (releases r b) l) (w .0) (first-permitted c (releases r b) l (w .1))))
+    choose (stands c r b) (λ p. rw p) (λ p. rw p (more b (firstPiece c (releases r b) l) (w .0) (first-permitted c (releases r b) l (w .1))))
 
-joined-permitted : (b : Bool) (p : List ℕ) (ps : List (List ℕ)) → Permitted p → AllPermitted ps → AllPermitted (join b p ps)
+joined-permitted : (b : Bool) (p : List ℕ) (ps : List (List ℕ)) → Permitted p → AllPermitted ps → AllPermitted (joinPiece b p ps)
 joined-permitted true p ps h k = (h, k)
 joined-permitted false p ps h k = k
 
-later-permitted : (c : ℕ) (r : Bool) (l : List ℕ) → Permitted l → AllPermitted (later c r l)
-unfolding later
+later-permitted : (c : ℕ) (r : Bool) (l : List ℕ) → Permitted l → AllPermitted (laterPieces c r l)
+unfolding laterPieces
 later-permitted c r [] q = tt
 later-permitted c r (b ∷ l) q =
     let w = both-parts (permittedOf b) (all permittedOf l) q in
-    joined-permitted (stands c r b) (first c false l) (later c (releases r b) l) (first-permitted c false l (w .1)) (later-permitted c (releases r b) l (w .1))
+    joined-permitted (stands c r b) (firstPiece c false l) (laterPieces c (releases r b) l) (first-permitted c false l (w .1)) (later-permitted c (releases r b) l (w .1))
 
 pieces-permitted : (c : ℕ) (l : List ℕ) → Permitted l → AllPermitted (pieces c l)
 pieces-permitted c l q = (first-permitted c false l q, later-permitted c false l q)
@@ -99,12 +99,12 @@ bytes-all (b ∷ c) h = rw (lt-ltb b 256 (h 0)) (bytes-all c (λ i. h (suc i)))
 join-bytes : (gs : List (List ℕ)) (c : List ℕ) (o : ℕ) → AreBytes c → AreBytes (joinAll c o gs)
 unfolding joinAll
 join-bytes [] c o h = h
-join-bytes (g ∷ gs) c o h = join-bytes gs (joined c o g) o (joined-bytes c o g h)
+join-bytes (g ∷ gs) c o h = join-bytes gs (daysJoined c o g) o (joined-bytes c o g h)
 
 pub join-length : (gs : List (List ℕ)) (c : List ℕ) (o : ℕ) → length (joinAll c o gs) ≡ length c
 unfolding joinAll
 join-length [] c o = refl
-join-length (g ∷ gs) c o = join-length gs (joined c o g) o ∙ length-joined c o g
+join-length (g ∷ gs) c o = join-length gs (daysJoined c o g) o ∙ length-joined c o g
 
 zeros-bytes : (n : ℕ) → AreBytes (replicate n 0)
 zeros-bytes zero i = lit≤ tt
@@ -137,7 +137,7 @@ end-permitted s at e q = choose (all permittedOf (bodyAt s at)) (λ p. p) (λ p.
 module _ (s : List ℕ) where
   module _ (f : ℕ) (ih : (st : State) (at : ℕ) → Read s (readOn f s st at .rows)) (from : State) (at : ℕ) where
     abbrev step : Answer Taken
-    step = segmentStep tables from at (bodyAt s at) (dialogueOf s from) (referenceOf s from)
+    step = segmentStep tables from at (bodyAt s at) (dialogueOf s from) (headedReference s from)
 
     stepped : (e : ℕ) → segmentAt s at ≡ End e → (y : Answer Taken) → step ≡ y → Read s (afterTurn (readOn f s) (turnStep (e + 1) y) .rows)
     stepped e h (done (taken st r)) q =
@@ -167,7 +167,7 @@ module _ (s : List ℕ) where
 
   reading : Read s (readingOf s .rows)
   unfolding readingOf
-  reading = choose (sized s) (λ p. rw p tt) (λ p. rw p (read-on (length s + 1) openingState 0))
+  reading = choose (wrongSize s) (λ p. rw p tt) (λ p. rw p (read-on (length s + 1) openingState 0))
 
 read-at : (s : List ℕ) (rows : List Row) (i : ℕ) → Read s rows → i < length rows → Permitted (bodyAt s (getD (numbers rows) (3 * i) 0))
 unfolding numbers

@@ -20,7 +20,7 @@ use Rattle.interchange.specs.Reader.{Verdict, readingOf, numbers}
 use Rattle.services.specs.declared.Service.{Service}
 use Rattle.services.specs.Services.{periodsOf, isWrong, isTwice, servicesOf}
 use Rattle.contents.specs.Contents.{Pending, nothing, put, removal, Record}
-use Rattle.contents.specs.Calls.{View, Called, refusal, lookup, changed}
+use Rattle.contents.specs.Calls.{View, Called, refusedCall, lookup, changed}
 
 -- "The number, 1 to 10 characters after release"
 abbrev pub numberIn : List ℕ → Service → List ℕ
@@ -96,8 +96,8 @@ enterAll first s rows (v ∷ vs) rs = andThen (enterAll first s rows vs) (enter 
 
 -- "then 15": "more records than the quota at the end", at the interchange's length
 abbrev pub closeBy : List ℕ → ℕ → View → Answer (List Record) → Called
-closeBy s count v (refused n at) = refusal v (refused n at)
-closeBy s count v (done rs) = pick (leb (length rs) (v .quota)) (record { answer = done count; records = rs }) (refusal v (overQuota (length s)))
+closeBy s count v (refused n at) = refusedCall v (refused n at)
+closeBy s count v (done rs) = pick (leb (length rs) (v .quota)) (record { answer = done count; records = rs }) (refusedCall v (overQuota (length s)))
 
 abbrev pub stageServices : List ℕ → List ℕ → List Service → View → Called
 stageServices s rows vs v = closeBy s (length vs) v (enterAll (v .first) s rows vs (v .records))
@@ -105,7 +105,7 @@ stageServices s rows vs v = closeBy s (length vs) v (enterAll (v .first) s rows 
 -- what the reader says first: 3 to 10
 abbrev pub stageBy : List ℕ → List ℕ → ℕ → Verdict → View → Called
 stageBy s rows n (done u) v = stageServices s rows (servicesOf s rows n) v
-stageBy s rows n (refused number at) v = refusal v (refused number at)
+stageBy s rows n (refused number at) v = refusedCall v (refused number at)
 
 unfoldable pub stageOf : List ℕ → View → Called
 stageOf s v = stageBy s (numbers (readingOf s .rows)) (length (readingOf s .rows)) (readingOf s .verdict) v

@@ -17,7 +17,7 @@ use Rattle.interchange.specs.Reader.{Verdict, accepted, readingOf, numbers}
 use Rattle.services.specs.Services.{servicesOf}
 use Rattle.contents.specs.Contents.{Record}
 use Rattle.contents.specs.Written.{roomBytes, written, held, isRegister}
-use Rattle.contents.specs.Calls.{View, Called, refusal, isAccount, viewOf, withRecords, answerOn, bytesAfter}
+use Rattle.contents.specs.Calls.{View, Called, refusedCall, isAccount, viewOf, withRecords, answerOn, bytesAfter}
 use Rattle.rooms.specs.Views.{roomStart, roomEnd, view-good, written-back, lent-is, lent-back}
 use Rattle.service_tests.specs.declared.Totals.{Totals}
 use Rattle.stages.specs.Stage.{stageServices, stageBy, stageOf}
@@ -157,7 +157,7 @@ account-high account h k = rw (le-leb 1 account h, lt-leb account 8 k)
 pub account-some : (account : ℕ) → 1 ≤ account → account ≤ 8 → isAccount account ≡ true
 account-some account h k = rw (le-leb 1 account h, le-leb account 8 k)
 
-stage-refused : (s : List ℕ) (v : View) (m at : ℕ) → readingOf s .verdict ≡ refused m at → stageOf s v ≡ refusal v (refused m at)
+stage-refused : (s : List ℕ) (v : View) (m at : ℕ) → readingOf s .verdict ≡ refused m at → stageOf s v ≡ refusedCall v (refused m at)
 unfolding stageOf
 stage-refused s v m at q = ap (λ (x : Verdict). stageBy s (numbers (readingOf s .rows)) (length (readingOf s .rows)) x v) q
 

@@ -17,7 +17,7 @@ use Rattle.services.specs.declared.Service.{Service}
 use Rattle.services.specs.Rows.{rowCount, listOf}
 use Rattle.services.specs.Services.{isService, serviceAt, periodsOf, servicesOf}
 use Rattle.contents.specs.Contents.{Record, inOrder}
-use Rattle.contents.specs.Calls.{View, Called, refusal, lookup, changed}
+use Rattle.contents.specs.Calls.{View, Called, refusedCall, lookup, changed}
 use Rattle.service_tests.specs.declared.Totals.{Totals}
 use Rattle.stages.specs.Stage.{numberIn, daysOf, removedBy, removed, putOver, entry, closeBy, stageServices}
 use Rattle.rooms.specs.Listed.{countOf}
@@ -133,11 +133,11 @@ module _ (first : ℕ) (s rows : List ℕ) (n : ℕ) (fits : n ≤ length rows /
 
 -- "then 15": what staging the services comes to, by the totals of their tests
 abbrev pub closeTotals : ℕ → List ℕ → List ℕ → List Service → View → Answer Totals → Called
-closeTotals first s rows vs v (refused m at) = refusal v (refused m at)
+closeTotals first s rows vs v (refused m at) = refusedCall v (refused m at)
 closeTotals first s rows vs v (done u) =
     pick (leb (length (v .records) + u .added) (v .quota + u .dropped))
     (record { answer = done (u .services); records = putAll first s rows vs (removeAll s vs (v .records)) })
-    (refusal v (overQuota (length s)))
+    (refusedCall v (overQuota (length s)))
 
 leb-moved : (a b c d x : ℕ) → a + d ≡ b + c → leb (b + c) (x + d) ≡ leb a x
 leb-moved a b c d x e =

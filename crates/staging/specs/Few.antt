@@ -19,7 +19,7 @@ use Rattle.steps.specs.declared.state.State.{State}
 use Rattle.steps.specs.declared.state.Row.{Row}
 use Rattle.steps.specs.State.{openingState}
 use Rattle.steps.specs.Step.{Taken, taken, segmentStep}
-use Rattle.interchange.specs.Reader.{Outcome, Verdict, accepted, isClosed, dialogueOf, referenceOf, turnStep, turnScan, turnAt, afterTurn, readOn, sized, readingOf, numbers, answerBy, answerOf, rowsBy, rowsAfter}
+use Rattle.interchange.specs.Reader.{Outcome, Verdict, accepted, isClosed, dialogueOf, headedReference, turnStep, turnScan, turnAt, afterTurn, readOn, wrongSize, readingOf, numbers, verdictAnswer, outcomeAnswer, rowsBy, rowsAfter}
 use Rattle.interchange.specs.Offsets.{turn-on}
 use Rattle.interchange.specs.Turns.{turn-is}
 use Rattle.interchange.specs.Laws.{length-numbers}
@@ -32,7 +32,7 @@ module _ (s : List ℕ) where
 
   module _ (f : ℕ) (ih : (st : State) (at : ℕ) → at ≤ length s → Few at (readOn f s st at)) (from : State) (at : ℕ) (h : at ≤ length s) where
     abbrev step : Answer Taken
-    step = segmentStep tables from at (bodyAt s at) (dialogueOf s from) (referenceOf s from)
+    step = segmentStep tables from at (bodyAt s at) (dialogueOf s from) (headedReference s from)
 
     stepped : (e : ℕ) → segmentAt s at ≡ End e → (y : Answer Taken) → step ≡ y → Few at (afterTurn (readOn f s) (turnStep (e + 1) y))
     stepped e k (done (taken st r)) q =
@@ -65,7 +65,7 @@ module _ (s : List ℕ) where
   pub few-rows : 3 * length (readingOf s .rows) ≤ 45000
   unfolding readingOf
   few-rows =
-      choose (sized s) (λ p. rw p (omega arith))
+      choose (wrongSize s) (λ p. rw p (omega arith))
       (λ p.
       let k = ltb-false 60000 (length s) (either-parts (eqb (length s) 0) (ltb 60000 (length s)) p .1) in
       let w = few-on (length s + 1) openingState 0 (omega arith) in
@@ -80,11 +80,11 @@ pub record Rows (s : List ℕ) (n : ℕ) (after : List ℕ) : Type 0 where
   pub front : take (3 * n) after ≡ numbers (readingOf s .rows)
 
 module _ (rows : List Row) (lent : List ℕ) (enough : 3 * length rows ≤ length lent) where
-  refused-by : (m at : ℕ) (v : Verdict) → answerBy rows (length lent) v ≡ refused m at → v ≡ refused m at
+  refused-by : (m at : ℕ) (v : Verdict) → verdictAnswer rows (length lent) v ≡ refused m at → v ≡ refused m at
   refused-by m at (done u) q = absurd (done≢refused (rw (le-ltb (length lent) (3 * length rows) enough) at q))
   refused-by m at (refused k to) q = refused-again ℕ (Unit {0}) k to m at q
 
-  rows-by : (n : ℕ) (v : Verdict) → answerBy rows (length lent) v ≡ done n → (v ≡ accepted) × (length rows ≡ n) × (take (3 * n) (rowsBy rows lent v) ≡ numbers rows)
+  rows-by : (n : ℕ) (v : Verdict) → verdictAnswer rows (length lent) v ≡ done n → (v ≡ accepted) × (length rows ≡ n) × (take (3 * n) (rowsBy rows lent v) ≡ numbers rows)
   rows-by n (done u) q =
       let c : length rows ≡ n = done-is (rw (le-ltb (length lent) (3 * length rows) enough) at q) in
       let l = length-numbers rows in
@@ -92,14 +92,14 @@ module _ (rows : List Row) (lent : List ℕ) (enough : 3 * length rows ≤ lengt
   rows-by n (refused k to) q = absurd (refused≢done q)
 
 module _ (s lent : List ℕ) (room : length lent ≡ 45000) where
-  pub read-refused : (m at : ℕ) → answerOf (readingOf s) (length lent) ≡ refused m at → readingOf s .verdict ≡ refused m at
-  unfolding answerOf
+  pub read-refused : (m at : ℕ) → outcomeAnswer (readingOf s) (length lent) ≡ refused m at → readingOf s .verdict ≡ refused m at
+  unfolding outcomeAnswer
   read-refused m at q =
       let k = few-rows s in
       refused-by (readingOf s .rows) lent (omega arith) m at (readingOf s .verdict) q
 
-  pub read-rows : (n : ℕ) → answerOf (readingOf s) (length lent) ≡ done n → Rows s n (rowsAfter (readingOf s) lent)
-  unfolding answerOf rowsAfter
+  pub read-rows : (n : ℕ) → outcomeAnswer (readingOf s) (length lent) ≡ done n → Rows s n (rowsAfter (readingOf s) lent)
+  unfolding outcomeAnswer rowsAfter
   read-rows n q =
       let k = few-rows s in
       let w = rows-by (readingOf s .rows) lent (omega arith) n (readingOf s .verdict) q in

@@ -15,7 +15,7 @@ use Rattle.parts.specs.Places.{bytesOf}
 use Rattle.values.specs.Values.{sameText}
 use Rattle.services.specs.declared.Service.{Service}
 use Rattle.services.specs.Rows.{rowCount, listOf, some-none}
-use Rattle.services.specs.Services.{isService, serviceAt, periodsOf, isWrong, isSame, saysNumber, isTwice}
+use Rattle.services.specs.Services.{isService, serviceAt, periodsOf, isWrong, isSameService, saysNumber, isTwice}
 use Rattle.contents.specs.Contents.{Record, inOrder}
 use Rattle.contents.specs.Calls.{lookup, changed}
 use Rattle.service_tests.specs.declared.Totals.{Totals}
@@ -46,7 +46,7 @@ then-same (refused m at) enters tests ends rs h = refl
 
 -- no service before row i has the number
 abbrev pub Unsaid : List ℕ → List ℕ → List ℕ → ℕ → Type 0
-Unsaid s rows x i = (j : ℕ) → j < i → isSame s rows x j ≡ false
+Unsaid s rows x i = (j : ℕ) → j < i → isSameService s rows x j ≡ false
 
 -- of the numbers that no service before row i has, the records say what they said at the start
 abbrev pub Alike : List ℕ → List ℕ → List Record → ℕ → List Record → Type 0
@@ -59,11 +59,11 @@ servicesIn s rows n k i = listOf (isService rows) (serviceAt s rows n) k i
 module _ (s rows : List ℕ) (n : ℕ) (fits : n ≤ length rows / 3) where
   pub alone : (i : ℕ) → i < n → (number : List ℕ) → isTwice s rows number i ≡ false → Unsaid s rows number i
   unfolding isTwice
-  alone i h number q j a = some-none (isSame s rows number) 0 (rowCount rows i) q j (omega arith) (omega arith)
+  alone i h number q j a = some-none (isSameService s rows number) 0 (rowCount rows i) q j (omega arith) (omega arith)
 
   -- the service of row i does not have a number that no service up to it has
-  pub apart : (i : ℕ) → isService rows i ≡ true → (x : List ℕ) → isSame s rows x i ≡ false → sameText (numberIn s (serviceAt s rows n i)) (plain x) ≡ false
-  unfolding isSame saysNumber serviceAt
+  pub apart : (i : ℕ) → isService rows i ≡ true → (x : List ℕ) → isSameService s rows x i ≡ false → sameText (numberIn s (serviceAt s rows n i)) (plain x) ≡ false
+  unfolding isSameService saysNumber serviceAt
   apart i h x q = rw h at q
 
 module _ (first : ℕ) (s rows : List ℕ) (n : ℕ) (fits : n ≤ length rows / 3) (start : List Record) where

@@ -46,12 +46,12 @@ abbrev pub rowOf : ℕ → List ℕ → ℕ → Row
 rowOf at g group = record { offset = at; group = group; tag = tagNumber g }
 
 -- "An interchange has .. UIB, one or more messages, UIZ, nothing after."
-abbrev pub opened : State → ℕ → List ℕ → Opened → Answer Taken
-opened st at g (Dialogue p) = done (taken (openedState st at p) (rowOf at g 0))
-opened st at g Wrong = wrongEnvelope at
+abbrev pub openedStep : State → ℕ → List ℕ → Opened → Answer Taken
+openedStep st at g (Dialogue p) = done (taken (openedState st at p) (rowOf at g 0))
+openedStep st at g Wrong = wrongEnvelope at
 
 unfoldable pub opening : State → ℕ → List ℕ → Answer Taken
-opening st at g = pick (eqb (tagNumber g) UIB) (opened st at g (uibOf g)) (wrongEnvelope at)
+opening st at g = pick (eqb (tagNumber g) UIB) (openedStep st at g (uibOf g)) (wrongEnvelope at)
 
 -- "A message is UIH to UIT."
 abbrev pub headed : State → ℕ → List ℕ → Headed → Answer Taken
@@ -65,8 +65,8 @@ closing st at g dialogue =
     pick (both (ltb 0 (st .messages)) (uizOf g dialogue (st .messages))) (done (taken (closedState st) (rowOf at g 0))) (wrongEnvelope at)
 
 -- "between messages only UIH and UIZ may stand, else 7"
-unfoldable pub between : State → ℕ → List ℕ → List ℕ → Answer Taken
-between st at g dialogue =
+unfoldable pub betweenMessages : State → ℕ → List ℕ → List ℕ → Answer Taken
+betweenMessages st at g dialogue =
     pick (eqb (tagNumber g) UIH) (headed st at g (uihOf g))
     (pick (eqb (tagNumber g) UIZ) (closing st at g dialogue) (wrongEnvelope at))
 
@@ -86,18 +86,18 @@ placed st at g reference group p =
     (pick (isPeriod (st .message) (tagNumber g) group) (judged st at g p group (periodOf g)) (done (taken (onwardState st p) (rowOf at g group))))
 
 -- in a message a segment is tested for 9 first, so that UIT is tested for 9 before 7 and a further UIH, UIB or UIZ is not read
-abbrev pub settled : Table → State → ℕ → List ℕ → List ℕ → Stepped → Answer Taken
-settled t st at g reference (Placed p) = placed st at g reference (groupOf t p) p
-settled t st at g reference OutOfPlace = outOfPlace at
+abbrev pub settledStep : Table → State → ℕ → List ℕ → List ℕ → Stepped → Answer Taken
+settledStep t st at g reference (Placed p) = placed st at g reference (groupOf t p) p
+settledStep t st at g reference OutOfPlace = outOfPlace at
 
-unfoldable pub inside : Table → State → ℕ → List ℕ → List ℕ → Answer Taken
-inside t st at g reference = settled t st at g reference (stepOf t (st .place) (tagNumber g))
+unfoldable pub insideMessage : Table → State → ℕ → List ℕ → List ℕ → Answer Taken
+insideMessage t st at g reference = settledStep t st at g reference (stepOf t (st .place) (tagNumber g))
 
 -- the step of the segment g at an offset, by the tables of all types; dialogue and reference are the UIB's and the UIH's as written
 unfoldable pub stepBy : Table → Phase → State → ℕ → List ℕ → List ℕ → List ℕ → Answer Taken
 stepBy tables Opening st at g dialogue reference = opening st at g
-stepBy tables Between st at g dialogue reference = between st at g dialogue
-stepBy tables Inside st at g dialogue reference = inside (tableIn tables (st .message)) st at g reference
+stepBy tables Between st at g dialogue reference = betweenMessages st at g dialogue
+stepBy tables Inside st at g dialogue reference = insideMessage (tableIn tables (st .message)) st at g reference
 stepBy tables Closed st at g dialogue reference = wrongEnvelope at
 
 abbrev pub segmentStep : Table → State → ℕ → List ℕ → List ℕ → List ℕ → Answer Taken

@@ -32,7 +32,7 @@ use Rattle.steps.specs.declared.state.Row.{Row}
 use Rattle.steps.specs.declared.state.Step.{Step}
 use Rattle.steps.specs.declared.state.Step.the-variants.{Next, Refused}
 use Rattle.steps.specs.State.{oneMore, openedState, closedState, onwardState, endedState}
-use Rattle.steps.specs.Step.{Taken, taken, stepAnswer, rowOf, opening, headed, closing, between, trailing, judged, placed, inside, stepBy, segmentStep}
+use Rattle.steps.specs.Step.{Taken, taken, stepAnswer, rowOf, opening, headed, closing, betweenMessages, trailing, judged, placed, insideMessage, stepBy, segmentStep}
 
 pub next-is : {s t : State} {r q : Row} → s ≡ t → r ≡ q → done (taken s r) ≡ done (taken t q)
 next-is e f = cc
@@ -63,16 +63,16 @@ module _ (st : State) (at : ℕ) (g : List ℕ) where
     unfolding closing
     closing-wrong e = simp (e, both-false)
 
-    pub between-uih : tagNumber g ≡ UIH → headed st at g (uihOf g) ≡ between st at g dialogue
-    unfolding between
+    pub between-uih : tagNumber g ≡ UIH → headed st at g (uihOf g) ≡ betweenMessages st at g dialogue
+    unfolding betweenMessages
     between-uih h = rw (eq-eqb (tagNumber g) UIH h)
 
-    pub between-uiz : (tagNumber g ≡ UIH → ⊥) → tagNumber g ≡ UIZ → closing st at g dialogue ≡ between st at g dialogue
-    unfolding between
+    pub between-uiz : (tagNumber g ≡ UIH → ⊥) → tagNumber g ≡ UIZ → closing st at g dialogue ≡ betweenMessages st at g dialogue
+    unfolding betweenMessages
     between-uiz h k = rw (ne-eqb (tagNumber g) UIH h, eq-eqb (tagNumber g) UIZ k)
 
-    pub between-other : (tagNumber g ≡ UIH → ⊥) → (tagNumber g ≡ UIZ → ⊥) → wrongEnvelope at ≡ between st at g dialogue
-    unfolding between
+    pub between-other : (tagNumber g ≡ UIH → ⊥) → (tagNumber g ≡ UIZ → ⊥) → wrongEnvelope at ≡ betweenMessages st at g dialogue
+    unfolding betweenMessages
     between-other h k = rw (ne-eqb (tagNumber g) UIH h, ne-eqb (tagNumber g) UIZ k)
 
   module _ (reference : List ℕ) (p : Place) (group : ℕ) where
@@ -97,12 +97,12 @@ module _ (st : State) (at : ℕ) (g : List ℕ) where
     placed-other h e = rw (ne-eqb (tagNumber g) UIT h, e)
 
   module _ (t : Table) (reference : List ℕ) where
-    pub inside-placed : (p : Place) → stepOf t (st .place) (tagNumber g) ≡ Placed p → placed st at g reference (groupOf t p) p ≡ inside t st at g reference
-    unfolding inside
+    pub inside-placed : (p : Place) → stepOf t (st .place) (tagNumber g) ≡ Placed p → placed st at g reference (groupOf t p) p ≡ insideMessage t st at g reference
+    unfolding insideMessage
     inside-placed p e = rw e
 
-    pub inside-out : stepOf t (st .place) (tagNumber g) ≡ OutOfPlace → outOfPlace at ≡ inside t st at g reference
-    unfolding inside
+    pub inside-out : stepOf t (st .place) (tagNumber g) ≡ OutOfPlace → outOfPlace at ≡ insideMessage t st at g reference
+    unfolding insideMessage
     inside-out e = rw e
 
 -- a segment's own bytes are all of its slice

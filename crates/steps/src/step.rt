@@ -28,7 +28,7 @@ ghost use mathlib.Core.Path.{_≡_};
 ghost use Rattle.answers.specs.Answers as answers;
 ghost use Rattle.envelope.specs.Envelope.{uihOf};
 ghost use Rattle.period.specs.Period.{periodOf};
-ghost use Rattle.steps.specs.Step.{stepAnswer, rowOf, opening, headed, closing, between, trailing, judged, placed, inside, segmentStep};
+ghost use Rattle.steps.specs.Step.{stepAnswer, rowOf, opening, headed, closing, betweenMessages, trailing, judged, placed, insideMessage, segmentStep};
 
 fn refused(number: u8, position: usize) -> Step
     ensures { λ r. ⌜ stepAnswer r ≡ answers.refused number position ⌝ }
@@ -88,7 +88,7 @@ fn close_dialogue(st: State, at: usize, segment: &[u8], dialogue: &[u8]) -> Step
 
 // Between messages.
 fn next_message(st: State, at: usize, segment: &[u8], dialogue: &[u8]) -> Step
-    ensures { λ r. ⌜ stepAnswer r ≡ between st at (now (segment .entry)) (now (dialogue .entry)) ⌝ }
+    ensures { λ r. ⌜ stepAnswer r ≡ betweenMessages st at (now (segment .entry)) (now (dialogue .entry)) ⌝ }
 {
     let tag = tag_at(segment, 0);
     if tag == UIH {
@@ -155,7 +155,7 @@ fn take_segment(
 
 // In a message, by its table.
 fn next_segment(st: State, at: usize, segment: &[u8], reference: &[u8], table: &[[u32; 8]]) -> Step
-    ensures { λ r. ⌜ stepAnswer r ≡ inside (now (table .entry)) st at (now (segment .entry)) (now (reference .entry)) ⌝ }
+    ensures { λ r. ⌜ stepAnswer r ≡ insideMessage (now (table .entry)) st at (now (segment .entry)) (now (reference .entry)) ⌝ }
 {
     let place = st.place;
     match place.step(table, tag_at(segment, 0)) {

@@ -16,7 +16,7 @@ use Rattle.laws.specs.Lists.{drop-take}
 use Rattle.syntax.specs.declared.segment.Scanned.{Scanned}
 use Rattle.syntax.specs.declared.segment.Scanned.the-variants.{End, NotPermitted, Unended, Malformed}
 use Rattle.syntax.specs.Bytes.{permittedOf, stands, releases}
-use Rattle.syntax.specs.Pieces.{first, tagOf}
+use Rattle.syntax.specs.Pieces.{firstPiece, tagText}
 use Rattle.syntax.specs.Firsts.{first-take, first-length}
 use Rattle.syntax.specs.Segment.{bodyAt, threeCapitals, tagged, withinLimits, wellFormed, permittedRun, scanOf, segmentAt, tagNumber}
 
@@ -66,7 +66,7 @@ letters (a ∷ b ∷ c ∷ d ∷ l) q = absurd (false≢true q)
 formed-length : (g : List ℕ) → wellFormed g ≡ true → 3 ≤ length g
 unfolding wellFormed tagged
 formed-length g q =
-    let t = letters (tagOf g) (both-parts (tagged g) (withinLimits g) q .0) in
+    let t = letters (tagText g) (both-parts (tagged g) (withinLimits g) q .0) in
     let h = first-length 43 false g in
     omega arith
 
@@ -93,8 +93,8 @@ end-tag s at e q =
     sym (ap tagNumber (first-take 39 false (drop at s)) ∙ number-take (length (bodyAt s at)) (drop at s) l)
 
 -- "what stands before the end decides the answer": a piece that is ended does not change with what follows
-first-decides : (c : ℕ) (r : Bool) (l t : List ℕ) → length (first c r l) < length l → first c r (take (suc (length (first c r l))) l ++ t) ≡ first c r l
-unfolding first
+first-decides : (c : ℕ) (r : Bool) (l t : List ℕ) → length (firstPiece c r l) < length l → firstPiece c r (take (suc (length (firstPiece c r l))) l ++ t) ≡ firstPiece c r l
+unfolding firstPiece
 first-decides c r [] t h = absurd (not-suc-le-zero h)
 first-decides c r (b ∷ l) t h =
     choose (stands c r b) (λ q. rw q)
@@ -126,9 +126,9 @@ end-decides s t at h =
 abbrev found : ℕ → List ℕ → Type 0
 found m g = (permittedRun g ≡ m) × (all permittedOf g ≡ false)
 
-bad-decides : (r : Bool) (l t : List ℕ) → all permittedOf (first 39 r l) ≡ false
-    → found (permittedRun (first 39 r l)) (first 39 r (take (suc (permittedRun (first 39 r l))) l ++ t))
-unfolding first permittedRun
+bad-decides : (r : Bool) (l t : List ℕ) → all permittedOf (firstPiece 39 r l) ≡ false
+    → found (permittedRun (firstPiece 39 r l)) (firstPiece 39 r (take (suc (permittedRun (firstPiece 39 r l))) l ++ t))
+unfolding firstPiece permittedRun
 bad-decides r [] t q = absurd (false≢true (sym q))
 bad-decides r (b ∷ l) t q =
     choose (stands 39 r b) (λ p. absurd (false≢true (sym (rw p at q))))
@@ -182,6 +182,6 @@ bad-stays s t at j q =
     let m = permittedRun (bodyAt s at) in
     let e : j + 1 ≡ at + suc m = omega arith in
     let d = bad-decides false (drop at s) t (w .0) in
-    let b : bodyAt (take (j + 1) s ++ t) at ≡ first 39 false (take (suc m) (drop at s) ++ t) =
-    ap (λ (n : ℕ). first 39 false (drop at (take n s ++ t))) e ∙ ap (first 39 false) (front s t at (suc m) (omega arith)) in
+    let b : bodyAt (take (j + 1) s ++ t) at ≡ firstPiece 39 false (take (suc m) (drop at s) ++ t) =
+    ap (λ (n : ℕ). firstPiece 39 false (drop at (take n s ++ t))) e ∙ ap (firstPiece 39 false) (front s t at (suc m) (omega arith)) in
     rw (b, d .1, d .0) (ap NotPermitted (sym (w .1)))

@@ -12,7 +12,7 @@ use lib.ListN.{length, getD, drop}
 use Rattle.laws.specs.Choice.{pick, both, either, all, choose, either-true}
 use Rattle.laws.specs.Lists.{drop-here, drop-past}
 use Rattle.syntax.specs.Bytes.{componentMark, elementMark, repetitionMark, stands, releases, plainOn, plain, unless, isMark}
-use Rattle.syntax.specs.Pieces.{first, later, join}
+use Rattle.syntax.specs.Pieces.{firstPiece, laterPieces, joinPiece}
 use Rattle.syntax.specs.Firsts.{first-length}
 use Rattle.syntax.specs.Segment.{componentFits, occurrenceFits, elementFits, withinLimits}
 
@@ -41,8 +41,8 @@ marks-length (b ∷ l) =
     let u = unit (isMark b) in
     omega arith
 
-first-marks : (c : ℕ) (r : Bool) (l : List ℕ) → marksIn (first c r l) ≤ marksIn l
-unfolding first marksIn
+first-marks : (c : ℕ) (r : Bool) (l : List ℕ) → marksIn (firstPiece c r l) ≤ marksIn l
+unfolding firstPiece marksIn
 first-marks c r [] = omega arith
 first-marks c r (b ∷ l) =
     choose (stands c r b) (λ q. rw q (omega arith)) (λ q. rw q (let h = first-marks c (releases r b) l in omega arith))
@@ -59,8 +59,8 @@ standing : (c : ℕ) (r : Bool) (b : ℕ) → isMark c ≡ true → stands c r b
 standing c true b m q = absurd (let z : _≡_ {A = ℕ} 0 1 = cc in omega arith)
 standing c false b m q = ap isMark (eqb-true b c q) ∙ m
 
-later-marks : (c : ℕ) (r : Bool) (l : List ℕ) → isMark c ≡ true → length (later c r l) ≤ marksIn l
-unfolding later marksIn
+later-marks : (c : ℕ) (r : Bool) (l : List ℕ) → isMark c ≡ true → length (laterPieces c r l) ≤ marksIn l
+unfolding laterPieces marksIn
 later-marks c r [] m = omega arith
 later-marks c r (b ∷ l) m =
     let h = later-marks c (releases r b) l m in
@@ -70,15 +70,15 @@ later-marks c r (b ∷ l) m =
 
 -- a test that holds of every text with so few marks and characters holds of each later piece
 module _ (f : List ℕ → Bool) (n k : ℕ) (t : (p : List ℕ) → marksIn p ≤ n → length p ≤ k → f p ≡ true) where
-  every : (c : ℕ) (r : Bool) (l : List ℕ) → marksIn l ≤ n → length l ≤ k → all f (later c r l) ≡ true
-  unfolding later marksIn
+  every : (c : ℕ) (r : Bool) (l : List ℕ) → marksIn l ≤ n → length l ≤ k → all f (laterPieces c r l) ≡ true
+  unfolding laterPieces marksIn
   every c r [] h g = refl
   every c r (b ∷ l) h g =
       let w = every c (releases r b) l (omega arith) (omega arith) in
       let x = first-marks c false l in
       let y = first-length c false l in
       choose (stands c r b)
-      (λ q. rw (q, t (first c false l) (omega arith) (omega arith)) w)
+      (λ q. rw (q, t (firstPiece c false l) (omega arith) (omega arith)) w)
       (λ q. rw q w)
 
 component-few : (p : List ℕ) → marksIn p ≤ 31 → length p ≤ 512 → componentFits p ≡ true
@@ -106,8 +106,8 @@ occurrence-few p h g =
     let x = first-marks 58 false p in
     let y = first-length 58 false p in
     rw (
-      le-leb (suc (length (later 58 false p))) 32 (omega arith),
-      component-few (first 58 false p) (omega arith) (omega arith),
+      le-leb (suc (length (laterPieces 58 false p))) 32 (omega arith),
+      component-few (firstPiece 58 false p) (omega arith) (omega arith),
       every componentFits 31 512 component-few 58 false p h g,
     )
 
@@ -118,8 +118,8 @@ element-few p h g =
     let x = first-marks 42 false p in
     let y = first-length 42 false p in
     rw (
-      le-leb (suc (length (later 42 false p))) 99 (omega arith),
-      occurrence-few (first 42 false p) (omega arith) (omega arith),
+      le-leb (suc (length (laterPieces 42 false p))) 99 (omega arith),
+      occurrence-few (firstPiece 42 false p) (omega arith) (omega arith),
       every occurrenceFits 31 512 occurrence-few 42 false p h g,
     )
 
@@ -127,7 +127,7 @@ pub limits-few : (g : List ℕ) → marksIn g ≤ 31 → length g ≤ 512 → wi
 unfolding withinLimits
 limits-few g h k =
     let n = later-marks 43 false g mark-plus in
-    rw (le-leb (length (later 43 false g)) 64 (omega arith), every elementFits 31 512 element-few 43 false g h k)
+    rw (le-leb (length (laterPieces 43 false g)) 64 (omega arith), every elementFits 31 512 element-few 43 false g h k)
 
 -- a mark as the sum of three tests
 pub byte-unit : (p : Bool) → boolByte p ≤ 1

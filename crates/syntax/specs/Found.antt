@@ -13,16 +13,16 @@ use lib.Seq.{drop-drop, getD-drop}
 use Rattle.laws.specs.Choice.{pick, both, all, choose, both-parts, both-true}
 use Rattle.laws.specs.Lists.{drop-here, drop-past}
 use Rattle.syntax.specs.Bytes.{permittedOf}
-use Rattle.syntax.specs.Pieces.{first}
+use Rattle.syntax.specs.Pieces.{firstPiece}
 use Rattle.syntax.specs.Passed.{goes, passRun}
 
 -- the index past the body g that begins at index i, where g is ended in an input of n bytes and all its bytes are permitted; else n
-unfoldable pub endOf : ℕ → ℕ → List ℕ → ℕ
-endOf n i g = pick (both (all permittedOf g) (ltb (i + length g) n)) (i + length g) n
+unfoldable pub foundEnd : ℕ → ℕ → List ℕ → ℕ
+foundEnd n i g = pick (both (all permittedOf g) (ltb (i + length g) n)) (i + length g) n
 
 -- the same for what is left of a segment from an index of the input on
 abbrev pub endFrom : List ℕ → ℕ → ℕ
-endFrom s i = endOf (length s) i (first 39 false (drop i s))
+endFrom s i = foundEnd (length s) i (firstPiece 39 false (drop i s))
 
 -- a byte that is passed over is permitted and stands neither as terminator nor as release
 pub goes-quote : (b : ℕ) → goes b ≡ true → eqb b 39 ≡ false
@@ -43,34 +43,34 @@ unfolding permittedOf
 fine-question = refl
 
 module _ (n i : ℕ) where
-  pub end-byte : (b : ℕ) (g : List ℕ) → permittedOf b ≡ true → endOf n i (b ∷ g) ≡ endOf n (i + 1) g
-  unfolding endOf
+  pub end-byte : (b : ℕ) (g : List ℕ) → permittedOf b ≡ true → foundEnd n i (b ∷ g) ≡ foundEnd n (i + 1) g
+  unfolding foundEnd
   end-byte b g p =
       let e : i + suc (length g) ≡ i + 1 + length g = omega arith in
       rw (p, e)
 
-  end-bad : (b : ℕ) (g : List ℕ) → permittedOf b ≡ false → endOf n i (b ∷ g) ≡ n
-  unfolding endOf
+  end-bad : (b : ℕ) (g : List ℕ) → permittedOf b ≡ false → foundEnd n i (b ∷ g) ≡ n
+  unfolding foundEnd
   end-bad b g p = rw p
 
-  end-none : n ≤ i → endOf n i [] ≡ n
-  unfolding endOf
+  end-none : n ≤ i → foundEnd n i [] ≡ n
+  unfolding foundEnd
   end-none h = simp (add-zero, le-ltb i n h)
 
-  end-here : i < n → endOf n i [] ≡ i
-  unfolding endOf
+  end-here : i < n → foundEnd n i [] ≡ i
+  unfolding foundEnd
   end-here h = simp (add-zero, lt-ltb i n h)
 
-first-goes : (b : ℕ) (l : List ℕ) → goes b ≡ true → first 39 false (b ∷ l) ≡ b ∷ first 39 false l
-unfolding first
+first-goes : (b : ℕ) (l : List ℕ) → goes b ≡ true → firstPiece 39 false (b ∷ l) ≡ b ∷ firstPiece 39 false l
+unfolding firstPiece
 first-goes b l q = rw (goes-quote b q, goes-question b q)
 
 -- a byte, and a run of them, that is passed over
-pub goes-on : (n i b : ℕ) (l : List ℕ) → goes b ≡ true → endOf n i (first 39 false (b ∷ l)) ≡ endOf n (i + 1) (first 39 false l)
+pub goes-on : (n i b : ℕ) (l : List ℕ) → goes b ≡ true → foundEnd n i (firstPiece 39 false (b ∷ l)) ≡ foundEnd n (i + 1) (firstPiece 39 false l)
 goes-on n i b l q =
-    rw (first-goes b l q) (end-byte n i b (first 39 false l) (sym (goes-fine b (goes-quote b q) (goes-question b q)) ∙ q))
+    rw (first-goes b l q) (end-byte n i b (firstPiece 39 false l) (sym (goes-fine b (goes-quote b q) (goes-question b q)) ∙ q))
 
-run : (n : ℕ) (l : List ℕ) (i : ℕ) → endOf n i (first 39 false l) ≡ endOf n (i + passRun l) (first 39 false (drop (passRun l) l))
+run : (n : ℕ) (l : List ℕ) (i : ℕ) → foundEnd n i (firstPiece 39 false l) ≡ foundEnd n (i + passRun l) (firstPiece 39 false (drop (passRun l) l))
 unfolding passRun
 run n [] i = simp add-zero
 run n (b ∷ l) i =
@@ -96,21 +96,21 @@ end-stop s i j h g =
 
 -- the steps at an index of the input
 pub end-past : (s : List ℕ) (j : ℕ) → length s ≤ j → endFrom s j ≡ length s
-unfolding first
+unfolding firstPiece
 end-past s j h = rw (drop-past s j h) (end-none (length s) j h)
 
 module _ (s : List ℕ) (j : ℕ) (h : j < length s) where
   pub end-quote : getD s j 0 ≡ 39 → endFrom s j ≡ j
-  unfolding first
+  unfolding firstPiece
   end-quote e = rw (drop-here s j h, e) (end-here (length s) j h)
 
   pub end-other : goes (getD s j 0) ≡ false → eqb (getD s j 0) 39 ≡ false → eqb (getD s j 0) 63 ≡ false → endFrom s j ≡ length s
-  unfolding first
+  unfolding firstPiece
   end-other g p q =
-      rw (drop-here s j h, p) (end-bad (length s) j (getD s j 0) (first 39 (eqb (getD s j 0) 63) (drop (j + 1) s)) (sym (goes-fine (getD s j 0) p q) ∙ g))
+      rw (drop-here s j h, p) (end-bad (length s) j (getD s j 0) (firstPiece 39 (eqb (getD s j 0) 63) (drop (j + 1) s)) (sym (goes-fine (getD s j 0) p q) ∙ g))
 
   pub end-question : getD s j 0 ≡ 63 → length s ≤ j + 1 → endFrom s j ≡ length s
-  unfolding first
+  unfolding firstPiece
   end-question e g =
       rw (drop-here s j h, e, drop-past s (j + 1) g) (end-byte (length s) j 63 [] fine-question ∙ end-none (length s) (j + 1) g)
 
@@ -119,13 +119,13 @@ module _ (s : List ℕ) (j : ℕ) (h : j < length s) where
     two = drop-here s j h ∙ rw (e, drop-here s (j + 1) g)
 
     pub end-released-bad : permittedOf (getD s (j + 1) 0) ≡ false → endFrom s j ≡ length s
-    unfolding first
+    unfolding firstPiece
     end-released-bad p =
-        rw two (end-byte (length s) j 63 (getD s (j + 1) 0 ∷ first 39 false (drop (j + 1 + 1) s)) fine-question
-        ∙ end-bad (length s) (j + 1) (getD s (j + 1) 0) (first 39 false (drop (j + 1 + 1) s)) p)
+        rw two (end-byte (length s) j 63 (getD s (j + 1) 0 ∷ firstPiece 39 false (drop (j + 1 + 1) s)) fine-question
+        ∙ end-bad (length s) (j + 1) (getD s (j + 1) 0) (firstPiece 39 false (drop (j + 1 + 1) s)) p)
 
     pub end-released : permittedOf (getD s (j + 1) 0) ≡ true → endFrom s j ≡ endFrom s (j + 1 + 1)
-    unfolding first
+    unfolding firstPiece
     end-released p =
-        rw two (end-byte (length s) j 63 (getD s (j + 1) 0 ∷ first 39 false (drop (j + 1 + 1) s)) fine-question
-        ∙ end-byte (length s) (j + 1) (getD s (j + 1) 0) (first 39 false (drop (j + 1 + 1) s)) p)
+        rw two (end-byte (length s) j 63 (getD s (j + 1) 0 ∷ firstPiece 39 false (drop (j + 1 + 1) s)) fine-question
+        ∙ end-byte (length s) (j + 1) (getD s (j + 1) 0) (firstPiece 39 false (drop (j + 1 + 1) s)) p)

@@ -14,7 +14,7 @@ use Rattle.syntax.specs.declared.limits.Counts.{Counts}
 use Rattle.syntax.specs.declared.segment.Scanned.{Scanned}
 use Rattle.syntax.specs.declared.segment.Scanned.the-variants.{End, NotPermitted, Unended, Malformed}
 use Rattle.syntax.specs.Bytes.{permittedOf, plainText, isMark}
-use Rattle.syntax.specs.Pieces.{first, later}
+use Rattle.syntax.specs.Pieces.{firstPiece, laterPieces}
 use Rattle.syntax.specs.Segment.{permittedRun, scanOf}
 use Rattle.syntax.specs.Counts.{textOf, elementOf, occurrenceOf, componentOf, passedOf}
 use Rattle.syntax.specs.Limits.{segmentLeft, left-text, left-released, left-component, left-occurrence, left-element, left-ends, over-elements, over-occurrences, over-components, over-characters}

@@ -8,29 +8,29 @@ use Rattle.laws.specs.Choice.{pick}
 use Rattle.syntax.specs.Bytes.{componentMark, elementMark, repetitionMark, releases, stands}
 
 -- the bytes before the first that stands as c, or all; r says whether the first byte is released
-unfoldable pub first : ℕ → Bool → List ℕ → List ℕ
-first c r [] = []
-first c r (b ∷ l) = pick (stands c r b) [] (b ∷ first c (releases r b) l)
+unfoldable pub firstPiece : ℕ → Bool → List ℕ → List ℕ
+firstPiece c r [] = []
+firstPiece c r (b ∷ l) = pick (stands c r b) [] (b ∷ firstPiece c (releases r b) l)
 
-abbrev pub join : Bool → List ℕ → List (List ℕ) → List (List ℕ)
-join true p ps = p ∷ ps
-join false p ps = ps
+abbrev pub joinPiece : Bool → List ℕ → List (List ℕ) → List (List ℕ)
+joinPiece true p ps = p ∷ ps
+joinPiece false p ps = ps
 
 -- what follows each byte that stands as c, up to the next
-unfoldable pub later : ℕ → Bool → List ℕ → List (List ℕ)
-later c r [] = []
-later c r (b ∷ l) = join (stands c r b) (first c false l) (later c (releases r b) l)
+unfoldable pub laterPieces : ℕ → Bool → List ℕ → List (List ℕ)
+laterPieces c r [] = []
+laterPieces c r (b ∷ l) = joinPiece (stands c r b) (firstPiece c false l) (laterPieces c (releases r b) l)
 
 -- a text cut at each byte that stands as c: one piece more than there are such bytes
 abbrev pub pieces : ℕ → List ℕ → List (List ℕ)
-pieces c l = first c false l ∷ later c false l
+pieces c l = firstPiece c false l ∷ laterPieces c false l
 
 -- "A segment is a tag .., then elements, then the terminator." g is the segment without its terminator.
-abbrev pub tagOf : List ℕ → List ℕ
-tagOf g = first elementMark false g
+abbrev pub tagText : List ℕ → List ℕ
+tagText g = firstPiece elementMark false g
 
 abbrev pub elements : List ℕ → List (List ℕ)
-elements g = later elementMark false g
+elements g = laterPieces elementMark false g
 
 abbrev pub occurrences : List ℕ → List (List ℕ)
 occurrences element = pieces repetitionMark element

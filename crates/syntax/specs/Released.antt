@@ -14,10 +14,10 @@ use Rattle.laws.specs.Choice.{pick, both, choose, both-parts, both-false}
 use Rattle.laws.specs.Lists.{drop-here, drop-past}
 use Rattle.syntax.specs.declared.limits.Counts.{Counts}
 use Rattle.syntax.specs.Bytes.{permittedOf}
-use Rattle.syntax.specs.Pieces.{first}
+use Rattle.syntax.specs.Pieces.{firstPiece}
 use Rattle.syntax.specs.Counts.{textOf}
 use Rattle.syntax.specs.Onward.{onward, more, onward-released, onward-counted}
-use Rattle.syntax.specs.Found.{endOf, endFrom, end-byte, fine-question}
+use Rattle.syntax.specs.Found.{foundEnd, endFrom, end-byte, fine-question}
 
 -- with how many releases of permitted bytes a list begins
 unfoldable pub releaseRun : List ℕ → ℕ
@@ -65,8 +65,8 @@ release-from s i j h e p g = let r = release-on s i h e p in omega arith
 
 -- a run is passed at once: by a scan that counts
 releases : (n : ℕ) (tag : Bool) (l : List ℕ) (i : ℕ) (k : Counts)
-    → onward n tag i k (first 39 false l) ≡ onward n tag (i + 2 * releaseRun l) (more k (releaseRun l)) (first 39 false (drop (2 * releaseRun l) l))
-unfolding releaseRun first
+    → onward n tag i k (firstPiece 39 false l) ≡ onward n tag (i + 2 * releaseRun l) (more k (releaseRun l)) (firstPiece 39 false (drop (2 * releaseRun l) l))
+unfolding releaseRun firstPiece
 releases n tag [] i k = simp add-zero
 releases n tag (b ∷ []) i k = simp add-zero
 releases n tag (b ∷ c ∷ l) i k =
@@ -78,20 +78,20 @@ releases n tag (b ∷ c ∷ l) i k =
     let x : i + 2 * suc r ≡ i + 1 + 1 + 2 * r = omega arith in
     let y : k .characters + suc r ≡ k .characters + 1 + r = omega arith in
     let z : 2 * suc r ≡ suc (suc (2 * r)) = omega arith in
-    rw (q, e, x, y, z) (onward-released n tag i k c (first 39 false l) (w .1) ∙ releases n tag l (i + 1 + 1) (more k 1)))
+    rw (q, e, x, y, z) (onward-released n tag i k c (firstPiece 39 false l) (w .1) ∙ releases n tag l (i + 1 + 1) (more k 1)))
     (λ q. rw q (simp add-zero))
 
 pub scan-releases : (s : List ℕ) (tag : Bool) (i j : ℕ) (k : Counts) → j ≡ i + 2 * releaseRun (drop i s)
-    → onward (length s) tag i k (first 39 false (drop i s)) ≡ onward (length s) tag j (textOf k ((j - i) / 2)) (first 39 false (drop j s))
+    → onward (length s) tag i k (firstPiece 39 false (drop i s)) ≡ onward (length s) tag j (textOf k ((j - i) / 2)) (firstPiece 39 false (drop j s))
 scan-releases s tag i j k h =
     let r = releaseRun (drop i s) in
     let e : (j - i) / 2 ≡ r = omega arith in
     releases (length s) tag (drop i s) i k
-    ∙ rw (drop-drop, e, h) (sym (onward-counted (length s) tag (i + 2 * r) k r (first 39 false (drop (i + 2 * r) s))))
+    ∙ rw (drop-drop, e, h) (sym (onward-counted (length s) tag (i + 2 * r) k r (firstPiece 39 false (drop (i + 2 * r) s))))
 
 -- and by one that looks for the end
-ends : (n : ℕ) (l : List ℕ) (i : ℕ) → endOf n i (first 39 false l) ≡ endOf n (i + 2 * releaseRun l) (first 39 false (drop (2 * releaseRun l) l))
-unfolding releaseRun first
+ends : (n : ℕ) (l : List ℕ) (i : ℕ) → foundEnd n i (firstPiece 39 false l) ≡ foundEnd n (i + 2 * releaseRun l) (firstPiece 39 false (drop (2 * releaseRun l) l))
+unfolding releaseRun firstPiece
 ends n [] i = simp add-zero
 ends n (b ∷ []) i = simp add-zero
 ends n (b ∷ c ∷ l) i =
@@ -102,7 +102,7 @@ ends n (b ∷ c ∷ l) i =
     let r = releaseRun l in
     let x : i + 2 * suc r ≡ i + 1 + 1 + 2 * r = omega arith in
     let z : 2 * suc r ≡ suc (suc (2 * r)) = omega arith in
-    rw (q, e, x, z) (end-byte n i 63 (c ∷ first 39 false l) fine-question ∙ end-byte n (i + 1) c (first 39 false l) (w .1) ∙ ends n l (i + 1 + 1)))
+    rw (q, e, x, z) (end-byte n i 63 (c ∷ firstPiece 39 false l) fine-question ∙ end-byte n (i + 1) c (firstPiece 39 false l) (w .1) ∙ ends n l (i + 1 + 1)))
     (λ q. rw q (simp add-zero))
 
 pub end-releases : (s : List ℕ) (i j : ℕ) → j ≡ i + 2 * releaseRun (drop i s) → endFrom s i ≡ endFrom s j

@@ -16,7 +16,7 @@ use Rattle.syntax.specs.declared.limits.Counts.{Counts}
 use Rattle.syntax.specs.declared.segment.Scanned.{Scanned}
 use Rattle.syntax.specs.declared.segment.Scanned.the-variants.{End, NotPermitted, Unended, Malformed}
 use Rattle.syntax.specs.Bytes.{permittedOf, plainText, plainOn, isMark}
-use Rattle.syntax.specs.Pieces.{first, later, tagOf}
+use Rattle.syntax.specs.Pieces.{firstPiece, laterPieces, tagText}
 use Rattle.syntax.specs.Segment.{capital, threeCapitals, tagged, withinLimits, wellFormed, elementFits, bodyAt, scanOf, segmentAt}
 use Rattle.syntax.specs.Counts.{none, passedOf, textOf, elementOf, occurrenceOf, componentOf, markOf}
 use Rattle.syntax.specs.Limits.{segmentLeft, elementLeft, occurrenceLeft}
@@ -25,13 +25,13 @@ use Rattle.syntax.specs.Tags.{tagAhead, tag-ahead, capital-other}
 use Rattle.syntax.specs.Onward.{onward, more, Text, text-facts, Within, onward-text, onward-counted, onward-end, onward-bad, onward-question, onward-released, onward-released-bad, onward-element, onward-occurrence, onward-component, onward-none, no-text}
 use Rattle.laws.specs.Lists.{drop-here, drop-past}
 
-first-text : (b : ℕ) (l : List ℕ) → Text b → first 39 false (b ∷ l) ≡ b ∷ first 39 false l
-unfolding first
+first-text : (b : ℕ) (l : List ℕ) → Text b → firstPiece 39 false (b ∷ l) ≡ b ∷ firstPiece 39 false l
+unfolding firstPiece
 first-text b l t = rw (t .quote, t .question)
 
 -- a run of plain text is passed at once
 run : (n : ℕ) (tag : Bool) (l : List ℕ) (i : ℕ) (k : Counts)
-    → onward n tag i k (first 39 false l) ≡ onward n tag (i + textRun l) (more k (textRun l)) (first 39 false (drop (textRun l) l))
+    → onward n tag i k (firstPiece 39 false l) ≡ onward n tag (i + textRun l) (more k (textRun l)) (firstPiece 39 false (drop (textRun l) l))
 unfolding textRun
 run n tag [] i k = simp add-zero
 run n tag (b ∷ l) i k =
@@ -40,7 +40,7 @@ run n tag (b ∷ l) i k =
     let t = text-facts b q in
     let e : i + suc (textRun l) ≡ i + 1 + textRun l = omega arith in
     let f : k .characters + suc (textRun l) ≡ k .characters + 1 + textRun l = omega arith in
-    rw (q, first-text b l t, e, f) (onward-text n tag i k b (first 39 false l) t ∙ run n tag l (i + 1) (more k 1)))
+    rw (q, first-text b l t, e, f) (onward-text n tag i k b (firstPiece 39 false l) t ∙ run n tag l (i + 1) (more k 1)))
     (λ q. rw q (simp add-zero))
 
 -- where a run ends there is no plain text
@@ -52,7 +52,7 @@ stop (b ∷ l) h =
 
 -- the tag of a well-tagged segment is within the limits, though it is no element
 letters : (x : List ℕ) → threeCapitals x ≡ true → elementLeft 0 0 0 false x ≡ true
-unfolding elementLeft occurrenceLeft first later plainOn
+unfolding elementLeft occurrenceLeft firstPiece laterPieces plainOn
 letters [] q = absurd (false≢true q)
 letters (a ∷ []) q = absurd (false≢true q)
 letters (a ∷ b ∷ []) q = absurd (false≢true q)
@@ -69,7 +69,7 @@ letters (a ∷ b ∷ c ∷ []) q =
 
 start-limits : (g : List ℕ) → tagged g ≡ true → segmentLeft 0 0 0 0 false g ≡ withinLimits g
 unfolding segmentLeft withinLimits tagged
-start-limits g q = simp (zero-add, letters (tagOf g) q)
+start-limits g q = simp (zero-add, letters (tagText g) q)
 
 start-formed : (tag : Bool) (g : List ℕ) → tagged g ≡ tag → both tag (segmentLeft 0 0 0 0 false g) ≡ wellFormed g
 unfolding wellFormed
@@ -89,10 +89,10 @@ scan-start s at =
 
 -- one run of plain text, up to index j
 pub scan-run : (s : List ℕ) (tag : Bool) (i j : ℕ) (k : Counts) → j ≡ i + textRun (drop i s)
-    → onward (length s) tag i k (first 39 false (drop i s)) ≡ onward (length s) tag j (textOf k (j - i)) (first 39 false (drop j s))
+    → onward (length s) tag i k (firstPiece 39 false (drop i s)) ≡ onward (length s) tag j (textOf k (j - i)) (firstPiece 39 false (drop j s))
 scan-run s tag i j k h =
     let e : j - i ≡ textRun (drop i s) = omega arith in
-    run (length s) tag (drop i s) i k ∙ rw (drop-drop, e, h) (sym (onward-counted (length s) tag (i + textRun (drop i s)) k (textRun (drop i s)) (first 39 false (drop (i + textRun (drop i s)) s))))
+    run (length s) tag (drop i s) i k ∙ rw (drop-drop, e, h) (sym (onward-counted (length s) tag (i + textRun (drop i s)) k (textRun (drop i s)) (firstPiece 39 false (drop (i + textRun (drop i s)) s))))
 
 -- the byte at which it stops is no plain text
 pub scan-stop : (s : List ℕ) (i j : ℕ) → j ≡ i + textRun (drop i s) → j < length s → plainText (getD s j 0) ≡ false
@@ -143,31 +143,31 @@ module _ (k : Counts) (w : Within k) where
 
 module _ (s : List ℕ) (tag : Bool) (j : ℕ) (k : Counts) (h : j < length s) where
   abbrev here : Scanned
-  here = onward (length s) tag j k (first 39 false (drop j s))
+  here = onward (length s) tag j k (firstPiece 39 false (drop j s))
 
   pub scan-end : Within k → getD s j 0 ≡ 39 → here ≡ pick (both tag (not (k .over))) (End j) Malformed
-  unfolding first
+  unfolding firstPiece
   scan-end w e = rw (drop-here s j h, e) (onward-end (length s) tag j k w [] h)
 
   pub scan-bad : plainText (getD s j 0) ≡ false → eqb (getD s j 0) 39 ≡ false → eqb (getD s j 0) 63 ≡ false → isMark (getD s j 0) ≡ false
       → here ≡ NotPermitted j
-  unfolding first
+  unfolding firstPiece
   scan-bad t p q m =
-      rw (drop-here s j h, p) (onward-bad (length s) tag j k (getD s j 0) (first 39 (eqb (getD s j 0) 63) (drop (j + 1) s)) (no-text (getD s j 0) t p q m))
+      rw (drop-here s j h, p) (onward-bad (length s) tag j k (getD s j 0) (firstPiece 39 (eqb (getD s j 0) 63) (drop (j + 1) s)) (no-text (getD s j 0) t p q m))
 
-  plus : Within k → getD s j 0 ≡ 43 → here ≡ onward (length s) tag (j + 1) (markOf k (getD s j 0)) (first 39 false (drop (j + 1) s))
-  unfolding first
-  plus w e = rw (drop-here s j h, e) (onward-element (length s) tag j k w (first 39 false (drop (j + 1) s)))
+  plus : Within k → getD s j 0 ≡ 43 → here ≡ onward (length s) tag (j + 1) (markOf k (getD s j 0)) (firstPiece 39 false (drop (j + 1) s))
+  unfolding firstPiece
+  plus w e = rw (drop-here s j h, e) (onward-element (length s) tag j k w (firstPiece 39 false (drop (j + 1) s)))
 
-  star : Within k → getD s j 0 ≡ 42 → here ≡ onward (length s) tag (j + 1) (markOf k (getD s j 0)) (first 39 false (drop (j + 1) s))
-  unfolding first
-  star w e = rw (drop-here s j h, e) (onward-occurrence (length s) tag j k w (first 39 false (drop (j + 1) s)))
+  star : Within k → getD s j 0 ≡ 42 → here ≡ onward (length s) tag (j + 1) (markOf k (getD s j 0)) (firstPiece 39 false (drop (j + 1) s))
+  unfolding firstPiece
+  star w e = rw (drop-here s j h, e) (onward-occurrence (length s) tag j k w (firstPiece 39 false (drop (j + 1) s)))
 
-  colon : Within k → getD s j 0 ≡ 58 → here ≡ onward (length s) tag (j + 1) (markOf k (getD s j 0)) (first 39 false (drop (j + 1) s))
-  unfolding first
-  colon w e = rw (drop-here s j h, e) (onward-component (length s) tag j k w (first 39 false (drop (j + 1) s)))
+  colon : Within k → getD s j 0 ≡ 58 → here ≡ onward (length s) tag (j + 1) (markOf k (getD s j 0)) (firstPiece 39 false (drop (j + 1) s))
+  unfolding firstPiece
+  colon w e = rw (drop-here s j h, e) (onward-component (length s) tag j k w (firstPiece 39 false (drop (j + 1) s)))
 
-  pub scan-mark : Within k → isMark (getD s j 0) ≡ true → here ≡ onward (length s) tag (j + 1) (markOf k (getD s j 0)) (first 39 false (drop (j + 1) s))
+  pub scan-mark : Within k → isMark (getD s j 0) ≡ true → here ≡ onward (length s) tag (j + 1) (markOf k (getD s j 0)) (firstPiece 39 false (drop (j + 1) s))
   unfolding isMark
   scan-mark w m =
       choose (eqb (getD s j 0) 43) (λ p. plus w (eqb-true (getD s j 0) 43 p))
@@ -175,7 +175,7 @@ module _ (s : List ℕ) (tag : Bool) (j : ℕ) (k : Counts) (h : j < length s) w
 
   -- a `?` at the input's end
   pub scan-question : getD s j 0 ≡ 63 → length s ≤ j + 1 → here ≡ Unended
-  unfolding first
+  unfolding firstPiece
   scan-question e g = rw (drop-here s j h, e, drop-past s (j + 1) g) (onward-question (length s) tag j k g)
 
   module _ (e : getD s j 0 ≡ 63) (g : j + 1 < length s) where
@@ -183,17 +183,17 @@ module _ (s : List ℕ) (tag : Bool) (j : ℕ) (k : Counts) (h : j < length s) w
     two = drop-here s j h ∙ rw (e, drop-here s (j + 1) g)
 
     pub scan-released-bad : permittedOf (getD s (j + 1) 0) ≡ false → here ≡ NotPermitted (j + 1)
-    unfolding first
-    scan-released-bad p = rw two (onward-released-bad (length s) tag j k (getD s (j + 1) 0) (first 39 false (drop (j + 1 + 1) s)) p)
+    unfolding firstPiece
+    scan-released-bad p = rw two (onward-released-bad (length s) tag j k (getD s (j + 1) 0) (firstPiece 39 false (drop (j + 1 + 1) s)) p)
 
     pub scan-released : permittedOf (getD s (j + 1) 0) ≡ true
-        → here ≡ onward (length s) tag (j + 1 + 1) (textOf k 1) (first 39 false (drop (j + 1 + 1) s))
-    unfolding first
+        → here ≡ onward (length s) tag (j + 1 + 1) (textOf k 1) (firstPiece 39 false (drop (j + 1 + 1) s))
+    unfolding firstPiece
     scan-released p =
-        rw two (onward-released (length s) tag j k (getD s (j + 1) 0) (first 39 false (drop (j + 1 + 1) s)) p)
-        ∙ sym (onward-counted (length s) tag (j + 1 + 1) k 1 (first 39 false (drop (j + 1 + 1) s)))
+        rw two (onward-released (length s) tag j k (getD s (j + 1) 0) (firstPiece 39 false (drop (j + 1 + 1) s)) p)
+        ∙ sym (onward-counted (length s) tag (j + 1 + 1) k 1 (firstPiece 39 false (drop (j + 1 + 1) s)))
 
 -- past the input's end
-pub scan-none : (s : List ℕ) (tag : Bool) (j : ℕ) (k : Counts) → length s ≤ j → onward (length s) tag j k (first 39 false (drop j s)) ≡ Unended
-unfolding first
+pub scan-none : (s : List ℕ) (tag : Bool) (j : ℕ) (k : Counts) → length s ≤ j → onward (length s) tag j k (firstPiece 39 false (drop j s)) ≡ Unended
+unfolding firstPiece
 scan-none s tag j k h = rw (drop-past s j h) (onward-none (length s) tag j k h)

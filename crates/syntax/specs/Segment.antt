@@ -11,11 +11,11 @@ use Rattle.syntax.specs.declared.segment.Refusal.{Refusal}
 use Rattle.syntax.specs.declared.segment.Scanned.{Scanned}
 use Rattle.syntax.specs.declared.segment.Scanned.the-variants.{End, NotPermitted, Unended, Malformed}
 use Rattle.syntax.specs.Bytes.{terminator, permittedOf, plain}
-use Rattle.syntax.specs.Pieces.{first, tagOf, elements, occurrences, components}
+use Rattle.syntax.specs.Pieces.{firstPiece, tagText, elements, occurrences, components}
 
 -- the bytes of the segment that starts at an offset: up to the first unreleased terminator, or to the input's end
 abbrev pub bodyAt : List ℕ → ℕ → List ℕ
-bodyAt s at = first terminator false (drop at s)
+bodyAt s at = firstPiece terminator false (drop at s)
 
 abbrev pub capital : ℕ → Bool
 capital b = both (leb 65 b) (leb b 90)
@@ -29,7 +29,7 @@ threeCapitals (a ∷ b ∷ c ∷ []) = both (capital a) (both (capital b) (capit
 threeCapitals (a ∷ b ∷ c ∷ d ∷ l) = false
 
 unfoldable pub tagged : List ℕ → Bool
-tagged g = threeCapitals (tagOf g)
+tagged g = threeCapitals (tagText g)
 
 -- "At most 64 elements, 99 repetitions of one, 32 components in each, 512 characters in a component, release bytes not counted, empty parts counted."
 unfoldable pub componentFits : List ℕ → Bool

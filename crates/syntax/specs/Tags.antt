@@ -11,7 +11,7 @@ use mathlib.Core.Logic.{_⊎_, inl, inr, ⊎-elim}
 use lib.ListN.{length, drop, getD, length-drop}
 use Rattle.laws.specs.Choice.{pick, both, either, both-parts, either-parts, choose, both-false, either-true, both-assoc₃}
 use Rattle.syntax.specs.Bytes.{elementMark, releaseMark, terminator, stands, releases}
-use Rattle.syntax.specs.Pieces.{first, tagOf}
+use Rattle.syntax.specs.Pieces.{firstPiece, tagText}
 use Rattle.syntax.specs.Segment.{capital, threeCapitals, tagged, tagNumber}
 use Rattle.laws.specs.Lists.{drop-here}
 
@@ -29,7 +29,7 @@ tagAhead (a ∷ b ∷ c ∷ d ∷ l) = both (capital a) (both (capital b) (both 
 
 -- the tag of the segment that a text begins with
 abbrev ahead : List ℕ → List ℕ
-ahead l = first elementMark false (first terminator false l)
+ahead l = firstPiece elementMark false (firstPiece terminator false l)
 
 pub capital-other : (b k : ℕ) → k ≤ 64 → capital b ≡ true → eqb b k ≡ false
 capital-other b k h q =
@@ -38,16 +38,16 @@ capital-other b k h q =
 
 -- what begins with a capital letter
 pub ahead-capital : (b : ℕ) (l : List ℕ) → capital b ≡ true → ahead (b ∷ l) ≡ b ∷ ahead l
-unfolding first
+unfolding firstPiece
 ahead-capital b l q =
     rw (capital-other b 39 (omega arith) q, capital-other b 63 (omega arith) q, capital-other b 43 (omega arith) q)
 
 -- a tag ends there, and else goes on with the byte
 begins : (b : ℕ) (l : List ℕ) → ((ahead (b ∷ l) ≡ []) × (tagCloses b ≡ true)) ⊎ ((p : List ℕ) × (ahead (b ∷ l) ≡ b ∷ p) × (tagCloses b ≡ false))
-unfolding first
+unfolding firstPiece
 begins b l =
     choose (eqb b 39) (λ q. inl (rw q, rw q (either-true (eqb b 43))))
-    (λ q. choose (eqb b 43) (λ r. inl (rw (q, r), rw r)) (λ r. inr (first 43 (eqb b 63) (first 39 (eqb b 63) l), rw (q, r), rw (r, q))))
+    (λ q. choose (eqb b 43) (λ r. inl (rw (q, r), rw r)) (λ r. inr (firstPiece 43 (eqb b 63) (firstPiece 39 (eqb b 63) l), rw (q, r), rw (r, q))))
 
 -- a letter that is no capital leaves no tag
 short : (a : ℕ) (p : List ℕ) → capital a ≡ false → threeCapitals (a ∷ p) ≡ false
@@ -93,35 +93,35 @@ dead₂ a b l q = ⊎-elim (λ w. rw (w .0)) (λ w. rw (w .1) (short₂ a b (w .
 dead₃ : (a b c : ℕ) (l : List ℕ) → capital c ≡ false → threeCapitals (a ∷ b ∷ ahead (c ∷ l)) ≡ false
 dead₃ a b c l q = ⊎-elim (λ w. rw (w .0)) (λ w. rw (w .1) (short₃ a b c (w .0) q)) (begins c l)
 
-pub first-capital : (b : ℕ) (l : List ℕ) → capital b ≡ true → first 39 false (b ∷ l) ≡ b ∷ first 39 false l
-unfolding first
+pub first-capital : (b : ℕ) (l : List ℕ) → capital b ≡ true → firstPiece 39 false (b ∷ l) ≡ b ∷ firstPiece 39 false l
+unfolding firstPiece
 first-capital b l q = rw (capital-other b 39 (omega arith) q, capital-other b 63 (omega arith) q)
 
-whole : (a b c : ℕ) → capital a ≡ true → capital b ≡ true → capital c ≡ true → length (first 39 false (a ∷ b ∷ c ∷ [])) < 3 → ⊥
-unfolding first
+whole : (a b c : ℕ) → capital a ≡ true → capital b ≡ true → capital c ≡ true → length (firstPiece 39 false (a ∷ b ∷ c ∷ [])) < 3 → ⊥
+unfolding firstPiece
 whole a b c p q r h =
-    let e : first 39 false (a ∷ b ∷ c ∷ []) ≡ a ∷ b ∷ c ∷ [] =
+    let e : firstPiece 39 false (a ∷ b ∷ c ∷ []) ≡ a ∷ b ∷ c ∷ [] =
     rw (first-capital a (b ∷ c ∷ []) p, first-capital b (c ∷ []) q, first-capital c [] r) in
     let k = ap length e in
     omega arith
 
-third : (a b c : ℕ) (l : List ℕ) → capital a ≡ true → capital b ≡ true → length (first 39 false (a ∷ b ∷ c ∷ l)) < length (a ∷ b ∷ c ∷ l)
+third : (a b c : ℕ) (l : List ℕ) → capital a ≡ true → capital b ≡ true → length (firstPiece 39 false (a ∷ b ∷ c ∷ l)) < length (a ∷ b ∷ c ∷ l)
     → threeCapitals (a ∷ b ∷ ahead (c ∷ l)) ≡ tagAhead (a ∷ b ∷ c ∷ l)
 third a b c l p q h =
     choose (capital c)
     (λ r. rw (ahead-capital c l r) (last a b c l p q r (λ e. whole a b c p q r (rw e at h))))
     (λ r. dead₃ a b c l r ∙ sym (none a b c l (rw (p, q) r)))
 
-second : (a b : ℕ) (l : List ℕ) → capital a ≡ true → length (first 39 false (a ∷ b ∷ l)) < length (a ∷ b ∷ l)
+second : (a b : ℕ) (l : List ℕ) → capital a ≡ true → length (firstPiece 39 false (a ∷ b ∷ l)) < length (a ∷ b ∷ l)
     → threeCapitals (a ∷ ahead (b ∷ l)) ≡ tagAhead (a ∷ b ∷ l)
-unfolding tagAhead first
+unfolding tagAhead firstPiece
 second a b [] p h = choose (capital b) (λ q. rw (ahead-capital b [] q)) (λ q. dead₂ a b [] q)
 second a b (c ∷ l) p h =
     choose (capital b) (λ q. rw (ahead-capital b (c ∷ l) q) (third a b c l p q h))
     (λ q. dead₂ a b (c ∷ l) q ∙ sym (none a b c l (rw (p, q))))
 
-pub tag-ahead : (l : List ℕ) → length (first 39 false l) < length l → tagged (first 39 false l) ≡ tagAhead l
-unfolding tagged tagAhead first
+pub tag-ahead : (l : List ℕ) → length (firstPiece 39 false l) < length l → tagged (firstPiece 39 false l) ≡ tagAhead l
+unfolding tagged tagAhead firstPiece
 tag-ahead [] h = refl
 tag-ahead (a ∷ []) h = choose (capital a) (λ p. rw (ahead-capital a [] p)) (λ p. dead a [] p)
 tag-ahead (a ∷ b ∷ l) h =

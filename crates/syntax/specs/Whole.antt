@@ -15,11 +15,11 @@ use Rattle.syntax.specs.Passed.{goes}
 use Rattle.syntax.specs.declared.segment.Scanned.{Scanned}
 use Rattle.syntax.specs.declared.segment.Scanned.the-variants.{End}
 use Rattle.syntax.specs.Bytes.{permittedOf, isMark}
-use Rattle.syntax.specs.Pieces.{first}
+use Rattle.syntax.specs.Pieces.{firstPiece}
 use Rattle.syntax.specs.Firsts.{first-take, first-length}
 use Rattle.syntax.specs.Segment.{bodyAt, capital, tagged, withinLimits, wellFormed, scanOf, segmentAt}
 use Rattle.syntax.specs.Tags.{tagCloses, tagAhead, tag-ahead, tag-four, tag-few, capital-other, first-capital, three}
-use Rattle.syntax.specs.Found.{endOf, endFrom, goes-on, end-quote}
+use Rattle.syntax.specs.Found.{foundEnd, endFrom, goes-on, end-quote}
 use Rattle.syntax.specs.Few.{marksIn, marks-length, limits-few}
 
 -- a capital letter is passed over
@@ -51,14 +51,14 @@ tag-facts s at q =
 
 -- an end that is found lies past where it is sought
 pub end-past-start : (s : List ℕ) (i : ℕ) → i ≤ length s → i ≤ endFrom s i
-unfolding endOf
+unfolding foundEnd
 end-past-start s i h =
-    choose (both (all permittedOf (first 39 false (drop i s))) (ltb (i + length (first 39 false (drop i s))) (length s)))
+    choose (both (all permittedOf (firstPiece 39 false (drop i s))) (ltb (i + length (firstPiece 39 false (drop i s))) (length s)))
     (λ p. rw p (omega arith)) (λ p. rw p h)
 
 -- and the body stands before it
 body-found : (s : List ℕ) (i : ℕ) → endFrom s i < length s → (all permittedOf (bodyAt s i) ≡ true) × (endFrom s i ≡ i + length (bodyAt s i))
-unfolding endOf
+unfolding foundEnd
 body-found s i h =
     choose (both (all permittedOf (bodyAt s i)) (ltb (i + length (bodyAt s i)) (length s)))
     (λ p. (both-parts (all permittedOf (bodyAt s i)) (ltb (i + length (bodyAt s i)) (length s)) p .0, rw p))
@@ -76,11 +76,11 @@ module _ (s : List ℕ) (at : ℕ) (q : tagAhead (drop at s) ≡ true) where
       let y = getD s (at + 1) 0 in
       let z = getD s (at + 2) 0 in
       let e : at + 1 + 1 + 1 ≡ at + 3 = omega arith in
-      ap (λ (l : List ℕ). endOf n at (first 39 false l)) (three s at (omega arith))
+      ap (λ (l : List ℕ). foundEnd n at (firstPiece 39 false l)) (three s at (omega arith))
       ∙ goes-on n at (getD s at 0) (y ∷ z ∷ drop (at + 3) s) (capital-goes (getD s at 0) (t .a))
       ∙ goes-on n (at + 1) y (z ∷ drop (at + 3) s) (capital-goes y (t .b))
       ∙ goes-on n (at + 1 + 1) z (drop (at + 3) s) (capital-goes z (t .c))
-      ∙ ap (λ (k : ℕ). endOf n k (first 39 false (drop (at + 3) s))) e
+      ∙ ap (λ (k : ℕ). foundEnd n k (firstPiece 39 false (drop (at + 3) s))) e
 
   -- and so is the `+` after it
   pub end-after-plus : (getD s (at + 3) 0 ≡ 39 → ⊥) → endFrom s (at + 4) ≡ endFrom s (at + 3)
@@ -105,9 +105,9 @@ module _ (s : List ℕ) (at : ℕ) (q : tagAhead (drop at s) ≡ true) where
       let x = getD s at 0 in
       let y = getD s (at + 1) 0 in
       let z = getD s (at + 2) 0 in
-      let l = first 39 false (drop (at + 3) s) in
+      let l = firstPiece 39 false (drop (at + 3) s) in
       let e : bodyAt s at ≡ x ∷ y ∷ z ∷ l =
-      ap (first 39 false) (three s at (omega arith))
+      ap (firstPiece 39 false) (three s at (omega arith))
       ∙ rw (first-capital x (y ∷ z ∷ drop (at + 3) s) (t .a), first-capital y (z ∷ drop (at + 3) s) (t .b), first-capital z (drop (at + 3) s) (t .c)) in
       let m = marks-length l in
       rw (e, no-mark x (t .a), no-mark y (t .b), no-mark z (t .c)) (omega arith)

@@ -17,7 +17,7 @@ use Rattle.text.specs.declared.Written.{Written}
 use Rattle.text.specs.declared.Written.the-variants.{Bytes, NoRoom}
 use Rattle.laws.specs.Decimal.{decimalOf}
 use Rattle.laws.specs.Digits.{decimal-length}
-use Rattle.text.specs.Text.{pairText, tailText, rowText, rowAt, rowsText, tableText, heading, refusal, refusalText, writtenAnswer, answerOf}
+use Rattle.text.specs.Text.{pairText, tailText, rowText, rowAt, rowsText, tableText, heading, refusalWord, refusalText, writtenAnswer, printedAnswer}
 
 pub length-pair : (a b : ℕ) (tail : List ℕ) → length (pairText a b tail) ≡ length (decimalOf a) + 1 + length (decimalOf b) + length tail
 length-pair a b tail = simp length-append
@@ -114,22 +114,22 @@ all-put o z t w to at e h q p =
 
 -- a whole text, for which there is room or not
 pub text-written : (text o q : List ℕ) (n : ℕ) → length text ≤ length o → n ≡ length text → q ≡ putAt o 0 text
-    → (done n ≡ answerOf text o) × (q ≡ putAt o 0 text)
-unfolding answerOf
+    → (done n ≡ printedAnswer text o) × (q ≡ putAt o 0 text)
+unfolding printedAnswer
 text-written text o q n h e p = (rw (le-leb _ _ h, e), p)
 
-pub text-refused : (text o : List ℕ) → length o < length text → (outputTooShort ≡ answerOf text o) × (o ≡ putAt o 0 text)
-unfolding answerOf
+pub text-refused : (text o : List ℕ) → length o < length text → (outputTooShort ≡ printedAnswer text o) × (o ≡ putAt o 0 text)
+unfolding printedAnswer
 text-refused text o h = (rw (lt-leb _ _ h), sym (put-no-room o 0 text (omega arith)))
 
 module _ (n : ℕ) (l o : List ℕ) where
   table-length : length (tableText n l) ≡ 17 + length (rowsText n l)
   table-length = length-append heading (rowsText n l)
 
-  pub table-short : length o < 17 → (outputTooShort ≡ answerOf (tableText n l) o) × (o ≡ putAt o 0 (tableText n l))
+  pub table-short : length o < 17 → (outputTooShort ≡ printedAnswer (tableText n l) o) × (o ≡ putAt o 0 (tableText n l))
   table-short h = let e = table-length in text-refused (tableText n l) o (omega arith)
 
-  pub table-refused : 17 ≤ length o → leb (length (rowsText n l)) (length o - 17) ≡ false → (outputTooShort ≡ answerOf (tableText n l) o) × (o ≡ putAt o 0 (tableText n l))
+  pub table-refused : 17 ≤ length o → leb (length (rowsText n l)) (length o - 17) ≡ false → (outputTooShort ≡ printedAnswer (tableText n l) o) × (o ≡ putAt o 0 (tableText n l))
   table-refused h q =
       let e = table-length in
       let k = leb-false (length (rowsText n l)) (length o - 17) q in
@@ -144,7 +144,7 @@ module _ (n : ℕ) (l o : List ℕ) where
 
   pub table-written : (p q : List ℕ) (m : ℕ) → 17 ≤ length o → leb (length (rowsText n l)) (length o - 17) ≡ true
       → p ≡ putAt o 0 heading → m ≡ 17 + length (rowsText n l) → q ≡ putAt p 17 (rowsText n l)
-      → (done m ≡ answerOf (tableText n l) o) × (q ≡ putAt o 0 (tableText n l))
+      → (done m ≡ printedAnswer (tableText n l) o) × (q ≡ putAt o 0 (tableText n l))
   table-written p q m h t ep em eq =
       let e = table-length in
       let k = leb-true (length (rowsText n l)) (length o - 17) t in
@@ -153,18 +153,18 @@ module _ (n : ℕ) (l o : List ℕ) where
 module _ (number position n : ℕ) (e : n ≡ length (pairText number position (10 ∷ []))) where
   refusal-length : length (refusalText number position) ≡ 8 + n
   unfolding refusalText
-  refusal-length = length-append refusal (pairText number position (10 ∷ [])) ∙ ap (λ (k : ℕ). 8 + k) (sym e)
+  refusal-length = length-append refusalWord (pairText number position (10 ∷ [])) ∙ ap (λ (k : ℕ). 8 + k) (sym e)
 
-  pub refusal-refused : (o : List ℕ) → length o < 8 + n → (outputTooShort ≡ answerOf (refusalText number position) o) × (o ≡ putAt o 0 (refusalText number position))
+  pub refusal-refused : (o : List ℕ) → length o < 8 + n → (outputTooShort ≡ printedAnswer (refusalText number position) o) × (o ≡ putAt o 0 (refusalText number position))
   refusal-refused o h = let k = refusal-length in text-refused (refusalText number position) o (omega arith)
 
-  pub refusal-written : (o z : List ℕ) {p q r : List ℕ} → n ≤ 42 → p ≡ putAt z 0 refusal → length z ≡ 50 → q ≡ putAt p 8 (pairText number position (10 ∷ []))
+  pub refusal-written : (o z : List ℕ) {p q r : List ℕ} → n ≤ 42 → p ≡ putAt z 0 refusalWord → length z ≡ 50 → q ≡ putAt p 8 (pairText number position (10 ∷ []))
       → 8 + n ≤ length o → r ≡ putAt o 0 (take (8 + n) q)
-      → (done (8 + n) ≡ answerOf (refusalText number position) o) × (r ≡ putAt o 0 (refusalText number position))
+      → (done (8 + n) ≡ printedAnswer (refusalText number position) o) × (r ≡ putAt o 0 (refusalText number position))
   unfolding refusalText
   refusal-written o z {p} {q} {r} hn ep hz eq ho er =
       let k = refusal-length in
-      let w = put-behind z 0 refusal (pairText number position (10 ∷ [])) 8 ep eq refl refl (omega arith) in
+      let w = put-behind z 0 refusalWord (pairText number position (10 ∷ [])) 8 ep eq refl refl (omega arith) in
       let t = take-put z (refusalText number position) q (8 + n) w (omega arith) (omega arith) in
       text-written (refusalText number position) o r (8 + n) (omega arith) (omega arith) (er ∙ ap (putAt o 0) t)
 

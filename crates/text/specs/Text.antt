@@ -43,11 +43,11 @@ abbrev pub tableText : ℕ → List ℕ → List ℕ
 tableText n rows = heading ++ rowsText n rows
 
 -- "A refusal prints one line: `refused`, number, position."
-abbrev pub refusal : List ℕ
-refusal = bytes "refused\t"
+abbrev pub refusalWord : List ℕ
+refusalWord = bytes "refused\t"
 
 unfoldable pub refusalText : ℕ → ℕ → List ℕ
-refusalText number position = refusal ++ pairText number position (bytes "\n")
+refusalText number position = refusalWord ++ pairText number position (bytes "\n")
 
 -- what each case answers: the bytes written, or number and position
 abbrev pub writtenAnswer : Written → Answer ℕ
@@ -55,5 +55,5 @@ writtenAnswer (Bytes n) = done n
 writtenAnswer NoRoom = outputTooShort
 
 -- a text for which there is room is put at the front of the lent bytes (`putAt`); any other is 17 and leaves them as they were
-unfoldable pub answerOf : List ℕ → List ℕ → Answer ℕ
-answerOf text out = pick (leb (length text) (length out)) (done (length text)) outputTooShort
+unfoldable pub printedAnswer : List ℕ → List ℕ → Answer ℕ
+printedAnswer text out = pick (leb (length text) (length out)) (done (length text)) outputTooShort

@@ -9,7 +9,7 @@ ghost use Prim.Native.Nat.{_+_, _≤_};
 ghost use lib.Dec.{leb};
 ghost use lib.ListN.{length, take};
 ghost use Rattle.laws.specs.Put.{putAt};
-ghost use Rattle.text.specs.Text.{pairText, rowAt, rowsText, tableText, refusalText, writtenAnswer, answerOf};
+ghost use Rattle.text.specs.Text.{pairText, rowAt, rowsText, tableText, refusalText, writtenAnswer, printedAnswer};
 
 /// What came of writing a text.
 pub enum Written {
@@ -105,7 +105,7 @@ fn put_rows(rows: &[u32], n: usize, out: &mut [u8], at: usize) -> usize
 
 /// The table of the first n rows, each of three numbers (offset, group, tag).
 pub fn write_table(rows: &[u32], n: usize, out: &mut [u8]) -> Written
-    ensures told { λ r. ⌜ writtenAnswer r ≡ answerOf (tableText n (now (rows .entry))) (now (out .entry)) ⌝ }
+    ensures told { λ r. ⌜ writtenAnswer r ≡ printedAnswer (tableText n (now (rows .entry))) (now (out .entry)) ⌝ }
     ensures left { λ r. ⌜ now (out .exit) ≡ putAt (now (out .entry)) 0 (tableText n (now (rows .entry))) ⌝ }
 {
     if out.len() < 17 {
@@ -120,7 +120,7 @@ pub fn write_table(rows: &[u32], n: usize, out: &mut [u8]) -> Written
 
 /// The line of a refusal: its number and position.
 pub fn write_refusal(number: u8, position: usize, out: &mut [u8]) -> Written
-    ensures told { λ r. ⌜ writtenAnswer r ≡ answerOf (refusalText number position) (now (out .entry)) ⌝ }
+    ensures told { λ r. ⌜ writtenAnswer r ≡ printedAnswer (refusalText number position) (now (out .entry)) ⌝ }
     ensures left { λ r. ⌜ now (out .exit) ≡ putAt (now (out .entry)) 0 (refusalText number position) ⌝ }
 {
     let mut line = [0u8; 50];

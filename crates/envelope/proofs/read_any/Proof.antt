@@ -10,7 +10,7 @@ use lib.Dec.{leb}
 use Rattle.laws.specs.Choice.{all}
 use Rattle.parts.specs.declared.Part.{Part}
 use Rattle.parts.specs.Places.{present}
-use Rattle.envelope.specs.Envelope.{placeOf, directory, typed, typeOf, versionOf, releaseOf, subFunctionOf, agencyOf, referenceOf}
+use Rattle.envelope.specs.Envelope.{placeOf, directory, typed, typeOf, versionOf, releaseNumberOf, subFunctionOf, agencyOf, referenceOf}
 use Rattle.envelope.specs.Laws.{place-absent, place-present}
 use Rattle.envelope.specs.Ways.{of-four, uih-absent, uih-missing, uih-unknown, uih-typed}
 use borrow.Author.Needs.{needs}
@@ -36,7 +36,7 @@ module _ (k : tie.After-is-complete) where
   reference : present (referenceOf own) ≡ true
   reference = place-present own 2 1 (found (start .before) ∙ start .if1 .left)
 
-  identifier : all present (typeOf own ∷ versionOf own ∷ releaseOf own ∷ agencyOf own ∷ []) ≡ k .is-complete .result
+  identifier : all present (typeOf own ∷ versionOf own ∷ releaseNumberOf own ∷ agencyOf own ∷ []) ≡ k .is-complete .result
   identifier =
       let v = k .before in
       sym (k .is-complete .ensures ∙ of-four (λ a b d e. all present (a ∷ b ∷ d ∷ e ∷ [])) (v .before .before .before .value-in .ensures) (v .before .before .value-in2 .ensures) (v .before .value-in3 .ensures) (v .value-in4 .ensures))
@@ -45,7 +45,7 @@ module _ (t : tie.After-is-directory) where
   abbrev whole : List ℕ
   whole = own (t .before .before .before)
 
-  codes : directory (versionOf whole) (releaseOf whole) (subFunctionOf whole) (agencyOf whole) ≡ t .is-directory .result
+  codes : directory (versionOf whole) (releaseNumberOf whole) (subFunctionOf whole) (agencyOf whole) ≡ t .is-directory .result
   codes =
       let v = t .before .before .before .before in
       sym (t .is-directory .ensures ∙ of-four directory (v .before .before .value-in2 .ensures) (v .before .value-in3 .ensures) (t .before .value-in5 .ensures) (v .value-in4 .ensures))

@@ -45,7 +45,7 @@ use denote.Triple.Table.{entered, cited}
 use denote.Triple.Walked.{says, Stays, stay-none, stay-none-slice, walkOf, goes-none, goes-none-slice, Walks, ends-at, walked, walk-meets}
 use denote.Exit.{yes}
 use denote.Triple.Clauses.{ensured, lasts}
-use Rattle.lent.specs.Lent.{foundAt, offsetAfter, offsetPast}
+use Rattle.lent.specs.Lent.{segmentFound, offsetAfter, offsetPast}
 use Rattle.lent.specs.Answer.{Told, told-by}
 use Rattle.lent.specs.Laws.{past-none, past-next}
 use Rattle.lent.specs.declared.Reader.{Reader}
@@ -131,7 +131,7 @@ module _ {M : Type 1} (𝓤 : URA M) (H : Heap 𝓤) (A : Atoms 𝓤) (W : Given
   at = (v ∷ [], (vint w64 n ∷ [], tt))
 
   abbrev found : Found
-  found = foundAt (now s) (offsetPast (now s) n)
+  found = segmentFound (now s) (offsetPast (now s) n)
 
   -- the struct's type as a local of a body has it
   abbrev αᵉ : NamedLft
@@ -210,8 +210,8 @@ module _ {M : Type 1} (𝓤 : URA M) (H : Heap 𝓤) (A : Atoms 𝓤) (W : Given
   }
 
   -- what is found where the loop is left
-  found-is : (t : Stood s n) → n ≤ t .i → foundAt (now (t .r .src)) (t .r .at) ≡ found
-  found-is t over = ap (λ (x : RefT (List ℕ)). foundAt (now x) (t .r .at)) (t .src-is) ∙ ap (foundAt (now s)) (t .at-is ∙ ap (offsetPast (now s)) (le-antisymm (t .upto) over))
+  found-is : (t : Stood s n) → n ≤ t .i → segmentFound (now (t .r .src)) (t .r .at) ≡ found
+  found-is t over = ap (λ (x : RefT (List ℕ)). segmentFound (now x) (t .r .at)) (t .src-is) ∙ ap (segmentFound (now s)) (t .at-is ∙ ap (offsetPast (now s)) (le-antisymm (t .upto) over))
 
   fits : (t : Stood s n) → t .i < 2 ^ 64
   fits t = lt-of-le-of-lt (t .upto) gn

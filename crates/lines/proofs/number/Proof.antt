@@ -3,7 +3,7 @@ use mathlib.Core.Path.{_≡_, refl, sym, ap, _∙_}
 use lib.ListN.{length, drop}
 use denote.Ref.{now}
 use native.Mathlib.Omega.{arith}
-use Rattle.lines.specs.Numbers.{lastOf, valueOn, numberAt, number-starts, number-low, number-high, number-on, number-none}
+use Rattle.lines.specs.Numbers.{lastOf, valueOn, numberSaid, number-starts, number-low, number-high, number-on, number-none}
 use borrow.Author.Needs.{needs}
 use Rattle.lines.proofs.number.Statement.{statement}
 use Rattle.lines.proofs.number.Tie as tie
@@ -11,7 +11,7 @@ use Rattle.lines.proofs.number.Reads as reads
 use Rattle.lines.proofs.number.Lts as lts
 
 abbrev Inv-loop : tie.InvT-loop
-Inv-loop s from i₀ value₀ i value = (value < 10000000000000000000) × (lastOf (valueOn value (drop i s)) ≡ numberAt s from)
+Inv-loop s from i₀ value₀ i value = (value < 10000000000000000000) × (lastOf (valueOn value (drop i s)) ≡ numberSaid s from)
 
 abbrev μ-loop : tie.MeasureT-loop
 μ-loop s from i₀ value₀ i value = length s - i

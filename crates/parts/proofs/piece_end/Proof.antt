@@ -6,15 +6,15 @@ use native.Mathlib.Omega.{arith}
 use denote.Ref.{now}
 use lib.ListN.{length}
 use Rattle.laws.specs.Lists.{between}
-use Rattle.syntax.specs.Pieces.{first}
-use Rattle.parts.specs.Cuts.{endOf, piece-past, piece-ends, piece-released, piece-goes}
+use Rattle.syntax.specs.Pieces.{firstPiece}
+use Rattle.parts.specs.Cuts.{cutEnd, piece-past, piece-ends, piece-released, piece-goes}
 use Rattle.parts.proofs.piece_end.Statement.{statement}
 use Rattle.parts.proofs.piece_end.Tie as tie
 use Rattle.parts.proofs.piece_end.Reads as reads
 use Rattle.parts.proofs.piece_end.Lts as lts
 
 abbrev Inv-loop : tie.InvT-loop
-Inv-loop s from to mark i₀ released₀ i released = i + length (first mark released (between s i to)) ≡ endOf s from to mark
+Inv-loop s from to mark i₀ released₀ i released = i + length (firstPiece mark released (between s i to)) ≡ cutEnd s from to mark
 
 abbrev μ-loop : tie.MeasureT-loop
 μ-loop s from to mark i₀ released₀ i released = to - i

@@ -10,7 +10,7 @@ use Rattle.services.specs.declared.Service.{Service}
 use Rattle.services.specs.Rows.{rowCount}
 use Rattle.services.specs.Services.{servicesFrom, servicesOf}
 use Rattle.services.specs.Ways.{Next, next-found, next-gone}
-use Rattle.service_tests.specs.Tests.{testedAnswer, testAll, noTotals}
+use Rattle.service_tests.specs.Tests.{totalsAnswer, testAll, noTotals}
 use Rattle.service_entries.specs.Room.{lookAt}
 use Rattle.service_tests.specs.Ways.{one-more, all-done, all-on, all-stop}
 use Rattle.service_tests.proofs.test_all.Statement.{statement}
@@ -83,7 +83,7 @@ loop-again c =
     let v = own f .loop .inv in
     let w = next f in
     let u = m .more .given .0 .0 in
-    let e = sym (ap testedAnswer (m .more .given .1)) ∙ t .test-one .ensures in
+    let e = sym (ap totalsAnswer (m .more .given .1)) ∙ t .test-one .ensures in
     let h = one-more (a .first) (now (a .s)) (now (a .rows)) (lookAt (now (a .room))) (service f) (own f .loop .totals) u e in (
       (omega arith, omega arith, omega arith),
       all-on (a .first) (now (a .s)) (now (a .rows)) (lookAt (now (a .room))) (left f) (own f .loop .totals) (service f) (rest f) (w .rest) u e ∙ v .1,
@@ -100,7 +100,7 @@ returns c =
     let a = start f .args in
     let x = r .refusal .given .0 .0 in
     all-stop (a .first) (now (a .s)) (now (a .rows)) (lookAt (now (a .room))) (left f) (own f .loop .totals) (service f) (rest f) (next f .rest) (x .number) (x .position)
-    (sym (ap testedAnswer (r .refusal .given .1)) ∙ t .test-one .ensures)
+    (sym (ap totalsAnswer (r .refusal .given .1)) ∙ t .test-one .ensures)
     ∙ own f .loop .inv .1
 
 enum-told : tie.Need-enum-told Inv-loop μ-loop

@@ -4,7 +4,7 @@ use mathlib.Core.Path.{sym, ap, _∙_}
 use borrow.Author.Needs.{needs}
 use denote.Ref.{now}
 use Rattle.services.specs.Services as services
-use Rattle.service_tests.specs.Tests.{windowFound, testedAnswer}
+use Rattle.service_tests.specs.Tests.{windowFound, totalsAnswer}
 use Rattle.service_entries.specs.Room.{lookAt}
 use Rattle.service_tests.specs.Ways.{one-refused, one-outside, one-inside}
 use Rattle.service_tests.proofs.test_one.Statement.{statement}
@@ -41,7 +41,7 @@ returns c =
     let t = g .before .before in
     let a = t .before .before .before .before .args in
     one-inside (now (a .s)) (now (a .rows)) (a .service) (a .first) (lookAt (now (a .room))) (a .totals) (sym (ap services.testedAnswer (g .enum-told .given .1)) ∙ t .test-service .ensures)
-    (sym (ap windowFound (c .before .enum-told2 .given .1)) ∙ w .test-window .ensures) (testedAnswer (c .test-known .result)) (c .test-known .ensures)
+    (sym (ap windowFound (c .before .enum-told2 .given .1)) ∙ w .test-window .ensures) (totalsAnswer (c .test-known .result)) (c .test-known .ensures)
 
 returns-2 : tie.Need-returns-2
 returns-2 c =

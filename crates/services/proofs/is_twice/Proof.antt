@@ -6,13 +6,13 @@ use native.Mathlib.Omega.{arith}
 use borrow.Author.Needs.{needs}
 use denote.Ref.{now}
 use Rattle.services.specs.Rows.{firstFrom, first-on}
-use Rattle.services.specs.Services.{isSame}
+use Rattle.services.specs.Services.{isSameService}
 use Rattle.services.specs.Ways.{twice-yes, twice-no}
 use Rattle.services.proofs.is_twice.Statement.{statement}
 use Rattle.services.proofs.is_twice.Tie as tie
 
 abbrev Inv-loop : tie.InvT-loop
-Inv-loop s rows number before count i₀ i = firstFrom (isSame s rows number) i count ≡ firstFrom (isSame s rows number) 0 count
+Inv-loop s rows number before count i₀ i = firstFrom (isSameService s rows number) i count ≡ firstFrom (isSameService s rows number) 0 count
 
 abbrev μ-loop : tie.MeasureT-loop
 μ-loop s rows number before count i₀ i = count - i
@@ -46,7 +46,7 @@ loop-again c =
     let o = b .before in
     let n = o .before in
     let a = n .before .before .before .before .args in
-    sym (first-on (isSame (now (a .s)) (now (a .rows)) (now (a .number))) (o .loop .i) (n .row-count .result) (b .loop-test .taken) (sym (c .before .is-same .ensures) ∙ c .if1 .left)) ∙ o .loop .inv
+    sym (first-on (isSameService (now (a .s)) (now (a .rows)) (now (a .number))) (o .loop .i) (n .row-count .result) (b .loop-test .taken) (sym (c .before .is-same .ensures) ∙ c .if1 .left)) ∙ o .loop .inv
 
 returns-2 : tie.Need-returns-2 Inv-loop μ-loop
 returns-2 c =

@@ -11,7 +11,7 @@ use borrow.Author.Tests.{not-true, not-false}
 use borrow.Author.Needs.{needs}
 use Rattle.gaps.specs.Zero.{allZero}
 use Rattle.slot_check.specs.Same.{Bytes}
-use Rattle.slot_check.specs.Slot.{isSlot, fits, fits-put, fits-none, fits-no-flag, fits-both, fits-no-entry, fits-live, other-slot, slot-no-number, slot-number-fits}
+use Rattle.slot_check.specs.Slot.{isSlot, flagsFit, fits-put, fits-none, fits-no-flag, fits-both, fits-no-entry, fits-live, other-slot, slot-no-number, slot-number-fits}
 use Rattle.slot_check.proofs.is_slot.Statement.{statement}
 use Rattle.slot_check.proofs.is_slot.Tie as tie
 
@@ -53,7 +53,7 @@ module _ (n : tie.After-is-number) where
   abbrev no-put : Bool
   no-put = allZero (take 64 (drop 76 slot))
 
-  fitting : n .is-number .result ≡ true → fits live pending no-live no-put ≡ isSlot slot
+  fitting : n .is-number .result ≡ true → flagsFit live pending no-live no-put ≡ isSlot slot
   fitting t = slot-number-fits slot (n .before .before .before .before .if1 .left) bytes (n .is-number .result) (n .is-number .ensures) t
 
 returns-2 : tie.Need-returns-2

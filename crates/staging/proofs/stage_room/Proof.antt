@@ -4,7 +4,7 @@ use mathlib.Core.Path.{sym, ap, _∙_}
 use borrow.Author.Needs.{needs}
 use borrow.Author.Tests.{not-true, not-false}
 use denote.Ref.{now}
-use Rattle.service_tests.specs.Tests.{testedAnswer}
+use Rattle.service_tests.specs.Tests.{totalsAnswer}
 use Rattle.staging.specs.Closing.{room-refused, room-over, room-done}
 use Rattle.staging.proofs.stage_room.Statement.{statement}
 use Rattle.staging.proofs.stage_room.Tie as tie
@@ -30,7 +30,7 @@ returns c =
     let t = f .before .before .before in
     let x = t .before .before in
     let a = x .before .before .before .before .before .args in
-    room-over (now (a .room)) (a .first) (now (a .s)) (now (a .rows)) (a .n) (t .totals .given .0 .0) (sym (ap testedAnswer (t .totals .given .1)) ∙ x .test-all .ensures) (f .fits2 .result) (f .fits2 .ensures)
+    room-over (now (a .room)) (a .first) (now (a .s)) (now (a .rows)) (a .n) (t .totals .given .0 .0) (sym (ap totalsAnswer (t .totals .given .1)) ∙ x .test-all .ensures) (f .fits2 .result) (f .fits2 .ensures)
     (not-true (f .fits2 .result) (c .if1 .taken))
 
 remove-all-requires : tie.Need-remove-all-requires
@@ -48,7 +48,7 @@ returns-2 c =
     let x = r .before .before in
     let a = x .before .before .before .before .before .args in
     let y = r .refusal .given .0 .0 in
-    room-refused (now (a .room)) (a .first) (now (a .s)) (now (a .rows)) (a .n) (y .number) (y .position) (sym (ap testedAnswer (r .refusal .given .1)) ∙ x .test-all .ensures)
+    room-refused (now (a .room)) (a .first) (now (a .s)) (now (a .rows)) (a .n) (y .number) (y .position) (sym (ap totalsAnswer (r .refusal .given .1)) ∙ x .test-all .ensures)
 
 same-length-3 : tie.Need-same-length-3
 same-length-3 c = search needs
@@ -62,7 +62,7 @@ returns-3 c =
     let t = f .before .before .before in
     let x = t .before .before in
     let a = x .before .before .before .before .before .args in
-    room-done (now (a .room)) (a .first) (now (a .s)) (now (a .rows)) (a .n) (t .totals .given .0 .0) (sym (ap testedAnswer (t .totals .given .1)) ∙ x .test-all .ensures) (f .fits2 .result) (f .fits2 .ensures)
+    room-done (now (a .room)) (a .first) (now (a .s)) (now (a .rows)) (a .n) (t .totals .given .0 .0) (sym (ap totalsAnswer (t .totals .given .1)) ∙ x .test-all .ensures) (f .fits2 .result) (f .fits2 .ensures)
     (not-false (f .fits2 .result) (e .if1 .left)) (d .remove-all .last .0) (p .put-all .last .0) (d .remove-all .ensures) (p .put-all .ensures)
 
 pub stage-room-spec : {M : Type 1} → statement M

@@ -2,7 +2,7 @@ use mathlib.Core.Path.{sym, ap, _∙_}
 use denote.Ref.{now}
 use Rattle.dates.specs.Dates.{numberOf}
 use Rattle.services.specs.Services.{periodsFrom}
-use Rattle.desk.specs.Desk.{replyOf, dateOf}
+use Rattle.desk.specs.Desk.{replyOf, dayDate}
 use Rattle.desk.specs.Days.{not-64, no-first, from-first}
 use borrow.Author.Needs.{needs}
 use Rattle.desk.proofs.reading.drumcallisto_days.Statement.{statement}
@@ -24,7 +24,7 @@ returns c =
     let a = c .before .before .before .before .before .args in
     let s = now (a .s) in
     let p = periodsFrom (now (a .rows)) (a .from) (a .to) in
-    let w = not-64 s p (dateOf (a .first)) (now (a .days)) (c .before .if1 .taken) in
+    let w = not-64 s p (dayDate (a .first)) (now (a .days)) (c .before .if1 .taken) in
     (c .refused .ensures ∙ ap replyOf (w .0), w .1)
 
 -- src/reading.rt:122:28
@@ -55,7 +55,7 @@ returns-2 c =
     let p = periodsFrom (now (a .rows)) (a .from) (a .to) in
     let b = c .before .before .before in
     let q = ap numberOf (sym (b .before .date-of .ensures)) ∙ sym (b .day-number .ensures) ∙ c .before .enum-told .given .1 in
-    let w = no-first s p (dateOf (a .first)) (now (a .days)) (b .before .before .if1 .left) q in
+    let w = no-first s p (dayDate (a .first)) (now (a .days)) (b .before .before .if1 .left) q in
     (c .refused2 .ensures ∙ ap replyOf (w .0), w .1)
 
 -- src/reading.rt:125:5
@@ -75,7 +75,7 @@ returns-3 c =
     let b = c .before .before .before .before .before .before .before in
     let r = c .before .before .write-days .ensures in
     let q = ap numberOf (sym (b .before .date-of .ensures)) ∙ sym (b .day-number .ensures) ∙ c .before .before .before .before .before .day .given .1 in
-    let w = from-first s p (dateOf (a .first)) (now (a .days)) (b .before .before .if1 .left) _ q in
+    let w = from-first s p (dayDate (a .first)) (now (a .days)) (b .before .before .if1 .left) _ q in
     (r .0 ∙ ap replyOf (w .0), r .1 ∙ w .1)
 
 pub drumcallisto-days-spec : {M : Type 1} → statement M

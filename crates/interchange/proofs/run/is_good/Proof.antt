@@ -12,9 +12,9 @@ use borrow.Author.Tests.{not-true, not-false}
 use denote.Ref.{now}
 use Rattle.period.specs.declared.Period.{Period}
 use Rattle.period.specs.declared.Period.the-variants.{Good, Wrong}
-use Rattle.period.specs.Period.{periodOf}
+use Rattle.period.specs.Period.{isGood, periodOf}
 use Rattle.syntax.specs.Segment.{bodyAt}
-use Rattle.interchange.specs.Runs.{good-other, good-read, part-is, isGood, goodPart}
+use Rattle.interchange.specs.Runs.{good-other, good-read, part-is, goodPart}
 
 is-period-requires : tie.Need-is-period-requires
 is-period-requires c κs = search needs

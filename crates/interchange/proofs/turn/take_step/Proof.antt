@@ -8,7 +8,7 @@ use denote.Ref.{now}
 use Rattle.syntax.specs.Segment.{bodyAt}
 use Rattle.syntax.specs.Ends.{end-within}
 use Rattle.steps.specs.Step.{stepAnswer, segmentStep}
-use Rattle.interchange.specs.Reader.{dialogueOf, referenceOf, turnStep}
+use Rattle.interchange.specs.Reader.{dialogueOf, headedReference, turnStep}
 use Rattle.interchange.specs.Turns.{body-slice, step-same}
 use borrow.Author.Needs.{needs}
 use Rattle.interchange.proofs.turn.take_step.Statement.{statement}
@@ -26,7 +26,7 @@ module _ (u : tie.After-step-segment) where
   abbrev start : tie.Start
   start = u .before .before .before .before .before .before .before
 
-  told : stepAnswer (u .step-segment .result) ≡ segmentStep (now (start .args .tables)) (start .args .st) (start .args .at) (bodyAt (now (start .args .s)) (start .args .at)) (dialogueOf (now (start .args .s)) (start .args .st)) (referenceOf (now (start .args .s)) (start .args .st))
+  told : stepAnswer (u .step-segment .result) ≡ segmentStep (now (start .args .tables)) (start .args .st) (start .args .at) (bodyAt (now (start .args .s)) (start .args .at)) (dialogueOf (now (start .args .s)) (start .args .st)) (headedReference (now (start .args .s)) (start .args .st))
   told =
       let a = start .args in
       u .step-segment .ensures

@@ -9,13 +9,13 @@ use denote.Ref.{now}
 use lib.ListN.{length, drop}
 use Rattle.syntax.specs.Bytes.{plain}
 use Rattle.values.specs.Laws.{next-byte, next-done, plain-past, Follows}
-use Rattle.period.specs.Period.{rising}
+use Rattle.period.specs.Period.{risingDays}
 use Rattle.period.specs.Steps.{rises-not, rises-past, rises-goes, rises-ends}
 use Rattle.period.proofs.forms.is_rising.Statement.{statement}
 use Rattle.period.proofs.forms.is_rising.Tie as tie
 
 abbrev Inv-loop : tie.InvT-loop
-Inv-loop part i₀ low₀ i low = rising low (plain (drop i part)) ≡ rising 48 (plain part)
+Inv-loop part i₀ low₀ i low = risingDays low (plain (drop i part)) ≡ risingDays 48 (plain part)
 
 abbrev μ-loop : tie.MeasureT-loop
 μ-loop part i₀ low₀ i low = length part - i

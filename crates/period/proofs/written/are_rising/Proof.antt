@@ -8,13 +8,13 @@ use borrow.Author.Needs.{needs}
 use denote.Ref.{now}
 use lib.ListN.{length, getD, drop}
 use Rattle.laws.specs.Lists.{drop-here, drop-past}
-use Rattle.period.specs.Period.{rising}
+use Rattle.period.specs.Period.{risingDays}
 use Rattle.period.specs.Steps.{rises-not, rises-past, rises-goes, rises-ends}
 use Rattle.period.proofs.written.are_rising.Statement.{statement}
 use Rattle.period.proofs.written.are_rising.Tie as tie
 
 abbrev Inv-loop : tie.InvT-loop
-Inv-loop g from i₀ last₀ i last = rising last (drop i g) ≡ rising 48 (drop from g)
+Inv-loop g from i₀ last₀ i last = risingDays last (drop i g) ≡ risingDays 48 (drop from g)
 
 abbrev μ-loop : tie.MeasureT-loop
 μ-loop g from i₀ last₀ i last = length g - i

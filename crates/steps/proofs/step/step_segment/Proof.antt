@@ -4,7 +4,7 @@ use Rattle.answers.specs.Answers.{Answer}
 use Rattle.placing.specs.Table.{Table}
 use Rattle.steps.specs.declared.state.Phase.{Phase}
 use Rattle.steps.specs.declared.state.Phase.the-variants.{Opening, Between, Inside, Closed}
-use Rattle.steps.specs.Step.{Taken, inside, stepBy}
+use Rattle.steps.specs.Step.{Taken, insideMessage, stepBy}
 use borrow.Author.Needs.{needs}
 use Rattle.steps.proofs.step.step_segment.Statement.{statement}
 use Rattle.steps.proofs.step.step_segment.Tie as tie
@@ -71,7 +71,7 @@ returns-3 c =
     let e = c .before .before in
     let a = e .before .before .before .before .before .args in
     c .next-segment .ensures
-    ∙ ap (λ (t : Table). inside t (a .st) (a .at) (now (a .segment)) (now (a .reference))) (c .before .table-of .ensures)
+    ∙ ap (λ (t : Table). insideMessage t (a .st) (a .at) (now (a .segment)) (now (a .reference))) (c .before .table-of .ensures)
     ∙ known (e .before .before) Inside (e .enum-told3 .given .1)
 
 returns-4 : tie.Need-returns-4

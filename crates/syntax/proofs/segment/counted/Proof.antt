@@ -7,7 +7,7 @@ use borrow.Author.Needs.{needs}
 use borrow.Author.Tests.{eq-eqb, ne-eqb, not-true, not-false}
 use denote.Ref.{now}
 use lib.ListN.{length, getD, drop}
-use Rattle.syntax.specs.Pieces.{first}
+use Rattle.syntax.specs.Pieces.{firstPiece}
 use Rattle.syntax.specs.Segment.{segmentAt}
 use Rattle.syntax.specs.Counts.{none, textOf, markOf}
 use Rattle.syntax.specs.Onward.{onward, Within}
@@ -28,7 +28,7 @@ use Rattle.syntax.proofs.segment.ended.Reads as ended-reads
 use Rattle.syntax.proofs.segment.is_tagged.Reads as is-tagged-reads
 
 abbrev Inv-loop : tie.InvT-loop
-Inv-loop s at tagged i₀ counts₀ i counts = (Within counts) × (onward (length s) tagged i counts (first 39 false (drop i s)) ≡ segmentAt s at)
+Inv-loop s at tagged i₀ counts₀ i counts = (Within counts) × (onward (length s) tagged i counts (firstPiece 39 false (drop i s)) ≡ segmentAt s at)
 
 abbrev μ-loop : tie.MeasureT-loop
 μ-loop s at tagged i₀ counts₀ i counts = length s - i
@@ -62,9 +62,9 @@ module _ (t : tie.After-text Inv-loop μ-loop) where
   within : Within (t .text .result)
   within = rw (t .text .ensures) (within-text (own .loop .counts) (own .loop .inv .0) (j - own .loop .i))
 
-  stands : onward (length list) tag j (t .text .result) (first 39 false (drop j list)) ≡ segmentAt list (own .before .before .before .before .args .at)
+  stands : onward (length list) tag j (t .text .result) (firstPiece 39 false (drop j list)) ≡ segmentAt list (own .before .before .before .before .args .at)
   stands =
-      ap (λ k. onward (length list) tag j k (first 39 false (drop j list))) (t .text .ensures)
+      ap (λ k. onward (length list) tag j k (firstPiece 39 false (drop j list))) (t .text .ensures)
       ∙ sym (scan-run list tag (own .loop .i) j (own .loop .counts) (t .before .before .before .text-end .ensures))
       ∙ own .loop .inv .1
 
