@@ -26,7 +26,7 @@ use Rattle.calendar.specs.Steps.{length-characters}
 use Rattle.calendar.specs.declared.Span.the-variants.{Days, Bad}
 
 pub length-start : (first last : Date) → length (start first last) ≡ 29
-unfolding start bytes
+unfolding start
 length-start first last = simp (length-append, length-text)
 
 pub start-refused : (first last : Date) (o : List ℕ) → length o < 29 → o ≡ putAt o 0 (start first last)
@@ -35,7 +35,7 @@ start-refused first last o h = sym (put-no-room o 0 (start first last) (rw lengt
 pub start-put : (first last : Date) (o : List ℕ) {p q r s f t : List ℕ} → 29 ≤ length o
     → p ≡ putAt o 0 (80 ∷ 79 ∷ 80 ∷ 43 ∷ 50 ∷ 55 ∷ 51 ∷ 58 ∷ []) → f ≡ dateText first → q ≡ putAt p 8 f
     → r ≡ putAt q 18 (47 ∷ []) → t ≡ dateText last → s ≡ putAt r 19 t → s ≡ putAt o 0 (start first last)
-unfolding start bytes
+unfolding start
 start-put first last o h e₁ f e₂ e₃ t e₄ =
     let a = put-behind o 0 (80 ∷ 79 ∷ 80 ∷ 43 ∷ 50 ∷ 55 ∷ 51 ∷ 58 ∷ []) (dateText first) 8 e₁ e₂ f refl (rw length-text (omega arith)) in
     let b = put-behind o 0 ((80 ∷ 79 ∷ 80 ∷ 43 ∷ 50 ∷ 55 ∷ 51 ∷ 58 ∷ []) ++ dateText first) (47 ∷ []) 18 a e₃ refl (simp length-text) (simp length-text (omega arith)) in
@@ -52,7 +52,7 @@ text-refused text o h = (rw (lt-leb (length text) (length o) h), sym (put-no-roo
 
 module _ (c : List ℕ) (first last : Date) (n : ℕ) (o : List ℕ) where
   length-day-string : length (dayStringText c first last n) ≡ 32 + n
-  unfolding dayStringText bytes
+  unfolding dayStringText
   length-day-string = simp (length-append, length-start, length-characters) (omega arith)
 
   pub characters-refused : length o < 32 + n → (outputTooShort ≡ textAnswer (dayStringText c first last n) o) × (o ≡ putAt o 0 (dayStringText c first last n))
@@ -61,7 +61,7 @@ module _ (c : List ℕ) (first last : Date) (n : ℕ) (o : List ℕ) where
   pub characters-put : {p q r s : List ℕ} → 32 + n ≤ length o → p ≡ putAt o 0 (start first last) → q ≡ putAt p 29 (58 ∷ 58 ∷ [])
       → r ≡ putAt q 31 (dayCharacters c 0 n) → s ≡ putAt r (31 + n) (39 ∷ [])
       → (done (32 + n) ≡ textAnswer (dayStringText c first last n) o) × (s ≡ putAt o 0 (dayStringText c first last n))
-  unfolding dayStringText bytes
+  unfolding dayStringText
   characters-put h e₁ e₂ e₃ e₄ =
       let a = put-behind o 0 (start first last) (58 ∷ 58 ∷ []) 29 e₁ e₂ refl (simp length-start) (simp length-start (omega arith)) in
       let b = put-behind o 0 (start first last ++ (58 ∷ 58 ∷ [])) (dayCharacters c 0 n) 31 a e₃ refl (simp (length-append, length-start)) (simp (length-append, length-start, length-characters) (omega arith)) in (
@@ -85,7 +85,7 @@ module _ (c : List ℕ) (first last : Date) (o : List ℕ) where
 -- the weekday form
 module _ (first last : Date) (w o : List ℕ) where
   length-named : length (namedText first last w) ≡ 31 + length w
-  unfolding namedText bytes
+  unfolding namedText
   length-named = simp (length-append, length-start) (omega arith)
 
   pub named-refused : length o < 31 + length w → (outputTooShort ≡ textAnswer (namedText first last w) o) × (o ≡ putAt o 0 (namedText first last w))
@@ -94,7 +94,7 @@ module _ (first last : Date) (w o : List ℕ) where
   pub named-put : {p q r s : List ℕ} → 31 + length w ≤ length o → p ≡ putAt o 0 (start first last) → q ≡ putAt p 29 (43 ∷ [])
       → r ≡ putAt q 30 w → s ≡ putAt r (30 + length w) (39 ∷ [])
       → (done (31 + length w) ≡ textAnswer (namedText first last w) o) × (s ≡ putAt o 0 (namedText first last w))
-  unfolding namedText bytes
+  unfolding namedText
   named-put h e₁ e₂ e₃ e₄ =
       let a = put-behind o 0 (start first last) (43 ∷ []) 29 e₁ e₂ refl (simp length-start) (simp length-start (omega arith)) in
       let b = put-behind o 0 (start first last ++ (43 ∷ [])) w 30 a e₃ refl (simp (length-append, length-start)) (simp (length-append, length-start) (omega arith)) in (

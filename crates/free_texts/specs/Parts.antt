@@ -64,14 +64,12 @@ module _ (d s : List ℕ) (pd : all numeric d ≡ true) (ps : all numeric s ≡ 
   e₁ = withString d s
 
   pub string-quiet : (c : ℕ) → all (quiet c) code ≡ true → all (quiet c) (58 ∷ []) ≡ true → all (quiet c) d ≡ true → all (quiet c) s ≡ true → all (quiet c) (withString d s) ≡ true
-  unfolding bytes
   string-quiet c a b p q =
       all-append (quiet c) code (58 ∷ (d ++ (58 ∷ 58 ∷ s))) a
       (all-append (quiet c) (58 ∷ []) (d ++ (58 ∷ 58 ∷ s)) b
       (all-append (quiet c) d (58 ∷ 58 ∷ s) p (all-append (quiet c) (58 ∷ []) (58 ∷ s) b (all-append (quiet c) (58 ∷ []) s b q))))
 
   pub string-components : components (withString d s) ≡ code ∷ d ∷ [] ∷ s ∷ []
-  unfolding bytes
   string-components =
       more-pieces 58 code (d ++ (58 ∷ 58 ∷ s)) refl refl
       ∙ ap (λ (x : List (List ℕ)). code ∷ x) (more-pieces 58 d (58 ∷ s) refl (no-colon d pd))
@@ -79,15 +77,12 @@ module _ (d s : List ℕ) (pd : all numeric d ≡ true) (ps : all numeric s ≡ 
       ∙ ap (λ (x : List (List ℕ)). code ∷ d ∷ [] ∷ x) (one-piece 58 s (no-colon s ps))
 
   pub string-elements : elements (oneElement (withString d s)) ≡ withString d s ∷ []
-  unfolding bytes
   string-elements = later-cut 43 (80 ∷ 79 ∷ 80 ∷ []) e₁ refl refl ∙ one-piece 43 e₁ (string-quiet 43 refl refl (no-plus d pd) (no-plus s ps))
 
   pub string-once : occurrences (withString d s) ≡ withString d s ∷ []
-  unfolding bytes
   string-once = one-piece 42 e₁ (string-quiet 42 refl refl (no-star d pd) (no-star s ps))
 
   pub string-cut : Cut (oneElement (withString d s)) d s []
-  unfolding bytes
   string-cut =
       let part = part-found (oneElement e₁) e₁ (e₁ ∷ []) (code ∷ d ∷ [] ∷ s ∷ []) 1 string-elements refl string-once string-components in
       record {
@@ -105,21 +100,17 @@ module _ (d : List ℕ) (pd : all numeric d ≡ true) where
   e₂ = withoutString d
 
   pub dates-quiet : (c : ℕ) → all (quiet c) code ≡ true → all (quiet c) (58 ∷ []) ≡ true → all (quiet c) d ≡ true → all (quiet c) (withoutString d) ≡ true
-  unfolding bytes
   dates-quiet c a b p = all-append (quiet c) code (58 ∷ d) a (all-append (quiet c) (58 ∷ []) d b p)
 
   pub week-components : components (withoutString d) ≡ code ∷ d ∷ []
-  unfolding bytes
   week-components =
       more-pieces 58 code d refl refl ∙ ap (λ (x : List (List ℕ)). code ∷ x) (one-piece 58 d (no-colon d pd))
 
   pub week-once : occurrences (withoutString d) ≡ withoutString d ∷ []
-  unfolding bytes
   week-once = one-piece 42 e₂ (dates-quiet 42 refl refl (no-star d pd))
 
   -- two elements or more: the second is w
   further : (g w : List ℕ) (more : List (List ℕ)) → elements g ≡ e₂ ∷ w ∷ more → occurrences w ≡ w ∷ [] → components w ≡ w ∷ [] → Cut g d [] w
-  unfolding bytes
   further g w more e o k =
       let part = part-found g e₂ (e₂ ∷ w ∷ more) (code ∷ d ∷ []) 1 e refl week-once week-components in
       record {
@@ -132,14 +123,12 @@ module _ (d : List ℕ) (pd : all numeric d ≡ true) where
       }
 
   two-elements : (w : List ℕ) → elements (twoElements (withoutString d) w) ≡ withoutString d ∷ pieces 43 w
-  unfolding bytes
   two-elements w =
       later-cut 43 (80 ∷ 79 ∷ 80 ∷ []) (e₂ ++ (43 ∷ w)) refl refl
       ∙ more-pieces 43 e₂ w refl (dates-quiet 43 refl refl (no-plus d pd))
 
   module _ (w : List ℕ) (pw : all numeric w ≡ true) where
     pub week-elements : elements (twoElements (withoutString d) w) ≡ withoutString d ∷ w ∷ []
-    unfolding bytes
     week-elements = two-elements w ∙ ap (λ (x : List (List ℕ)). e₂ ∷ x) (one-piece 43 w (no-plus w pw))
 
     pub named-once : occurrences w ≡ w ∷ []
@@ -149,12 +138,10 @@ module _ (d : List ℕ) (pd : all numeric d ≡ true) where
     named-components = one-piece 58 w (no-colon w pw)
 
     pub week-cut : Cut (twoElements (withoutString d) w) d [] w
-    unfolding bytes
     week-cut = further (twoElements e₂ w) w [] week-elements named-once named-components
 
   -- an empty second element, whatever follows it
   pub passed-cut : (rest : List ℕ) → Cut (twoElements (withoutString d) (43 ∷ rest)) d [] []
-  unfolding bytes
   passed-cut rest =
       further (twoElements e₂ (43 ∷ rest)) [] (pieces 43 rest)
       (two-elements (43 ∷ rest) ∙ ap (λ (x : List (List ℕ)). e₂ ∷ x) (more-pieces 43 [] rest refl refl))
@@ -162,11 +149,9 @@ module _ (d : List ℕ) (pd : all numeric d ≡ true) where
 
   -- the dates and nothing more
   alone-elements : elements (oneElement (withoutString d)) ≡ withoutString d ∷ []
-  unfolding bytes
   alone-elements = later-cut 43 (80 ∷ 79 ∷ 80 ∷ []) e₂ refl refl ∙ one-piece 43 e₂ (dates-quiet 43 refl refl (no-plus d pd))
 
   pub alone-cut : Cut (oneElement (withoutString d)) d [] []
-  unfolding bytes
   alone-cut =
       let part = part-found (oneElement e₂) e₂ (e₂ ∷ []) (code ∷ d ∷ []) 1 alone-elements refl week-once week-components in
       record {

@@ -113,7 +113,6 @@ abbrev pub Tagged : List ℕ → Type 0
 Tagged g = g ≡ bytes "POP+" ++ drop 4 g
 
 pub tag-begins : (g : List ℕ) → 4 ≤ length g → getD g 0 0 ≡ 80 → getD g 1 0 ≡ 79 → getD g 2 0 ≡ 80 → getD g 3 0 ≡ 43 → Tagged g
-unfolding bytes
 tag-begins g h a b c d =
     drop-here g 0 (omega arith) ∙ ap (λ (l : List ℕ). getD g 0 0 ∷ l) (drop-here g 1 (omega arith) ∙ ap (λ (l : List ℕ). getD g 1 0 ∷ l) (drop-here g 2 (omega arith) ∙ ap (λ (l : List ℕ). getD g 2 0 ∷ l) (drop-here g 3 (omega arith))))
     ∙ rw (a, b, c, d)
@@ -139,7 +138,7 @@ module _ (r : List ℕ) where
       sym (o .is ∙ whole-first 58 (drop (o .start) element) (omega arith) ∙ ap (λ (x : ℕ). drop x element) k ∙ ap (drop 27) z)
 
 element-cut : (r : List ℕ) (m : ℕ) → partOf (bytes "POP+" ++ r) 1 1 m ≡ nth (components (element r)) m
-unfolding partOf laterPieces bytes
+unfolding partOf laterPieces
 element-cut r m = refl
 
 -- so behind `POP+` and 27 bytes more it is the rest, where that is as long

@@ -43,7 +43,7 @@ module _ (g d s w : List ℕ) (p : Cut g d s w) (pd : all numeric d ≡ true) (p
   weekdays-plain = ap plain (p .weekdays-are) ∙ plain-all w (no-release w pw)
 
   rest-read : restGood g ≡ true
-  unfolding restGood sameText plainOn bytes
+  unfolding restGood sameText plainOn
   rest-read =
       rw (p .first-once, p .second-once)
       (ap (λ (x : List ℕ). both (sameText (plain x) (bytes "273")) true) (p .qualifier-is))
@@ -186,7 +186,7 @@ module _ (g : List ℕ) (h : 29 ≤ length g) {a b : Date} (p : dateAt g 8 ≡ V
 
   module _ (s : Same (getD g 0 0) (getD g 1 0) (getD g 2 0) (getD g 3 0) 80 79 80 43) (t : Same (getD g 4 0) (getD g 5 0) (getD g 6 0) (getD g 7 0) 50 55 51 58) where
     begins-split : g ≡ oneElement (withoutString (firsts g 8 21 ++ drop 29 g))
-    unfolding firsts bytes
+    unfolding firsts
     begins-split =
         drop-firsts g 8 0 (omega arith)
         ∙ four-same s (getD g 4 0 ∷ getD g 5 0 ∷ getD g 6 0 ∷ getD g 7 0 ∷ drop 8 g)
@@ -233,11 +233,9 @@ told-every n = refl
 -- what stands behind the dates tells the form
 module _ (g : List ℕ) {f n : ℕ} (b : Begins g f n) where
   of-rest : (rest : List ℕ) (form : Form) → drop 29 g ≡ rest → Good f n form ≡ periodOf (oneElement (withoutString (b .dates ++ rest))) → Good f n form ≡ periodOf g
-  unfolding bytes
   of-rest rest form e k = k ∙ ap (λ (x : List ℕ). periodOf (oneElement (withoutString (b .dates ++ x)))) (sym e) ∙ ap periodOf (sym (b .split))
 
   pub alone-good : length g ≡ 29 → Good f n Every ≡ periodOf g
-  unfolding bytes
   alone-good h =
       of-rest [] Every (drop-past g 29 (omega arith))
       (cut-good (oneElement (withoutString (b .dates))) (b .dates) [] [] (alone-cut (b .dates) (b .numerics)) (b .numerics) refl refl (b .span) (told-every n)
@@ -250,13 +248,11 @@ module _ (g : List ℕ) {f n : ℕ} (b : Begins g f n) where
         ∙ rw (p, q)
 
     pub passed-good : getD g 29 0 ≡ 43 → getD g 30 0 ≡ 43 → Good f n Every ≡ periodOf g
-    unfolding bytes
     passed-good p q =
         of-rest (43 ∷ 43 ∷ drop 31 g) Every (two-more 43 43 p q)
         (cut-good (twoElements (withoutString (b .dates)) (43 ∷ drop 31 g)) (b .dates) [] [] (passed-cut (b .dates) (b .numerics) (drop 31 g)) (b .numerics) refl refl (b .span) (told-every n))
 
     pub weekdays-good : getD g 29 0 ≡ 43 → risingDays 48 (drop 30 g) ≡ true → Good f n ByWeekdays ≡ periodOf g
-    unfolding bytes
     weekdays-good p r =
         let l = length-drop 30 g in
         let k = rising-numeric 48 (drop 30 g) (omega arith) r in
@@ -265,7 +261,6 @@ module _ (g : List ℕ) {f n : ℕ} (b : Begins g f n) where
         (told-weekdays n (drop 30 g) (some-text (drop 30 g) (omega arith)) r))
 
     pub string-good : getD g 29 0 ≡ 58 → getD g 30 0 ≡ 58 → length g - 31 ≡ n → all zeroOrOne (drop 31 g) ≡ true → Good f n ByString ≡ periodOf g
-    unfolding bytes
     string-good p q m z =
         let l = length-drop 31 g in
         let c = span-told (b .dates) f n (b .span) .count in

@@ -54,7 +54,7 @@ pub record Parts (g d s w : List ℕ) : Type 0 where
   pub cut : Cut g d s w
 
 code-fits : componentFits code ≡ true
-unfolding componentFits plainOn bytes
+unfolding componentFits plainOn
 code-fits = refl
 
 none-fits : componentFits [] ≡ true
@@ -66,13 +66,12 @@ module _ (d s : List ℕ) (pd : all numeric d ≡ true) (ps : all numeric s ≡ 
   e₁ = withString d s
 
   string-permitted : all permittedOf (oneElement e₁) ≡ true
-  unfolding permittedOf bytes
+  unfolding permittedOf
   string-permitted =
       all-append permittedOf (80 ∷ 79 ∷ 80 ∷ 43 ∷ 50 ∷ 55 ∷ 51 ∷ 58 ∷ []) (d ++ (58 ∷ 58 ∷ s)) refl
       (all-append permittedOf d (58 ∷ 58 ∷ s) (all-permitted d pd) (all-append permittedOf (58 ∷ 58 ∷ []) s refl (all-permitted s ps)))
 
   pub string-parts : Parts (oneElement e₁) d s []
-  unfolding bytes
   string-parts =
       let f : all componentFits (code ∷ d ∷ [] ∷ s ∷ []) ≡ true = rw (code-fits, component-fits d pd ld, none-fits, component-fits s ps ls) in
       let q : all (quiet 39) (oneElement e₁) ≡ true = string-quiet d s pd ps 39 refl refl (no-quote d pd) (no-quote s ps) in
@@ -84,13 +83,12 @@ module _ (d w : List ℕ) (pd : all numeric d ≡ true) (pw : all numeric w ≡ 
   e₂ = withoutString d
 
   week-permitted : all permittedOf (twoElements e₂ w) ≡ true
-  unfolding permittedOf bytes
+  unfolding permittedOf
   week-permitted =
       all-append permittedOf (80 ∷ 79 ∷ 80 ∷ 43 ∷ 50 ∷ 55 ∷ 51 ∷ 58 ∷ []) (d ++ (43 ∷ w)) refl
       (all-append permittedOf d (43 ∷ w) (all-permitted d pd) (all-append permittedOf (43 ∷ []) w refl (all-permitted w pw)))
 
   pub week-parts : Parts (twoElements e₂ w) d [] w
-  unfolding bytes
   week-parts =
       let f : all componentFits (code ∷ d ∷ []) ≡ true = rw (code-fits, component-fits d pd ld) in
       let k : all componentFits (w ∷ []) ≡ true = rw (component-fits w pw lw) in

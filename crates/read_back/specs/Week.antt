@@ -127,7 +127,7 @@ module _ (c : List ℕ) (first last : Date) (good : goodCalendar c first last �
   weekBody = twoElements (withoutString (dates first last)) names
 
   week-text : weekdayText c first last ≡ weekBody ++ (39 ∷ [])
-  unfolding namedText start dateText bytes
+  unfolding namedText start dateText
   week-text =
       sym (ap (λ (l : List ℕ). 80 ∷ 79 ∷ 80 ∷ 43 ∷ 50 ∷ 55 ∷ 51 ∷ 58 ∷ l) (append-assoc (dates first last) (43 ∷ names) (39 ∷ [])))
 

@@ -145,7 +145,7 @@ module _ (c : List ℕ) (first last : Date) (good : goodCalendar c first last �
   stringBody = oneElement (withString (dates first last) string)
 
   string-text : dayStringText c first last (dayCount first last) ≡ stringBody ++ (39 ∷ [])
-  unfolding dayStringText start dateText dayCharacters bytes
+  unfolding dayStringText start dateText dayCharacters
   string-text =
       sym (ap (λ (l : List ℕ). 80 ∷ 79 ∷ 80 ∷ 43 ∷ 50 ∷ 55 ∷ 51 ∷ 58 ∷ l) (append-assoc (dates first last) (58 ∷ 58 ∷ string) (39 ∷ [])))
 

@@ -27,7 +27,6 @@ module _ (e : tie.After-equals) where
   y = e .before .before .before .before .args .second
 
   code : sameText (plain (textIn list x 1)) (bytes "273") ≡ e .equals .result
-  unfolding bytes
   code = sym (e .equals .ensures ∙ ap (λ (t : List ℕ). sameText (plain t) (bytes "273")) (e .before .before .text-in .ensures))
 
 text-in-requires : tie.Need-text-in-requires
