@@ -6,3 +6,4 @@ pub mod Union
 pub mod Bytes
 pub mod Eights
 pub mod Places
+pub mod Weekdays

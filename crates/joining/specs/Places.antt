@@ -49,7 +49,7 @@ text-plain p c at n e f l =
     ∙ ap (marked (λ (k : ℕ). eqb (getD (plain p) k 0) 49) c at 0) f
 
 -- a piece after the first that has bytes: the first ends before the text does, and the others are those of what follows it
-there : (l : List ℕ) (k : ℕ) → 1 ≤ length (getD (laterPieces 58 false l) k [])
+pub there : (l : List ℕ) (k : ℕ) → 1 ≤ length (getD (laterPieces 58 false l) k [])
     → (length (firstPiece 58 false l) < length l) × (laterPieces 58 false l ≡ pieces 58 (drop (length (firstPiece 58 false l) + 1) l))
 there l k h =
     elim (decLt (length (firstPiece 58 false l)) (length l)) [
@@ -119,7 +119,7 @@ tag-begins g h a b c d =
 
 module _ (r : List ℕ) where
   -- the first occurrence of the first element behind a tag and its mark
-  abbrev element : List ℕ
+  abbrev pub element : List ℕ
   element = firstPiece 42 false (firstPiece 43 false r)
 
   place-in : (n : ℕ) → 1 ≤ n → 3 ≤ length (nth (components element) 1) → 21 ≤ length (nth (components element) 2) → n ≤ length (nth (components element) 4)
@@ -137,7 +137,7 @@ module _ (r : List ℕ) where
       let z : element ≡ r = whole-first 42 (firstPiece 43 false r) (omega arith) ∙ whole-first 43 r (omega arith) in
       sym (o .is ∙ whole-first 58 (drop (o .start) element) (omega arith) ∙ ap (λ (x : ℕ). drop x element) k ∙ ap (drop 27) z)
 
-element-cut : (r : List ℕ) (m : ℕ) → partOf (bytes "POP+" ++ r) 1 1 m ≡ nth (components (element r)) m
+pub element-cut : (r : List ℕ) (m : ℕ) → partOf (bytes "POP+" ++ r) 1 1 m ≡ nth (components (element r)) m
 unfolding partOf laterPieces
 element-cut r m = refl
 
@@ -187,14 +187,17 @@ module _ (g : List ℕ) (f n : ℕ) {form : Form} (e : periodOf g ≡ Good f n f
   unfolding restGood
   qualifier-length = same-length (qualifier g) (50 ∷ 55 ∷ 51 ∷ []) (both-parts _ _ (good-told g f n form e .rest) .0)
 
+  pub qualifier-bytes : 3 ≤ length (partOf g 1 1 1)
+  qualifier-bytes = omega (arith, qualifier-length, plain-shorter false (partOf g 1 1 1))
+
+  pub dates-bytes : 21 ≤ length (partOf g 1 1 2)
+  dates-bytes = omega (arith, dates-length, plain-shorter false (partOf g 1 1 2))
+
   pub spoken : form ≡ ByString → Spoken g n
   spoken b =
-      let q = qualifier-length in
-      let d = dates-length in
-      let u = plain-shorter false (partOf g 1 1 1) in
-      let v = plain-shorter false (partOf g 1 1 2) in
       let o = form-told n (dayText g) (weekText g) form (good-told g f n form e .told) in
-      record { some = good-bounds g f n form e .some; few = good-bounds g f n form e .few; qualified = omega arith; dated = omega arith; told = string-given n (dayText g) (weekText g) (o .is ∙ b) (o .fits) }
+      let k = good-bounds g f n form e in
+      record { some = k .some; few = k .few; qualified = qualifier-bytes; dated = dates-bytes; told = string-given n (dayText g) (weekText g) (o .is ∙ b) (o .fits) }
 
 -- all of a list
 pub bytes-all : (g : List ℕ) → bytesOf g (record { from = 0; to = length g }) ≡ g

@@ -16,17 +16,18 @@ ghost use mathlib.Core.Path.{_≡_};
 ghost use mathlib.Core.Bool.{true};
 ghost use Prim.Native.Nat.{ℕ, _+_, _*_, _%_, _≤_, _<_, min};
 ghost use lib.Dec.{eqb};
-ghost use lib.ListN.{length, getD};
+ghost use lib.ListN.{length, getD, drop};
 ghost use Rattle.laws.specs.Choice.{pick};
 ghost use Rattle.syntax.specs.Bytes.{plain};
 ghost use Rattle.syntax.specs.Pieces.{partOf};
 ghost use Rattle.parts.specs.Places.{bytesOf};
 ghost use Rattle.dates.specs.Days.{weekdayOf};
 ghost use Rattle.calendar.specs.Days.{hasBit, withDay};
-ghost use Rattle.period.specs.Period.{runsBy, periodOf};
+ghost use Rattle.period.specs.Period.{weekText, runsBy, periodOf};
 ghost use Rattle.period.specs.declared.Period.the-variants.{Good};
 ghost use Rattle.joining.specs.Joined.{marked, weekBits, inWindow, windowAnswer, windowDays, answered, daysJoined, joinedAnswer, joinAnswer};
 ghost use Rattle.joining.specs.Places.{Tagged, Spoken};
+ghost use Rattle.joining.specs.Weekdays.{plainWeek, Dated, Marked};
 
 /// What came of joining a period.
 pub enum Joined {
@@ -235,6 +236,57 @@ fn string_of(g: &[u8], n: usize) -> &[u8]
     &g[31..]
 }
 
+// Whether a mark stands behind `POP+` and 25 bytes more.
+fn is_marked(g: &[u8]) -> bool
+    ensures { λ r. ⌜ (r ≡ true → Marked (now (g .entry))) ⌝ }
+{
+    if g.len() < 31 {
+        return false;
+    }
+    if g[28] == b'?' {
+        return false;
+    }
+    if g[29] != b'+' {
+        return false;
+    }
+    is_tagged(g)
+}
+
+// The weekdays that the bytes from an index on name, as bits; none where one of the bytes is no weekday.
+fn plain_week(g: &[u8], from: usize) -> u8
+    ensures { λ r. ⌜ r ≡ plainWeek 0 (drop from (now (g .entry))) ⌝ }
+{
+    let mut week = 0u8;
+    let mut i = from;
+    while i < g.len() {
+        let b = g[i];
+        if b < b'1' {
+            return 0;
+        }
+        if b'7' < b {
+            return 0;
+        }
+        week = with_bit(week, b as usize);
+        i += 1;
+    }
+    week
+}
+
+// The weekdays of a POP whose period is good. Its first element has at least 25 bytes, so a mark behind so many ends it.
+fn week_in(g: &[u8]) -> u8
+    requires { ⌜ Dated (now g) ⌝ }
+    ensures { λ r. ⌜ r ≡ weekBits 0 (weekText (now (g .entry))) ⌝ }
+{
+    if !is_marked(g) {
+        return week_of(part_in(g, 2, 1));
+    }
+    let week = plain_week(g, 30);
+    if week == 0 {
+        return week_of(part_in(g, 2, 1));
+    }
+    week
+}
+
 // Selects the days of a period that run; its first day is at an index of the calendar.
 fn mark_form(days: &mut [u8], at: usize, g: &[u8], first: usize, n: usize, form: Form)
     requires { ⌜ (at + n ≤ 8 * length (now days)) × (at + n ≤ 65536) × (periodOf (now g) ≡ Good first n form) ⌝ }
@@ -248,7 +300,7 @@ fn mark_form(days: &mut [u8], at: usize, g: &[u8], first: usize, n: usize, form:
             mark_string(days, at, string_of(g, n), n);
         }
         Form::ByWeekdays => {
-            mark_weekdays(days, at, first, n, week_of(part_in(g, 2, 1)));
+            mark_weekdays(days, at, first, n, week_in(g));
         }
     }
 }

@@ -1,6 +1,6 @@
 -- `mark_form` meets its contract.
 -- Assumes nothing.
-use mathlib.Core.Path.{ap, _∙_}
+use mathlib.Core.Path.{refl, ap, _∙_}
 use mathlib.Core.List.{List}
 use Prim.Native.Nat.{ℕ, _+_, _*_, _≤_}
 use native.Mathlib.Omega.{arith}
@@ -10,7 +10,7 @@ use lib.ListN.{length}
 use Rattle.syntax.specs.Bytes.{plain}
 use Rattle.period.specs.Facts.{good-bounds, good-rising}
 use Rattle.joining.specs.Weeks.{marked-every, marked-week, marked-string}
-use Rattle.joining.specs.Places.{spoken}
+use Rattle.joining.specs.Places.{qualifier-bytes, dates-bytes, spoken}
 use Rattle.joining.proofs.mark_form.Statement.{statement}
 use Rattle.joining.proofs.mark_form.Tie as tie
 
@@ -44,14 +44,14 @@ mark-string-requires c κs =
 enum-told-3 : tie.Need-enum-told-3
 enum-told-3 c = search needs
 
-part-in-requires : tie.Need-part-in-requires
-part-in-requires c κs = search needs
-
-week-of-requires : tie.Need-week-of-requires
-week-of-requires c κs = search needs
+week-in-requires : tie.Need-week-in-requires
+week-in-requires c κs =
+    let s = c .before .before .before .before .before in
+    let a = s .args in
+    record { qualified = qualifier-bytes (now (a .g)) (a .first) (a .n) (s .pre .2); dated = dates-bytes (now (a .g)) (a .first) (a .n) (s .pre .2) }
 
 mark-weekdays-requires-2 : tie.Need-mark-weekdays-requires-2
-mark-weekdays-requires-2 c κs = bounded (c .before .before .before .before .before .before .before)
+mark-weekdays-requires-2 c κs = bounded (c .before .before .before .before .before .before)
 
 same-length : tie.Need-same-length
 same-length c = search needs
@@ -74,10 +74,10 @@ same-length-3 c = search needs
 
 returns-3 : tie.Need-returns-3
 returns-3 c =
-    let s = c .before .before .before .before .before .before .before .before .before .before in
+    let s = c .before .before .before .before .before .before .before .before .before in
     let a = s .args in
     let r = good-rising (now (a .g)) (a .first) (a .n) (a .form) (s .pre .2) in
-    marked-week (now (a .g)) (now (a .days)) (a .at) (a .first) (a .n) r (c .before .before .before .before .before .before .enum-told3 .given .1) (c .before .before .before .before .part-in .ensures) (c .before .before .before .week-of .ensures) (c .before .before .mark-weekdays2 .ensures)
+    marked-week (now (a .g)) (now (a .days)) (a .at) (a .first) (a .n) r (c .before .before .before .before .before .enum-told3 .given .1) refl (c .before .before .before .week-in .ensures) (c .before .before .mark-weekdays2 .ensures)
 
 pub mark-form-spec : {M : Type 1} → statement M
-mark-form-spec = tie.close (tie.spec enum-told mark-weekdays-requires enum-told-2 string-of-requires mark-string-requires enum-told-3 part-in-requires week-of-requires mark-weekdays-requires-2 same-length returns same-length-2 returns-2 same-length-3 returns-3)
+mark-form-spec = tie.close (tie.spec enum-told mark-weekdays-requires enum-told-2 string-of-requires mark-string-requires enum-told-3 week-in-requires mark-weekdays-requires-2 same-length returns same-length-2 returns-2 same-length-3 returns-3)
