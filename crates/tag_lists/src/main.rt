@@ -13,6 +13,8 @@ use lines::say;
 use lines::say_line;
 use lines::say_number;
 use messages::MessageType;
+use messages::UIH;
+use messages::UIT;
 use placing::Place;
 use placing::Stepped;
 use placing::tables::table_of;
@@ -28,7 +30,7 @@ enum Run {
 fn made_up() -> [[u32; 8]; 8] {
     [
         // UIH M 1
-        [10, 0x554948, 1, 1, 0, 0, 0, 0],
+        [10, UIH, 1, 1, 0, 0, 0, 0],
         // Segment group 1 C 2
         [20, 0, 0, 2, 1, 0, 4, 0],
         // AAA M 1
@@ -42,7 +44,7 @@ fn made_up() -> [[u32; 8]; 8] {
         // AAA C 1
         [70, 0x414141, 0, 1, 0, 0, 0, 0],
         // UIT M 1
-        [80, 0x554954, 1, 1, 0, 0, 0, 0],
+        [80, UIT, 1, 1, 0, 0, 0, 0],
     ]
 }
 
