@@ -182,7 +182,7 @@ pub fn remove_all(room: &mut [u8], s: &[u8], rows: &[u32], n: usize)
         match next_service(s, rows, n, i) {
             Found::At(service) => {
                 remove_one(room, s, service);
-                i = service.from + 1;
+                i = service.to;
             }
             Found::NoMore => {
                 return;
@@ -200,7 +200,7 @@ pub fn put_all(room: &mut [u8], first: usize, s: &[u8], rows: &[u32], n: usize)
         match next_service(s, rows, n, i) {
             Found::At(service) => {
                 put_one(room, first, s, rows, service);
-                i = service.from + 1;
+                i = service.to;
             }
             Found::NoMore => {
                 return;

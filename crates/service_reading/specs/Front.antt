@@ -13,9 +13,10 @@ use Rattle.answers.specs.Answers.{Answer, done, refused}
 use Rattle.parts.specs.Places.{bytesOf}
 use Rattle.messages.specs.Tags.{PRD, MSD, POP, UIT}
 use Rattle.services.specs.declared.Service.{Service}
-use Rattle.services.specs.Rows.{offsetAt, isRow, rowCount, firstIn, firstFrom, listOf, first-bounds}
+use Rattle.services.specs.Rows.{offsetAt, isRow, rowCount, firstIn, firstFrom, listOf}
+use Rattle.services.specs.Search.{first-bounds}
 use Rattle.services.specs.Services.{isService, isPeriodRow, serviceEnd, removes, serviceAt, nextService, nextPeriod, hasPeriod, isWrong, isSameService, isTwice, testedOf, afterTest, countOn, countedOf}
-use Rattle.services.specs.Laws.{service-rows}
+use Rattle.services.specs.Ways.{service-rows}
 
 -- two tests that agree from i on and below n
 abbrev Agree : (ℕ → Bool) → (ℕ → Bool) → ℕ → ℕ → Type 0

@@ -1,3 +1,4 @@
 pub mod Tests
 pub mod Passed
+pub mod Marks
 pub mod Ways

@@ -44,8 +44,17 @@ drops false k = 0
 drops true known.Nothing = 0
 drops true (known.Record live removal) = pick live 0 1
 
+abbrev pub removals : Bool → ℕ
+removals removal = pick removal 1 0
+
 abbrev pub counted : Bool → Known → Totals → Totals
-counted removal k t = record { services = t .services + 1; added = t .added + adds removal k; dropped = t .dropped + drops removal k }
+counted removal k t =
+    record {
+      services = t .services + 1;
+      added = t .added + adds removal k;
+      dropped = t .dropped + drops removal k;
+      removals = t .removals + removals removal;
+    }
 
 -- 14, then the service counts
 unfoldable pub testKnown : Bool → ℕ → Known → Totals → Answer Totals
@@ -72,4 +81,4 @@ testAll first s rows look [] t = done t
 testAll first s rows look (v ∷ vs) t = thenTest (testAll first s rows look vs) (testOne first s rows look v t)
 
 abbrev pub noTotals : Totals
-noTotals = record { services = 0; added = 0; dropped = 0 }
+noTotals = record { services = 0; added = 0; dropped = 0; removals = 0 }

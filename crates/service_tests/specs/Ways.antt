@@ -24,7 +24,7 @@ use Rattle.service_tests.specs.declared.Totals.{Totals}
 use Rattle.service_entries.specs.declared.Known.{Known}
 use Rattle.service_entries.specs.declared.Known.the-variants as known
 use Rattle.stages.specs.Stage.{numberIn, outsideBy, firstOutside}
-use Rattle.service_tests.specs.Tests.{unknownBy, adds, drops, testKnown, testOne, testAll}
+use Rattle.service_tests.specs.Tests.{unknownBy, adds, drops, removals, testKnown, testOne, testAll}
 use Rattle.service_tests.specs.Passed.{refused-again, passed}
 
 -- ---- periods and their window
@@ -68,10 +68,10 @@ module _ (removal : Bool) (prd : ℕ) (k : Known) (t : Totals) where
     unfolding testKnown
     known-refused p = rw (← e, ← q, p)
 
-    pub known-counted : b ≡ false → (a d : ℕ) → a ≡ adds removal h → d ≡ drops removal h
-        → done (record { services = t .services + 1; added = t .added + a; dropped = t .dropped + d }) ≡ testKnown removal prd k t
+    pub known-counted : b ≡ false → (a d m : ℕ) → a ≡ adds removal h → d ≡ drops removal h → m ≡ removals removal
+        → done (record { services = t .services + 1; added = t .added + a; dropped = t .dropped + d; removals = t .removals + m }) ≡ testKnown removal prd k t
     unfolding testKnown
-    known-counted p a d x y = rw (← e, ← q, p, x, y)
+    known-counted p a d m x y z = rw (← e, ← q, p, x, y, z)
 
 -- what a record that is held makes of the counts
 module _ (removal : Bool) (h : Known) where
@@ -148,18 +148,24 @@ drops-few true known.Nothing = omega arith
 drops-few true (known.Record true removal) = omega arith
 drops-few true (known.Record false removal) = omega arith
 
+removals-few : (removal : Bool) → removals removal ≤ 1
+removals-few true = omega arith
+removals-few false = omega arith
+
 module _ (first : ℕ) (s rows : List ℕ) (look : List ℕ → Known) where
   -- a service more is counted, and at most one record more
   pub one-more : (v : Service) (t u : Totals) → done u ≡ testOne first s rows look v t
-      → (u .services ≡ t .services + 1) × (u .added ≤ t .added + 1) × (u .dropped ≤ t .dropped + 1)
+      → (u .services ≡ t .services + 1) × (u .added ≤ t .added + 1) × (u .dropped ≤ t .dropped + 1) × (u .removals ≤ t .removals + 1)
   one-more v t u q =
       let e = passed first s rows look v t u (sym q) .1 in
       let a = adds-few (v .removal) (look (numberIn s v)) in
       let d = drops-few (v .removal) (look (numberIn s v)) in
+      let m = removals-few (v .removal) in
+      let o = ap (λ (w : Totals). w .removals) e in
       let x = ap (λ (w : Totals). w .services) e in
       let y = ap (λ (w : Totals). w .added) e in
       let z = ap (λ (w : Totals). w .dropped) e in
-      (x, omega arith, omega arith)
+      (x, omega arith, omega arith, omega arith)
 
   module _ (l : List Service) (t : Totals) where
     pub all-done : l ≡ [] → done t ≡ testAll first s rows look l t

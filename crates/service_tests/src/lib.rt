@@ -1,5 +1,10 @@
 //! The tests of the services, against the room as it stands before the first of them enters.
 
+mod numbers;
+
+use crate::numbers::mark_of;
+use crate::numbers::set_mark;
+use parts::bytes_of;
 use period::Period;
 use period::read_period;
 use service_entries::Known;
@@ -7,6 +12,7 @@ use service_entries::held;
 use services::Found;
 use services::FoundPeriod;
 use services::Service;
+use services::is_wrong;
 use services::next_period;
 use services::next_service;
 use services::segment_at;
@@ -19,10 +25,13 @@ ghost use Rattle.laws.specs.Choice.{both};
 ghost use Rattle.syntax.specs.Segment.{bodyAt};
 ghost use Rattle.period.specs.Period.{periodOf};
 ghost use Rattle.joining.specs.Joined.{inWindow};
-ghost use Rattle.answers.specs.Answers.{refused};
+ghost use lib.ListN.{set};
+ghost use Rattle.answers.specs.Answers.{done, refused};
+ghost use Rattle.services.specs.Services as services;
 ghost use Rattle.services.specs.Services.{periodsFrom, servicesOf};
 ghost use Rattle.stages.specs.Stage.{numberIn, outsideBy, firstOutside};
-ghost use Rattle.service_tests.specs.Tests.{windowFound, totalsAnswer, unknownBy, adds, drops, testKnown, testOne, testAll, noTotals};
+ghost use Rattle.service_tests.specs.Tests.{windowFound, totalsAnswer, unknownBy, adds, drops, removals, testKnown, testOne, testAll, noTotals};
+ghost use Rattle.service_tests.specs.Marks.{markOf, Marked};
 ghost use Rattle.service_entries.specs.Room.{lookAt};
 
 /// What the services of an interchange come to.
@@ -33,6 +42,8 @@ pub struct Totals {
     pub added: usize,
     /// How many records they drop.
     pub dropped: usize,
+    /// How many of them are removals.
+    pub removals: usize,
 }
 
 /// What the tests of the services come to.
@@ -123,6 +134,13 @@ fn dropped_by(removal: bool, held: Known) -> usize
     }
 }
 
+// How many removals a service is.
+fn removals_by(removal: bool) -> usize
+    ensures { λ r. ⌜ (r ≡ removals removal) × (r ≤ 1) ⌝ }
+{
+    if removal { 1 } else { 0 }
+}
+
 // 14: whether a service removes a number of which an account holds no record, or whose removal is pending.
 fn is_unknown(removal: bool, held: Known) -> bool
     ensures { λ r. ⌜ r ≡ both removal (unknownBy held) ⌝ }
@@ -135,7 +153,7 @@ fn is_unknown(removal: bool, held: Known) -> bool
 
 // Tests a service for 14, and counts it.
 fn test_known(room: &[u8], s: &[u8], service: Service, totals: Totals) -> Tested
-    requires { ⌜ (totals .services < 18446744073709551615) × (totals .added < 18446744073709551615) × (totals .dropped < 18446744073709551615) ⌝ }
+    requires { ⌜ (totals .services < 18446744073709551615) × (totals .added < 18446744073709551615) × (totals .dropped < 18446744073709551615) × (totals .removals < 18446744073709551615) ⌝ }
     ensures { λ r. ⌜ totalsAnswer r ≡ testKnown (service .removal) (service .prd) (lookAt (now (room .entry)) (numberIn (now (s .entry)) service)) totals ⌝ }
 {
     let number = service.number;
@@ -147,10 +165,31 @@ fn test_known(room: &[u8], s: &[u8], service: Service, totals: Totals) -> Tested
         services: totals.services + 1,
         added: totals.added + added_by(service.removal, known),
         dropped: totals.dropped + dropped_by(service.removal, known),
+        removals: totals.removals + removals_by(service.removal),
     })
 }
 
-// Tests a service for 11, 12, 13 and 14, and counts it.
+// Tests a service for 11, then for 12: `marks` has the marks of the numbers before it, and then its own too. A number whose mark is new is
+// that of no service before it, so that few are compared.
+fn test_number(marks: &mut [u8], s: &[u8], rows: &[u32], service: Service) -> services::Tested
+    requires { ⌜ Marked (now marks) (now s) (now rows) (service .from) ⌝ }
+    ensures told { λ r. ⌜ services.testedAnswer r ≡ services.testedOf (now (s .entry)) (now (rows .entry)) service ⌝ }
+    ensures left { λ _. ⌜ now (marks .exit) ≡ set (now (marks .entry)) (markOf (numberIn (now (s .entry)) service)) 1 ⌝ }
+{
+    let number = service.number;
+    if set_mark(marks, mark_of(bytes_of(s, number))) {
+        return test_service(s, rows, service);
+    }
+    if is_wrong(s, rows, service) {
+        return services::Tested::Refused(Refusal {
+            number: 11,
+            position: service.prd,
+        });
+    }
+    services::Tested::Good
+}
+
+// Tests a service that passes 11 and 12 for 13 and 14, and counts it.
 fn test_one(
     room: &[u8],
     first: usize,
@@ -159,15 +198,12 @@ fn test_one(
     service: Service,
     totals: Totals,
 ) -> Tested
-    requires { ⌜ (totals .services < 18446744073709551615) × (totals .added < 18446744073709551615) × (totals .dropped < 18446744073709551615) ⌝ }
+    requires { ⌜ (services.testedOf (now s) (now rows) service ≡ done tt) × (totals .services < 18446744073709551615) × (totals .added < 18446744073709551615) × (totals .dropped < 18446744073709551615) × (totals .removals < 18446744073709551615) ⌝ }
     ensures { λ r. ⌜ totalsAnswer r ≡ testOne first (now (s .entry)) (now (rows .entry)) (lookAt (now (room .entry))) service totals ⌝ }
 {
-    match test_service(s, rows, service) {
-        services::Tested::Good => match test_window(first, s, rows, service.from, service.to) {
-            Window::Inside => test_known(room, s, service, totals),
-            Window::Outside(at) => refuse(13, at),
-        },
-        services::Tested::Refused(refusal) => Tested::Refused(refusal),
+    match test_window(first, s, rows, service.from, service.to) {
+        Window::Inside => test_known(room, s, service, totals),
+        Window::Outside(at) => refuse(13, at),
     }
 }
 
@@ -175,20 +211,27 @@ fn test_one(
 pub fn test_all(room: &[u8], first: usize, s: &[u8], rows: &[u32], n: usize) -> Tested
     ensures { λ r. ⌜ totalsAnswer r ≡ testAll first (now (s .entry)) (now (rows .entry)) (lookAt (now (room .entry))) (servicesOf (now (s .entry)) (now (rows .entry)) n) noTotals ⌝ }
 {
+    let mut marks = [0u8; 16384];
     let mut i = 0;
     let mut totals = Totals {
         services: 0,
         added: 0,
         dropped: 0,
+        removals: 0,
     };
     loop {
         match next_service(s, rows, n, i) {
-            Found::At(service) => match test_one(room, first, s, rows, service, totals) {
-                Tested::Passed(more) => {
-                    i = service.from + 1;
-                    totals = more;
-                }
-                Tested::Refused(refusal) => {
+            Found::At(service) => match test_number(&mut marks, s, rows, service) {
+                services::Tested::Good => match test_one(room, first, s, rows, service, totals) {
+                    Tested::Passed(more) => {
+                        i = service.to;
+                        totals = more;
+                    }
+                    Tested::Refused(refusal) => {
+                        return Tested::Refused(refusal);
+                    }
+                },
+                services::Tested::Refused(refusal) => {
                     return Tested::Refused(refusal);
                 }
             },

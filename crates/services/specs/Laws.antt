@@ -1,6 +1,6 @@
 -- What callers cite of the services and of their tests.
 -- Assumes nothing.
-use Prim.Native.Nat.{ℕ, _+_, _-_, _≤_, _<_}
+use Prim.Native.Nat.{ℕ, _-_, _≤_, _<_}
 use mathlib.Core.Path.{_≡_, refl, ap, _∙_}
 use mathlib.Core.Bool.{Bool, true, false}
 use mathlib.Core.List.{List, []}
@@ -9,7 +9,6 @@ use borrow.Author.Tests.{leb-true, not-false, not-true}
 use lib.Dec.{leb}
 use lib.ListN.{length}
 use Rattle.laws.specs.Choice.{both, both-parts, choose}
-use Rattle.messages.specs.Tags.{UIT}
 use Rattle.answers.specs.Answers.{Answer, done, refused}
 use Rattle.answers.specs.Laws.{refused≢done, one-case}
 use Rattle.syntax.specs.Bytes.{plain}
@@ -23,28 +22,20 @@ use Rattle.services.specs.declared.Tested.{Tested}
 use Rattle.services.specs.declared.Tested.the-variants.{Good, Refused}
 use Rattle.services.specs.declared.Counted.{Counted}
 use Rattle.services.specs.declared.Counted.the-variants as counted
-use Rattle.services.specs.Rows.{isRow, rowCount, firstFrom, first-bounds, some-none}
-use Rattle.services.specs.Marks.{body-end}
-use Rattle.services.specs.Services.{isService, segmentOf, serviceEnd, serviceNumber, numberFits, periodsFit, hasPeriod, periodsOf, isWrong, isSameService, isTwice, testedOf, testedAnswer, countedAnswer}
+use Rattle.services.specs.Rows.{rowCount}
+use Rattle.services.specs.Search.{some-none}
+use Rattle.services.specs.Services.{segmentOf, serviceNumber, numberFits, periodsFit, hasPeriod, periodsOf, isWrong, isSameService, isTwice, testedOf, testedAnswer, countedAnswer}
 use Rattle.services.specs.Ways.{segment-bytes, has-none}
 
 -- the bytes of a number are the first component of the first occurrence of the PRD's first element
 pub number-part : (s : List ℕ) (at : ℕ) → bytesOf s (serviceNumber s at) ≡ partOf (bodyAt s at) 1 1 1
 unfolding serviceNumber
 number-part s at =
-    part-bytes s (segmentOf s at) 1 1 1 ∙ ap (λ (y : List ℕ). partOf y 1 1 1) (segment-bytes s at (at + length (bodyAt s at)) (body-end s at))
+    part-bytes s (segmentOf s at) 1 1 1 ∙ ap (λ (y : List ℕ). partOf y 1 1 1) (segment-bytes s at)
 
 -- the bytes of a segment that was found
 pub segment-body : (s : List ℕ) (at : ℕ) (p : Part) → p ≡ segmentOf s at → bytesOf s p ≡ bodyAt s at
-segment-body s at p q = ap (bytesOf s) q ∙ segment-bytes s at (at + length (bodyAt s at)) (body-end s at)
-
--- a service has its PRD's row at least, and its rows are among the n
-pub service-rows : (rows : List ℕ) (n k : ℕ) → k < n → (k < serviceEnd rows n k) × (serviceEnd rows n k ≤ n)
-service-rows rows n k h =
-    let m = firstFrom (isService rows) (k + 1) n in
-    let a = first-bounds (isService rows) (n - (k + 1)) (k + 1) in
-    let b = first-bounds (isRow rows 0 UIT) (m - (k + 1)) (k + 1) in
-    (omega arith, omega arith)
+segment-body s at p q = ap (bytesOf s) q ∙ segment-bytes s at
 
 -- what a good service is
 pub record Fine (s rows : List ℕ) (v : Service) : Type 0 where

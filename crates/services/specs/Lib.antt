@@ -1,7 +1,7 @@
 pub mod Rows
-pub mod Marks
-pub mod Same
 pub mod Services
+pub mod Search
+pub mod Extents
 pub mod Ways
 pub mod Laws
 pub mod Tables

@@ -2,11 +2,13 @@
 -- s is the interchange, rows the buffer with the rows of its reading.
 -- Assumes nothing.
 use Prim.Native.Nat.{ℕ, _+_}
+use Prim.Native.String.{String}
 use mathlib.Core.Bool.{Bool, not}
 use mathlib.Core.List.{List, [], _∷_}
 use lib.Dec.{ltb, leb}
 use lib.ListN.{length}
 use Rattle.laws.specs.Choice.{pick, both}
+use Rattle.laws.specs.Text.{bytes}
 use Rattle.answers.specs.Answers.{Answer, done, refused, wrongService, numberTwice}
 use Rattle.syntax.specs.Bytes.{plain}
 use Rattle.syntax.specs.Segment.{bodyAt}
@@ -44,7 +46,7 @@ unfoldable pub serviceNumber : List ℕ → ℕ → Part
 serviceNumber s at = partAt s (segmentOf s at) 1 1 1
 
 unfoldable pub saysRemoval : List ℕ → ℕ → Bool
-saysRemoval s at = sameText (plain (partOf (bodyAt s at) 1 1 2)) (53 ∷ 54 ∷ [])
+saysRemoval s at = sameText (plain (partOf (bodyAt s at) 1 1 2)) (bytes "56")
 
 -- a service's rows go on to the next service, or to the UIT of its message
 abbrev pub serviceEnd : List ℕ → ℕ → ℕ → ℕ

@@ -5,82 +5,80 @@ use mathlib.Core.Path.{_≡_, refl, sym, ap, subst, _∙_}
 use mathlib.Core.Bool.{Bool, true, false, not}
 use mathlib.Core.List.{List, [], _∷_}
 use native.Mathlib.Omega.{arith}
-use native.Mathlib.Decide.{decLt}
-use borrow.Author.Tests.{eqb-true, eq-eqb, lt-ltb, le-ltb, le-leb, lt-leb, ltb-true, ltb-false}
+use borrow.Author.Tests.{eq-eqb, ne-eqb, lt-ltb, le-ltb, le-leb, lt-leb, ltb-true, ltb-false}
 use lib.Dec.{eqb, ltb}
-use lib.ListN.{length, getD, drop, List·getD-eq-default}
-use Rattle.laws.specs.Choice.{false≢true, choose}
-use Rattle.laws.specs.Lists.{drop-past}
+use lib.ListN.{length, getD, drop}
+use Rattle.laws.specs.Choice.{both-parts, choose}
+use Rattle.laws.specs.Lists.{drop-here, drop-past}
+use Rattle.laws.specs.Text.{bytes}
 use Rattle.answers.specs.Answers.{done, refused, wrongService, numberTwice}
 use Rattle.syntax.specs.declared.segment.Refusal.{Refusal}
-use Rattle.syntax.specs.Bytes.{plain}
-use Rattle.syntax.specs.Pieces.{partOf}
-use Rattle.syntax.specs.Segment.{bodyAt}
+use Rattle.syntax.specs.declared.segment.Scanned.the-variants.{End}
+use Rattle.syntax.specs.Bytes.{terminator, releaseMark, plain}
+use Rattle.syntax.specs.Pieces.{firstPiece, partOf}
+use Rattle.syntax.specs.Firsts.{first-take}
+use Rattle.syntax.specs.Segment.{bodyAt, segmentAt}
+use Rattle.syntax.specs.Ends.{ended}
 use Rattle.parts.specs.declared.Part.{Part}
-use Rattle.parts.specs.Places.{absent, bytesOf, partAt}
+use Rattle.parts.specs.Places.{bytesOf, partAt}
 use Rattle.parts.specs.Located.{part-bytes}
 use Rattle.values.specs.Values.{sameText}
-use Rattle.messages.specs.Tags.{PRD, MSD, UIT}
+use Rattle.messages.specs.Tags.{MSD, UIT}
 use Rattle.services.specs.declared.Service.{Service}
 use Rattle.services.specs.declared.Found.the-variants as found
 use Rattle.services.specs.declared.FoundPeriod.the-variants as period
-use Rattle.services.specs.Rows.{offsetAt, isRow, rowCount, firstFrom, first-past, first-here, first-bounds, list-none, list-some}
-use Rattle.services.specs.Marks.{endsSegment, endsElement, endsComponent, firstBy, stopOf, by-between, first-by, body-end, part-none, part-past, part-some}
-use Rattle.services.specs.Same.{startOf}
-use Rattle.services.specs.Services.{isService, isPeriodRow, segmentOf, serviceNumber, saysNumber, saysRemoval, removes, serviceAt, nextService, nextPeriod, hasPeriod, isWrong, isSameService, isTwice, testedOf, servicesFrom, periodsFrom, countOn, countedOf}
+use Rattle.services.specs.Rows.{offsetAt, isRow, rowCount, firstFrom}
+use Rattle.services.specs.Search.{first-past, first-here, first-on, first-bounds, first-skips, first-through, some-holds, list-none, list-some, list-skip}
+use Rattle.services.specs.Extents.{Reaches, reach-end, reach-removes}
+use Rattle.services.specs.Services.{isService, isPeriodRow, segmentOf, serviceNumber, saysNumber, saysRemoval, serviceEnd, removes, serviceAt, nextService, nextPeriod, hasPeriod, isWrong, isSameService, isTwice, testedOf, servicesFrom, periodsFrom, countOn, countedOf}
 
--- the bytes of a segment
-pub segment-bytes : (s : List ℕ) (at to : ℕ) → to ≡ stopOf endsSegment s at → bytesOf s (record { from = at; to = to }) ≡ bodyAt s at
-segment-bytes s at to q = rw q (by-between endsSegment s at ∙ sym (first-by 39 false (drop at s)))
+-- one byte of a segment at an index of the input
+module _ (s : List ℕ) (i : ℕ) where
+  pub body-past : (r : Bool) → length s ≤ i → length (firstPiece terminator r (drop i s)) ≡ 0
+  unfolding firstPiece
+  body-past r h = rw (drop-past s i h)
 
--- where it stands
-pub segment-found : (s : List ℕ) (at to : ℕ) → to ≡ stopOf endsSegment s at → record { from = at; to = to } ≡ segmentOf s at
-segment-found s at to q =
-    let e : to ≡ at + length (bodyAt s at) = q ∙ sym (body-end s at) in
-    ap (λ (x : ℕ). record { from = at; to = x }) e
+  module _ (h : i < length s) where
+    pub body-here : getD s i 0 ≡ terminator → length (firstPiece terminator false (drop i s)) ≡ 0
+    unfolding firstPiece
+    body-here q = rw (drop-here s i h, eq-eqb (getD s i 0) terminator q)
 
-pub removal-says : (s : List ℕ) (at to : ℕ) (p : Part) (t : List ℕ) (x : Bool) → to ≡ stopOf endsSegment s at → p ≡ partAt s (record { from = at; to = to }) 1 1 2 → t ≡ bytesOf s p
-    → x ≡ sameText (plain t) (53 ∷ 54 ∷ []) → x ≡ saysRemoval s at
-unfolding saysRemoval
-removal-says s at to p t x a b d e =
-    e
-    ∙ ap (λ (y : List ℕ). sameText (plain y) (53 ∷ 54 ∷ []))
-    (d ∙ ap (bytesOf s) b ∙ part-bytes s (record { from = at; to = to }) 1 1 2 ∙ ap (λ (y : List ℕ). partOf y 1 1 2) (segment-bytes s at to a))
+    pub body-released : i + length (firstPiece terminator true (drop i s)) ≡ i + 1 + length (firstPiece terminator false (drop (i + 1) s))
+    unfolding firstPiece
+    body-released = rw (drop-here s i h) (omega arith)
 
--- where a number stands
-module _ (s : List ℕ) (at e : ℕ) (q : e ≡ stopOf endsElement s at) where
-  pub number-none : (getD s e 0 ≡ 43 → ⊥) → absent ≡ serviceNumber s at
+    pub body-goes : (getD s i 0 ≡ terminator → ⊥) → i + length (firstPiece terminator false (drop i s)) ≡ i + 1 + length (firstPiece terminator (eqb (getD s i 0) releaseMark) (drop (i + 1) s))
+    unfolding firstPiece
+    body-goes q = rw (drop-here s i h, ne-eqb (getD s i 0) terminator q) (omega arith)
+
+-- where a segment stands
+pub segment-is : (s : List ℕ) (at to : ℕ) → to ≡ at + length (bodyAt s at) → record { from = at; to = to } ≡ segmentOf s at
+segment-is s at to q = ap (λ (x : ℕ). record { from = at; to = x }) q
+
+pub segment-whole : (s : List ℕ) (at to : ℕ) → segmentAt s at ≡ End to → record { from = at; to = to } ≡ segmentOf s at
+segment-whole s at to q = segment-is s at to (ended s at to q .place)
+
+-- and its bytes
+pub segment-bytes : (s : List ℕ) (at : ℕ) → bytesOf s (segmentOf s at) ≡ bodyAt s at
+segment-bytes s at =
+    let e : at + length (bodyAt s at) - at ≡ length (bodyAt s at) = omega arith in
+    rw e (sym (first-take terminator false (drop at s)))
+
+module _ (s : List ℕ) (at : ℕ) (g p : Part) (a : g ≡ segmentOf s at) where
+  pub number-is : p ≡ partAt s g 1 1 1 → p ≡ serviceNumber s at
   unfolding serviceNumber
-  number-none h = part-none s at e q h
+  number-is b = b ∙ ap (λ (x : Part). partAt s x 1 1 1) a
 
-  pub number-past : length s ≤ e → absent ≡ serviceNumber s at
-  unfolding serviceNumber
-  number-past h = part-past s at e q h
+  pub removal-says : p ≡ partAt s g 1 1 2 → (t : List ℕ) (x : Bool) → t ≡ bytesOf s p → x ≡ sameText (plain t) (53 ∷ 54 ∷ []) → x ≡ saysRemoval s at
+  unfolding saysRemoval
+  removal-says b t x d e =
+      e
+      ∙ ap (λ (y : List ℕ). sameText (plain y) (53 ∷ 54 ∷ []))
+      (d ∙ ap (bytesOf s) (b ∙ ap (λ (y : Part). partAt s y 1 1 2) a) ∙ part-bytes s (segmentOf s at) 1 1 2 ∙ ap (λ (y : List ℕ). partOf y 1 1 2) (segment-bytes s at))
 
-  pub number-some : (t : ℕ) → t ≡ stopOf endsComponent s (e + 1) → e < length s → getD s e 0 ≡ 43 → record { from = e + 1; to = t } ≡ serviceNumber s at
-  unfolding serviceNumber
-  number-some t w l h = part-some s at e q t w l h
-
--- its bytes stand from the first `+` on, up to the next mark
-pub number-bytes : (s : List ℕ) (at : ℕ) → bytesOf s (serviceNumber s at) ≡ firstBy endsComponent false (drop (startOf s at) s)
-unfolding startOf firstBy
-number-bytes s at =
-    let e = stopOf endsElement s at in
-    choose (eqb (getD s (stopOf endsElement s at) 0) 43)
-    (λ q.
-    elim (decLt (stopOf endsElement s at) (length s)) [
-      | yes l ↦ rw q (ap (bytesOf s) (sym (number-some s at e refl (stopOf endsComponent s (e + 1)) refl l (eqb-true (getD s e 0) 43 q))) ∙ by-between endsComponent s (e + 1))
-      | no l ↦
-          let z = List·getD-eq-default s 0 {n = e} (omega arith) in
-          let y = eqb-true (getD s e 0) 43 q in
-          absurd (omega arith)
-    ])
-    (λ q. rw (q, drop-past s (length s) (omega arith)) (ap (bytesOf s) (sym (number-none s at e refl (λ h. false≢true (sym q ∙ eq-eqb (getD s e 0) 43 h))))))
-
-pub number-says : (s : List ℕ) (at from : ℕ) (number : List ℕ) (x : Bool) → from ≡ startOf s at → x ≡ sameText (plain (firstBy endsComponent false (drop from s))) (plain number) → x ≡ saysNumber s at number
+pub number-says : (s : List ℕ) (at : ℕ) (number : List ℕ) (p : Part) (t : List ℕ) (x : Bool) → p ≡ serviceNumber s at → t ≡ bytesOf s p → x ≡ sameText (plain t) (plain number) → x ≡ saysNumber s at number
 unfolding saysNumber
-number-says s at from number x a e =
-    e ∙ ap (λ (y : List ℕ). sameText (plain y) (plain number)) (ap (λ (y : ℕ). firstBy endsComponent false (drop y s)) a ∙ sym (number-bytes s at))
+number-says s at number p t x a b e = e ∙ ap (λ (y : List ℕ). sameText (plain y) (plain number)) (b ∙ ap (bytesOf s) a)
 
 -- the first period
 module _ (rows : List ℕ) (i to n k : ℕ) (a : n ≡ rowCount rows to) (b : k ≡ firstFrom (isPeriodRow rows) i n) where
@@ -107,11 +105,11 @@ module _ (s rows : List ℕ) (from to k : ℕ) (b : k ≡ firstFrom (isRow rows 
   removes-some o x e f h = rw (sym b, lt-ltb k to h) (f ∙ ap (saysRemoval s) e)
 
 -- a service
-pub service-is : (s rows : List ℕ) (n k next to prd : ℕ) (number : Part) (removal : Bool)
-    → next ≡ firstFrom (isService rows) (k + 1) n → to ≡ firstFrom (isRow rows 0 UIT) (k + 1) next → prd ≡ offsetAt rows k → number ≡ serviceNumber s prd → removal ≡ removes s rows (k + 1) to
-    → record { prd = prd; number = number; removal = removal; from = k; to = to } ≡ serviceAt s rows n k
+pub service-is : (s rows : List ℕ) (n k own to prd : ℕ) (number : Part) (removal : Bool) → Reaches rows (k + 1) n own to → prd ≡ offsetAt rows k → number ≡ serviceNumber s prd
+    → removal ≡ removes s rows (k + 1) own → record { prd = prd; number = number; removal = removal; from = k; to = to } ≡ serviceAt s rows n k
 unfolding serviceAt
-service-is s rows n k next to prd number removal a b d e f = rw (f, e, d, b, a)
+service-is s rows n k own to prd number removal r d e f =
+    rw (f ∙ reach-removes s rows (k + 1) n own to r, e, d, reach-end rows k n own to r)
 
 module _ (s rows : List ℕ) (i m n k : ℕ) (a : n ≡ rowCount rows m) (b : k ≡ firstFrom (isService rows) i n) where
   pub next-none : n ≤ k → found.NoMore ≡ nextService s rows m i
@@ -141,24 +139,35 @@ module _ (s rows : List ℕ) (v : Service) (n : ℕ) (a : n ≡ length (plain (b
     unfolding isWrong
     wrong-put q = rw (sym a, le-leb 1 n h, le-leb n 10 l, sym b, q)
 
--- 12
-module _ (s rows number : List ℕ) (i : ℕ) where
-  pub same-no : isRow rows 2 PRD i ≡ false → false ≡ isSameService s rows number i
-  unfolding isSameService
-  same-no q = rw q
+-- 12: from one service to the next
+same-service : (s rows number : List ℕ) (j : ℕ) → isSameService s rows number j ≡ true → isService rows j ≡ true
+unfolding isSameService
+same-service s rows number j q = both-parts (isService rows j) (saysNumber s (offsetAt rows j) number) q .0
 
-  pub same-yes : isRow rows 2 PRD i ≡ true → (o : ℕ) (x : Bool) → o ≡ offsetAt rows i → x ≡ saysNumber s o number → x ≡ isSameService s rows number i
-  unfolding isSameService
-  same-yes q o x a e = rw q (e ∙ ap (λ (y : ℕ). saysNumber s y number) a)
+module _ (s rows number : List ℕ) (before n i k : ℕ) (a : n ≡ rowCount rows before) (l : i ≤ n) (v : firstFrom (isSameService s rows number) i n ≡ firstFrom (isSameService s rows number) 0 n) (b : k ≡ firstFrom (isService rows) i n) where
+  twice-from : firstFrom (isSameService s rows number) k n ≡ firstFrom (isSameService s rows number) 0 n
+  twice-from = ap (λ (x : ℕ). firstFrom (isSameService s rows number) x n) b ∙ sym (first-through (isSameService s rows number) (isService rows) (same-service s rows number) i n l) ∙ v
 
-module _ (s rows number : List ℕ) (before n i : ℕ) (a : n ≡ rowCount rows before) (v : firstFrom (isSameService s rows number) i n ≡ firstFrom (isSameService s rows number) 0 n) where
-  pub twice-yes : i < n → isSameService s rows number i ≡ true → true ≡ isTwice s rows number before
+  pub twice-no : n ≤ k → false ≡ isTwice s rows number before
   unfolding isTwice
-  twice-yes h q = rw (sym a, sym v, first-here (isSameService s rows number) i n h q, lt-ltb i n h)
+  twice-no h = rw (sym a, sym twice-from, first-past (isSameService s rows number) k n h, le-ltb k n h)
 
-  pub twice-no : n ≤ i → false ≡ isTwice s rows number before
-  unfolding isTwice
-  twice-no h = rw (sym a, sym v, first-past (isSameService s rows number) i n h, le-ltb i n h)
+  pub twice-further : (i ≤ k) × (k ≤ n)
+  twice-further =
+      let w = first-bounds (isService rows) (n - i) i in
+      (omega arith, omega arith)
+
+  module _ (h : k < n) (o : ℕ) (x : Bool) (d : o ≡ offsetAt rows k) (e : x ≡ saysNumber s o number) where
+    same-is : isSameService s rows number k ≡ x
+    unfolding isSameService
+    same-is = rw (subst (λ (y : ℕ). isService rows y ≡ true) (sym b) (some-holds (isService rows) i n (lt-ltb (firstFrom (isService rows) i n) n (subst (λ (y : ℕ). y < n) b h)))) (sym (e ∙ ap (λ (y : ℕ). saysNumber s y number) d))
+
+    pub twice-yes : x ≡ true → true ≡ isTwice s rows number before
+    unfolding isTwice
+    twice-yes q = rw (sym a, sym twice-from, first-here (isSameService s rows number) k n h (same-is ∙ q), lt-ltb k n h)
+
+    pub twice-on : x ≡ false → firstFrom (isSameService s rows number) (k + 1) n ≡ firstFrom (isSameService s rows number) 0 n
+    twice-on q = sym (first-on (isSameService s rows number) k n h (same-is ∙ q)) ∙ twice-from
 
 -- 11, then 12
 module _ (s rows : List ℕ) (v : Service) where
@@ -183,9 +192,30 @@ at-is u v q = cc
 
 -- what the next service tells of those that are left
 pub record Next (s rows : List ℕ) (m i : ℕ) (v : Service) : Type 0 where
-  pub rest : servicesFrom s rows (rowCount rows m) i ≡ v ∷ servicesFrom s rows (rowCount rows m) (v .from + 1)
+  pub rest : servicesFrom s rows (rowCount rows m) i ≡ v ∷ servicesFrom s rows (rowCount rows m) (v .to)
   pub further : i ≤ v .from
-  pub inside : v .from < rowCount rows m
+  pub some : v .from < v .to
+  pub inside : v .to ≤ rowCount rows m
+  -- the service of its row, and none but it begins on the way
+  pub own : v ≡ serviceAt s rows (rowCount rows m) (v .from)
+  pub before : (j : ℕ) → i ≤ j → j < v .from → isService rows j ≡ false
+  pub behind : (j : ℕ) → v .from < j → j < v .to → isService rows j ≡ false
+
+module _ (rows : List ℕ) (n k : ℕ) (h : k < n) where
+  -- a service has its PRD's row at least, and its rows are among the n
+  pub service-rows : (k < serviceEnd rows n k) × (serviceEnd rows n k ≤ n)
+  service-rows =
+      let m = firstFrom (isService rows) (k + 1) n in
+      let a = first-bounds (isService rows) (n - (k + 1)) (k + 1) in
+      let b = first-bounds (isRow rows 0 UIT) (m - (k + 1)) (k + 1) in
+      (omega arith, omega arith)
+
+  service-alone : (j : ℕ) → k < j → j < serviceEnd rows n k → isService rows j ≡ false
+  service-alone j a b =
+      let m = firstFrom (isService rows) (k + 1) n in
+      let d = first-bounds (isService rows) (n - (k + 1)) (k + 1) in
+      let e = first-bounds (isRow rows 0 UIT) (m - (k + 1)) (k + 1) in
+      first-skips (isService rows) (n - (k + 1)) (k + 1) j (omega arith) (omega arith)
 
 module _ (s rows : List ℕ) (m i : ℕ) where
   abbrev all : ℕ
@@ -194,15 +224,29 @@ module _ (s rows : List ℕ) (m i : ℕ) where
   abbrev place : ℕ
   place = firstFrom (isService rows) i (rowCount rows m)
 
+  next-there : place < all → Next s rows m i (serviceAt s rows all place)
+  unfolding serviceAt
+  next-there h =
+      let w = first-bounds (isService rows) (all - i) i in
+      let r = service-rows rows all place h in
+      record {
+        rest =
+            list-some (isService rows) (serviceAt s rows all) i all h
+            ∙ ap (λ (l : List Service). serviceAt s rows all place ∷ l)
+            (list-skip (isService rows) (serviceAt s rows all) (place + 1) (serviceEnd rows all place) all (omega arith) (r .1) (λ j a b. service-alone rows all place h j (omega arith) b));
+        further = w .0;
+        some = r .0;
+        inside = r .1;
+        own = refl;
+        before = λ j a b. first-skips (isService rows) (all - i) i j a b;
+        behind = λ j a b. service-alone rows all place h j a b;
+      }
+
   pub next-found : (v : Service) → nextService s rows m i ≡ found.At v → Next s rows m i v
-  unfolding nextService serviceAt
+  unfolding nextService
   next-found v q =
       choose (ltb place all)
-      (λ l.
-      let h = ltb-true place all l in
-      let w = first-bounds (isService rows) (all - i) i in
-      subst (Next s rows m i) (at-is (serviceAt s rows all place) v (rw l at q))
-      (record { rest = list-some (isService rows) (serviceAt s rows all) i all h; further = w .0; inside = h }))
+      (λ l. subst (Next s rows m i) (at-is (serviceAt s rows all place) v (rw l at q)) (next-there (ltb-true place all l)))
       (λ l. absurd (none≢at v (rw l at q)))
 
   pub next-gone : nextService s rows m i ≡ found.NoMore → servicesFrom s rows all i ≡ []

@@ -5,8 +5,8 @@ mod rows;
 mod segments;
 
 use crate::rows::first_row;
-use crate::rows::is_row;
 use crate::rows::offset_of;
+use crate::rows::reach_of;
 use crate::rows::row_count;
 use crate::segments::end_of;
 use crate::segments::number_at;
@@ -15,13 +15,15 @@ use crate::segments::says_removal;
 use messages::MSD;
 use messages::POP;
 use messages::PRD;
-use messages::UIT;
 use parts::Part;
 use parts::bytes_of;
 use syntax::segment::Refusal;
+use syntax::segment::Scanned;
+use syntax::segment::read_segment;
 ghost use mathlib.Core.Path.{_≡_};
-ghost use Prim.Native.Nat.{_<_};
-ghost use Rattle.services.specs.Services.{segmentOf, removes, serviceAt, nextService, nextPeriod, hasPeriod, isWrong, isSameService, isTwice, testedOf, countedOf, testedAnswer, countedAnswer};
+ghost use Prim.Native.Nat.{_/_, _≤_, _<_};
+ghost use lib.ListN.{length};
+ghost use Rattle.services.specs.Services.{segmentOf, removes, serviceAt, nextService, nextPeriod, hasPeriod, isWrong, isTwice, testedOf, countedOf, testedAnswer, countedAnswer};
 
 /// A service: a group 2 of a SKDUPD message.
 pub struct Service {
@@ -66,6 +68,7 @@ pub enum Counted {
 
 // Whether the rows of a service, after its PRD's, have an MSD that removes.
 fn is_removal(s: &[u8], rows: &[u32], from: usize, to: usize) -> bool
+    requires { ⌜ to ≤ length (now rows) / 3 ⌝ }
     ensures { λ r. ⌜ r ≡ removes (now (s .entry)) (now (rows .entry)) from to ⌝ }
 {
     let k = first_row(rows, from, to, 2, MSD);
@@ -77,20 +80,19 @@ fn is_removal(s: &[u8], rows: &[u32], from: usize, to: usize) -> bool
 
 // The service whose PRD has the row k, of n rows.
 fn service_at(s: &[u8], rows: &[u32], n: usize, k: usize) -> Service
-    requires { ⌜ k < n ⌝ }
+    requires { ⌜ (k < n) × (n ≤ length (now rows) / 3) ⌝ }
     ensures { λ r. ⌜ r ≡ serviceAt (now (s .entry)) (now (rows .entry)) n k ⌝ }
 {
-    let next = first_row(rows, k + 1, n, 2, PRD);
-    let to = first_row(rows, k + 1, next, 0, UIT);
+    let reach = reach_of(rows, k + 1, n);
     let prd = offset_of(rows, k);
     let number = number_at(s, prd);
-    let removal = is_removal(s, rows, k + 1, to);
+    let removal = is_removal(s, rows, k + 1, reach.own);
     Service {
         prd,
         number,
         removal,
         from: k,
-        to,
+        to: reach.to,
     }
 }
 
@@ -122,7 +124,10 @@ pub fn next_period(rows: &[u32], i: usize, to: usize) -> FoundPeriod
 pub fn segment_at(s: &[u8], at: usize) -> Part
     ensures { λ r. ⌜ r ≡ segmentOf (now (s .entry)) at ⌝ }
 {
-    let to = end_of(s, at, 0);
+    if let Scanned::End(to) = read_segment(s, at) {
+        return Part { from: at, to };
+    }
+    let to = end_of(s, at);
     Part { from: at, to }
 }
 
@@ -134,8 +139,8 @@ fn has_period(rows: &[u32], from: usize, to: usize) -> bool
     first_row(rows, from, count, 4, POP) < count
 }
 
-// 11: the number, or a POP missing or present wrongly.
-fn is_wrong(s: &[u8], rows: &[u32], service: Service) -> bool
+/// 11: whether the number is wrong, or a POP is missing or present wrongly.
+pub fn is_wrong(s: &[u8], rows: &[u32], service: Service) -> bool
     ensures { λ r. ⌜ r ≡ isWrong (now (s .entry)) (now (rows .entry)) service ⌝ }
 {
     let number = service.number;
@@ -153,29 +158,22 @@ fn is_wrong(s: &[u8], rows: &[u32], service: Service) -> bool
     !carries
 }
 
-// Whether a row begins a service of the given number.
-fn is_same(s: &[u8], rows: &[u32], number: &[u8], i: usize) -> bool
-    ensures { λ r. ⌜ r ≡ isSameService (now (s .entry)) (now (rows .entry)) (now (number .entry)) i ⌝ }
-{
-    if !is_row(rows, i, 2, PRD) {
-        return false;
-    }
-    says_number(s, offset_of(rows, i), number)
-}
-
-// 12: whether a service before row `before` has the given number.
-fn is_twice(s: &[u8], rows: &[u32], number: &[u8], before: usize) -> bool
+/// 12: whether a service before row `before` has the given number.
+pub fn is_twice(s: &[u8], rows: &[u32], number: &[u8], before: usize) -> bool
     ensures { λ r. ⌜ r ≡ isTwice (now (s .entry)) (now (rows .entry)) (now (number .entry)) before ⌝ }
 {
     let count = row_count(rows, before);
     let mut i = 0;
-    while i < count {
-        if is_same(s, rows, number, i) {
+    loop {
+        let k = first_row(rows, i, count, 2, PRD);
+        if count <= k {
+            return false;
+        }
+        if says_number(s, offset_of(rows, k), number) {
             return true;
         }
-        i += 1;
+        i = k + 1;
     }
-    false
 }
 
 /// Tests a service for 11, then for 12.
@@ -209,7 +207,7 @@ pub fn test_services(s: &[u8], rows: &[u32], n: usize) -> Counted
         match next_service(s, rows, n, i) {
             Found::At(service) => match test_service(s, rows, service) {
                 Tested::Good => {
-                    i = service.from + 1;
+                    i = service.to;
                     count += 1;
                 }
                 Tested::Refused(refusal) => {

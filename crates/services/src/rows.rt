@@ -1,7 +1,20 @@
 //! Rows in a buffer: three numbers each, offset, group and tag.
 
+use messages::PRD;
+use messages::UIT;
 ghost use mathlib.Core.Path.{_≡_};
+ghost use Prim.Native.Nat.{_/_, _≤_, _<_};
+ghost use lib.ListN.{length};
 ghost use Rattle.services.specs.Rows.{offsetAt, isRow, rowCount, firstFrom};
+ghost use Rattle.services.specs.Extents.{endsService, Reaches};
+
+/// How far the rows of a service go.
+pub struct Extent {
+    /// The row from which on no row is of group 2.
+    pub own: usize,
+    /// The row of the next service, or of the UIT.
+    pub to: usize,
+}
 
 // How many of n rows the buffer holds.
 pub(crate) fn row_count(rows: &[u32], n: usize) -> usize
@@ -28,13 +41,11 @@ pub(crate) fn offset_of(rows: &[u32], i: usize) -> usize
     0
 }
 
-// Whether the buffer holds row i and it has a group and a tag.
-pub(crate) fn is_row(rows: &[u32], i: usize, group: u32, tag: u32) -> bool
+// Whether row i has a group and a tag.
+fn is_row(rows: &[u32], i: usize, group: u32, tag: u32) -> bool
+    requires { ⌜ i < length (now rows) / 3 ⌝ }
     ensures { λ r. ⌜ r ≡ isRow (now (rows .entry)) group tag i ⌝ }
 {
-    if rows.len() / 3 <= i {
-        return false;
-    }
     if rows[3 * i + 2] != tag {
         return false;
     }
@@ -43,6 +54,7 @@ pub(crate) fn is_row(rows: &[u32], i: usize, group: u32, tag: u32) -> bool
 
 // The first row from an index on that has a group and a tag; where none has before row `to`, `to` or the index itself.
 pub(crate) fn first_row(rows: &[u32], from: usize, to: usize, group: u32, tag: u32) -> usize
+    requires { ⌜ to ≤ length (now rows) / 3 ⌝ }
     ensures { λ r. ⌜ r ≡ firstFrom (isRow (now (rows .entry)) group tag) from to ⌝ }
 {
     let mut i = from;
@@ -53,4 +65,34 @@ pub(crate) fn first_row(rows: &[u32], from: usize, to: usize, group: u32, tag: u
         i += 1;
     }
     i
+}
+
+// Whether the rows of a service before row i end there.
+fn is_end(rows: &[u32], i: usize) -> bool
+    requires { ⌜ i < length (now rows) / 3 ⌝ }
+    ensures { λ r. ⌜ r ≡ endsService (now (rows .entry)) i ⌝ }
+{
+    if is_row(rows, i, 2, PRD) {
+        return true;
+    }
+    is_row(rows, i, 0, UIT)
+}
+
+// How far the rows of a service go, from the one after its PRD's on, of n rows: one pass, in which most rows are of groups inside it.
+pub(crate) fn reach_of(rows: &[u32], from: usize, n: usize) -> Extent
+    requires { ⌜ n ≤ length (now rows) / 3 ⌝ }
+    ensures { λ r. ⌜ Reaches (now (rows .entry)) from n (r .own) (r .to) ⌝ }
+{
+    let mut own = from;
+    let mut i = from;
+    while i < n {
+        if rows[3 * i + 1] < 3 {
+            if is_end(rows, i) {
+                return Extent { own, to: i };
+            }
+            own = i + 1;
+        }
+        i += 1;
+    }
+    Extent { own, to: i }
 }

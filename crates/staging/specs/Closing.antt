@@ -11,6 +11,7 @@ use borrow.Rule.Slice.PartMut.{midOf, putMid}
 use lib.ListN.{length, getD}
 use Rattle.laws.specs.Choice.{choose}
 use Rattle.answers.specs.Answers.{Answer, done, refused, notRegister, badAccount}
+use Rattle.answers.specs.Laws.{done-is}
 use Rattle.slots.specs.Slots.{slotsOf, length-slots}
 use Rattle.slots.specs.Rising.{leading}
 use Rattle.interchange.specs.Reader.{Verdict, accepted, readingOf, numbers}
@@ -20,8 +21,12 @@ use Rattle.contents.specs.Written.{roomBytes, written, held, isRegister}
 use Rattle.contents.specs.Calls.{View, Called, refusedCall, isAccount, viewOf, withRecords, answerOn, bytesAfter}
 use Rattle.rooms.specs.Views.{roomStart, roomEnd, view-good, written-back, lent-is, lent-back}
 use Rattle.service_tests.specs.declared.Totals.{Totals}
-use Rattle.stages.specs.Stage.{stageServices, stageBy, stageOf}
-use Rattle.service_entries.specs.Room.{removesIn, putsIn}
+use Rattle.service_tests.specs.Tests.{counted, testAll, noTotals}
+use Rattle.service_tests.specs.Passed.{passed-first}
+use Rattle.services.specs.declared.Service.{Service}
+use Rattle.stages.specs.Stage.{numberIn, stageServices, stageBy, stageOf}
+use Rattle.service_entries.specs.declared.Known.{Known}
+use Rattle.service_entries.specs.Room.{lookAt, removesIn, putsIn}
 use Rattle.staging.specs.Room.{roomTests, roomFits, roomAnswer, roomAfter}
 use Rattle.staging.specs.Staged.{staged-room}
 use Rattle.stages.specs.Kept.{reading-named}
@@ -60,9 +65,34 @@ module _ (room : List ℕ) (u : Totals) where
 
 -- ---- in a room
 
+-- where the services that passed have no removal among them, nothing is removed
+module _ (first : ℕ) (s rows : List ℕ) (look : List ℕ → Known) where
+  removals-grow : (vs : List Service) (t u : Totals) → testAll first s rows look vs t ≡ done u → t .removals ≤ u .removals
+  unfolding testAll
+  removals-grow [] t u e =
+      let q = ap (λ (x : Totals). x .removals) (done-is e) in
+      omega arith
+  removals-grow (v ∷ vs) t u e =
+      let z = passed-first first s rows look v vs t u e in
+      let h = removals-grow vs (counted (v .removal) (look (numberIn s v)) t) u (z .1) in
+      omega arith
+
+  none-removed : (vs : List Service) (t u : Totals) → testAll first s rows look vs t ≡ done u → u .removals ≡ 0 → (room : List ℕ) → removesIn s vs room ≡ room
+  unfolding removesIn
+  none-removed [] t u e q room = refl
+  none-removed (v ∷ vs) t u e q room =
+      let z = passed-first first s rows look v vs t u e in
+      let h = removals-grow vs (counted (v .removal) (look (numberIn s v)) t) u (z .1) in
+      choose (v .removal)
+      (λ r. let g = rw r at h in absurd (omega arith))
+      (λ r. rw r (none-removed vs (counted (v .removal) (look (numberIn s v)) t) u (z .1) q room))
+
 module _ (room : List ℕ) (first : ℕ) (s rows : List ℕ) (n : ℕ) where
   abbrev Left : Answer Totals → Answer ℕ → List ℕ → Type 0
   Left x answer last = (answer ≡ roomAnswer room s x) × (last ≡ roomAfter room first s rows n x)
+
+  pub room-unremoved : (u : Totals) → done u ≡ roomTests room first s rows n → u .removals ≡ 0 → removesIn s (servicesOf s rows n) room ≡ room
+  room-unremoved u e q = none-removed first s rows (lookAt room) (servicesOf s rows n) noTotals u (sym e) q room
 
   pub room-refused : (m at : ℕ) → refused m at ≡ roomTests room first s rows n → Left (roomTests room first s rows n) (refused m at) room
   room-refused m at e = rw (← e) (refl, refl)

@@ -14,7 +14,8 @@ use Rattle.syntax.specs.Bytes.{plain}
 use Rattle.parts.specs.Places.{bytesOf}
 use Rattle.values.specs.Values.{sameText}
 use Rattle.services.specs.declared.Service.{Service}
-use Rattle.services.specs.Rows.{rowCount, listOf, some-none}
+use Rattle.services.specs.Rows.{rowCount, listOf}
+use Rattle.services.specs.Search.{some-none}
 use Rattle.services.specs.Services.{isService, serviceAt, periodsOf, isWrong, isSameService, saysNumber, isTwice}
 use Rattle.contents.specs.Contents.{Record, inOrder}
 use Rattle.contents.specs.Calls.{lookup, changed}

@@ -17,7 +17,9 @@ ghost use mathlib.Core.Bool.{true};
 ghost use lib.ListN.{length};
 ghost use Rattle.contents.specs.Written.{isRegister};
 ghost use Rattle.contents.specs.Calls.{isAccount, answerOn, bytesAfter};
+ghost use Rattle.services.specs.Services.{servicesOf};
 ghost use Rattle.stages.specs.Stage.{stageOf};
+ghost use Rattle.service_entries.specs.Room.{removesIn};
 ghost use Rattle.staging.specs.Few.{Rows};
 ghost use Rattle.staging.specs.Room.{stagedAnswer, roomTests, roomFits, roomAnswer, roomAfter};
 
@@ -48,6 +50,17 @@ fn fits(room: &[u8], totals: Totals) -> bool
     added - dropped <= free
 }
 
+// All removals, where there are any.
+fn remove_any(room: &mut [u8], s: &[u8], rows: &[u32], n: usize, removals: usize)
+    requires { ⌜ (removals ≡ 0 → removesIn (now s) (servicesOf (now s) (now rows) n) (now room) ≡ now room) ⌝ }
+    ensures { λ _. ⌜ now (room .exit) ≡ removesIn (now (s .entry)) (servicesOf (now (s .entry)) (now (rows .entry)) n) (now (room .entry)) ⌝ }
+{
+    if removals == 0 {
+        return;
+    }
+    remove_all(room, s, rows, n);
+}
+
 // Stages the services of n rows in an account's room: all tests first, then all removals, then all puts, so that the room never holds
 // more than it does in the end.
 fn stage_room(room: &mut [u8], first: usize, s: &[u8], rows: &[u32], n: usize) -> Staged
@@ -63,7 +76,7 @@ fn stage_room(room: &mut [u8], first: usize, s: &[u8], rows: &[u32], n: usize) -
                     position: s.len(),
                 });
             }
-            remove_all(room, s, rows, n);
+            remove_any(room, s, rows, n, totals.removals);
             put_all(room, first, s, rows, n);
             Staged::Done(totals.services)
         }

@@ -2,7 +2,7 @@
 -- Assumes nothing.
 use mathlib.Core.Path.{_≡_, refl, sym, _∙_}
 use mathlib.Core.List.{List}
-use Prim.Native.Nat.{_+_, _-_}
+use Prim.Native.Nat.{_-_}
 use native.Mathlib.Omega.{arith}
 use borrow.Author.Needs.{needs}
 use denote.Ref.{now}
@@ -43,7 +43,7 @@ module _ (t : tie.After-remove-one Inv-loop μ-loop) where
   left = servicesFrom (now (start .args .s)) (now (start .args .rows)) (rowCount (now (start .args .rows)) (start .args .n)) (own .loop .i)
 
   abbrev rest : List Service
-  rest = servicesFrom (now (start .args .s)) (now (start .args .rows)) (rowCount (now (start .args .rows)) (start .args .n)) (service .from + 1)
+  rest = servicesFrom (now (start .args .s)) (now (start .args .rows)) (rowCount (now (start .args .rows)) (start .args .n)) (service .to)
 
 loop-holds : tie.Need-loop-holds Inv-loop μ-loop
 loop-holds c = (refl, refl)
@@ -57,19 +57,14 @@ enum-known-service c = search needs
 remove-one-requires : tie.Need-remove-one-requires Inv-loop μ-loop
 remove-one-requires c κs = search needs
 
-add-i : tie.Need-add-i Inv-loop μ-loop
-add-i c =
-    let w = next (c .before .before .before) .inside in
-    omega arith
-
 loop-less : tie.Need-loop-less Inv-loop μ-loop
 loop-less c =
-    let w = next (c .before .before .before) in
+    let w = next (c .before .before) in
     omega arith
 
 loop-again : tie.Need-loop-again Inv-loop μ-loop
 loop-again c =
-    let t = c .before .before .before in
+    let t = c .before .before in
     let a = start t .args in
     let v = own t .loop .inv in (
       removes-on (now (a .s)) (left t) (own t .loop .room) (service t) (rest t) (next t .rest) (t .remove-one .last .0) (t .remove-one .ensures) ∙ v .0,
@@ -101,7 +96,6 @@ remove-all-spec =
     next-service-requires
     enum-known-service
     remove-one-requires
-    add-i
     loop-less
     loop-again
     enum-told

@@ -1,28 +1,32 @@
 -- `test_all` meets its contract.
 -- Assumes nothing.
-use mathlib.Core.Path.{_≡_, refl, sym, ap, _∙_}
+use mathlib.Core.Path.{_≡_, refl, sym, ap, subst, _∙_}
 use mathlib.Core.List.{List}
-use Prim.Native.Nat.{_+_, _-_, _≤_}
+use Prim.Native.Nat.{ℕ, _-_, _≤_, _<_}
 use native.Mathlib.Omega.{arith}
 use borrow.Author.Needs.{needs}
 use denote.Ref.{now}
 use Rattle.services.specs.declared.Service.{Service}
 use Rattle.services.specs.Rows.{rowCount}
+use Rattle.services.specs.Services as services
 use Rattle.services.specs.Services.{servicesFrom, servicesOf}
 use Rattle.services.specs.Ways.{Next, next-found, next-gone}
-use Rattle.service_tests.specs.Tests.{totalsAnswer, testAll, noTotals}
 use Rattle.service_entries.specs.Room.{lookAt}
-use Rattle.service_tests.specs.Ways.{one-more, all-done, all-on, all-stop}
+use Rattle.service_tests.specs.declared.Totals.{Totals}
+use Rattle.service_tests.specs.Tests.{totalsAnswer, testAll, noTotals}
+use Rattle.service_tests.specs.Marks.{Marked, marked-start, marked-to, marked-on}
+use Rattle.service_tests.specs.Ways.{one-refused, one-more, all-done, all-on, all-stop}
 use Rattle.service_tests.proofs.test_all.Statement.{statement}
 use Rattle.service_tests.proofs.test_all.Tie as tie
 
 abbrev Inv-loop : tie.InvT-loop
-Inv-loop room first s rows n i₀ totals₀ i totals =
-    ((totals .services ≤ i) × (totals .added ≤ i) × (totals .dropped ≤ i))
+Inv-loop room first s rows n marks₀ i₀ totals₀ marks i totals =
+    ((totals .services ≤ i) × (totals .added ≤ i) × (totals .dropped ≤ i) × (totals .removals ≤ i))
+    × Marked marks s rows i
     × (testAll first s rows (lookAt room) (servicesFrom s rows (rowCount rows n) i) totals ≡ testAll first s rows (lookAt room) (servicesOf s rows n) noTotals)
 
 abbrev μ-loop : tie.MeasureT-loop
-μ-loop room first s rows n i₀ totals₀ i totals = rowCount rows n - i
+μ-loop room first s rows n marks₀ i₀ totals₀ marks i totals = rowCount rows n - i
 
 -- the service that was found
 module _ (f : tie.After-service Inv-loop μ-loop) where
@@ -40,14 +44,20 @@ module _ (f : tie.After-service Inv-loop μ-loop) where
       next-found (now (start .args .s)) (now (start .args .rows)) (start .args .n) (own .loop .i) service
       (sym (f .before .before .next-service .ensures) ∙ f .service .given .1)
 
-  abbrev left : List Service
-  left = servicesFrom (now (start .args .s)) (now (start .args .rows)) (rowCount (now (start .args .rows)) (start .args .n)) (own .loop .i)
+  abbrev remaining : List Service
+  remaining = servicesFrom (now (start .args .s)) (now (start .args .rows)) (rowCount (now (start .args .rows)) (start .args .n)) (own .loop .i)
 
   abbrev rest : List Service
-  rest = servicesFrom (now (start .args .s)) (now (start .args .rows)) (rowCount (now (start .args .rows)) (start .args .n)) (service .from + 1)
+  rest = servicesFrom (now (start .args .s)) (now (start .args .rows)) (rowCount (now (start .args .rows)) (start .args .n)) (service .to)
+
+-- and its number tested
+abbrev found : tie.After-test-number Inv-loop μ-loop → tie.After-service Inv-loop μ-loop
+found t = t .before .before .before
 
 loop-holds : tie.Need-loop-holds Inv-loop μ-loop
-loop-holds c = ((omega arith, omega arith, omega arith), refl)
+loop-holds c =
+    let a = c .before .before .before .args in
+    ((omega arith, omega arith, omega arith, omega arith), marked-start (now (a .s)) (now (a .rows)), refl)
 
 next-service-requires : tie.Need-next-service-requires Inv-loop μ-loop
 next-service-requires c κs = search needs
@@ -55,38 +65,57 @@ next-service-requires c κs = search needs
 enum-known-service : tie.Need-enum-known-service Inv-loop μ-loop
 enum-known-service c = search needs
 
+slice-aggregate-test-number : tie.Need-slice-aggregate-test-number Inv-loop μ-loop
+slice-aggregate-test-number c =
+    let e = own (c .before .before) .loop .inv .1 .size in
+    omega arith
+
+test-number-requires : tie.Need-test-number-requires Inv-loop μ-loop
+test-number-requires c κs =
+    let f = c .before .before in
+    let a = start f .args in
+    marked-to (own f .loop .marks) (now (a .s)) (now (a .rows)) (own f .loop .i) (own f .loop .inv .1) (a .n) (service f) (next f)
+
+enum-told : tie.Need-enum-told Inv-loop μ-loop
+enum-told c = search needs
+
+few : (t : Totals) (i : ℕ) → (t .services ≤ i) × (t .added ≤ i) × (t .dropped ≤ i) × (t .removals ≤ i) → i < 18446744073709551615
+    → (t .services < 18446744073709551615) × (t .added < 18446744073709551615) × (t .dropped < 18446744073709551615) × (t .removals < 18446744073709551615)
+few t i v h = (omega arith, omega arith, omega arith, omega arith)
+
 test-one-requires : tie.Need-test-one-requires Inv-loop μ-loop
 test-one-requires c κs =
-    let w = next (c .before) in
-    let v = own (c .before) .loop .inv .0 in
-    (omega arith, omega arith, omega arith)
+    let t = c .before .before .before in
+    let f = found t in
+    let w = next f in
+    let k = start f .fits .n in
+    let b = few (own f .loop .totals) (own f .loop .i) (own f .loop .inv .0) (omega arith) in
+    (sym (t .test-number .ensures .0) ∙ ap services.testedAnswer (c .enum-told .given .1), b .0, b .1, b .2, b .3)
 
 enum-known-more : tie.Need-enum-known-more Inv-loop μ-loop
 enum-known-more c = search needs
 
-add-i : tie.Need-add-i Inv-loop μ-loop
-add-i c =
-    let w = next (c .before .before .before .before .before .before) .inside in
-    omega arith
-
 loop-less : tie.Need-loop-less Inv-loop μ-loop
 loop-less c =
-    let w = next (c .before .before .before .before .before .before) in
+    let w = next (found (c .before .before .before .before .before .before .before)) in
     omega arith
 
 loop-again : tie.Need-loop-again Inv-loop μ-loop
 loop-again c =
-    let m = c .before .before in
-    let t = m .before .before in
-    let f = t .before .before in
+    let m = c .before in
+    let o = m .before .before in
+    let t = o .before .before .before .before in
+    let f = found t in
     let a = start f .args in
     let v = own f .loop .inv in
     let w = next f in
     let u = m .more .given .0 .0 in
-    let e = sym (ap totalsAnswer (m .more .given .1)) ∙ t .test-one .ensures in
+    let e = sym (ap totalsAnswer (m .more .given .1)) ∙ o .test-one .ensures in
     let h = one-more (a .first) (now (a .s)) (now (a .rows)) (lookAt (now (a .room))) (service f) (own f .loop .totals) u e in (
-      (omega arith, omega arith, omega arith),
-      all-on (a .first) (now (a .s)) (now (a .rows)) (lookAt (now (a .room))) (left f) (own f .loop .totals) (service f) (rest f) (w .rest) u e ∙ v .1,
+      (omega arith, omega arith, omega arith, omega arith),
+      subst (λ (l : List ℕ). Marked l (now (a .s)) (now (a .rows)) (service f .to)) (sym (t .test-number .ensures .1))
+          (marked-on (own f .loop .marks) (now (a .s)) (now (a .rows)) (own f .loop .i) (v .1) (a .n) (service f) w),
+      all-on (a .first) (now (a .s)) (now (a .rows)) (lookAt (now (a .room))) (remaining f) (own f .loop .totals) (service f) (rest f) (w .rest) u e ∙ v .2,
     )
 
 enum-known-refusal : tie.Need-enum-known-refusal Inv-loop μ-loop
@@ -95,25 +124,40 @@ enum-known-refusal c = search needs
 returns : tie.Need-returns Inv-loop μ-loop
 returns c =
     let r = c .before in
-    let t = r .before .before in
-    let f = t .before .before in
+    let o = r .before .before in
+    let f = found (o .before .before .before .before) in
     let a = start f .args in
     let x = r .refusal .given .0 .0 in
-    all-stop (a .first) (now (a .s)) (now (a .rows)) (lookAt (now (a .room))) (left f) (own f .loop .totals) (service f) (rest f) (next f .rest) (x .number) (x .position)
-    (sym (ap totalsAnswer (r .refusal .given .1)) ∙ t .test-one .ensures)
-    ∙ own f .loop .inv .1
+    all-stop (a .first) (now (a .s)) (now (a .rows)) (lookAt (now (a .room))) (remaining f) (own f .loop .totals) (service f) (rest f) (next f .rest) (x .number) (x .position)
+    (sym (ap totalsAnswer (r .refusal .given .1)) ∙ o .test-one .ensures)
+    ∙ own f .loop .inv .2
 
-enum-told : tie.Need-enum-told Inv-loop μ-loop
-enum-told c = search needs
+enum-known-refusal-2 : tie.Need-enum-known-refusal-2 Inv-loop μ-loop
+enum-known-refusal-2 c = search needs
 
 returns-2 : tie.Need-returns-2 Inv-loop μ-loop
 returns-2 c =
+    let r = c .before in
+    let t = r .before .before .before in
+    let f = found t in
+    let a = start f .args in
+    let x = r .refusal2 .given .0 .0 in
+    all-stop (a .first) (now (a .s)) (now (a .rows)) (lookAt (now (a .room))) (remaining f) (own f .loop .totals) (service f) (rest f) (next f .rest) (x .number) (x .position)
+    (one-refused (now (a .s)) (now (a .rows)) (service f) (a .first) (lookAt (now (a .room))) (own f .loop .totals) (x .number) (x .position)
+    (sym (ap services.testedAnswer (r .refusal2 .given .1)) ∙ t .test-number .ensures .0))
+    ∙ own f .loop .inv .2
+
+enum-told-2 : tie.Need-enum-told-2 Inv-loop μ-loop
+enum-told-2 c = search needs
+
+returns-3 : tie.Need-returns-3 Inv-loop μ-loop
+returns-3 c =
     let n = c .before .before in
     let o = n .before in
     let a = o .before .before .before .before .args in
     all-done (a .first) (now (a .s)) (now (a .rows)) (lookAt (now (a .room))) (servicesFrom (now (a .s)) (now (a .rows)) (rowCount (now (a .rows)) (a .n)) (o .loop .i)) (o .loop .totals)
-    (next-gone (now (a .s)) (now (a .rows)) (a .n) (o .loop .i) (sym (n .next-service .ensures) ∙ c .enum-told .given .1))
-    ∙ o .loop .inv .1
+    (next-gone (now (a .s)) (now (a .rows)) (a .n) (o .loop .i) (sym (n .next-service .ensures) ∙ c .enum-told2 .given .1))
+    ∙ o .loop .inv .2
 
 pub test-all-spec : {M : Type 1} → statement M
 test-all-spec =
@@ -124,12 +168,16 @@ test-all-spec =
     loop-holds
     next-service-requires
     enum-known-service
+    slice-aggregate-test-number
+    test-number-requires
+    enum-told
     test-one-requires
     enum-known-more
-    add-i
     loop-less
     loop-again
     enum-known-refusal
     returns
-    enum-told
-    returns-2)
+    enum-known-refusal-2
+    returns-2
+    enum-told-2
+    returns-3)

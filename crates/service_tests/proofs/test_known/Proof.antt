@@ -41,16 +41,23 @@ dropped-by-requires c κs = search needs
 add-t12 : tie.Need-add-t12
 add-t12 c = search needs
 
+removals-by-requires : tie.Need-removals-by-requires
+removals-by-requires c κs = search needs
+
+add-t14 : tie.Need-add-t14
+add-t14 c = search needs
+
 returns-2 : tie.Need-returns-2
 returns-2 c =
-    let d = c .before in
+    let m = c .before in
+    let d = m .before .before in
     let b = d .before .before in
     let l = b .before .before in
     let u = l .before in
     let k = u .before in
     let a = k .before .before .before .before .args in
     known-counted (a .service .removal) (a .service .prd) (lookAt (now (a .room)) (numberIn (now (a .s)) (a .service))) (a .totals) (k .held .result) (k .held .ensures) (u .is-unknown .result) (u .is-unknown .ensures) (l .if1 .left)
-    (b .added-by .result) (d .dropped-by .result) (b .added-by .ensures .0) (d .dropped-by .ensures .0)
+    (b .added-by .result) (d .dropped-by .result) (m .removals-by .result) (b .added-by .ensures .0) (d .dropped-by .ensures .0) (m .removals-by .ensures .0)
 
 pub test-known-spec : {M : Type 1} → statement M
 test-known-spec =
@@ -65,4 +72,6 @@ test-known-spec =
     add-t10
     dropped-by-requires
     add-t12
+    removals-by-requires
+    add-t14
     returns-2)

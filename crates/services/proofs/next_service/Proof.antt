@@ -1,5 +1,6 @@
 -- `services::next_service` meets its contract.
 -- Assumes nothing.
+use native.Mathlib.Omega.{arith}
 use denote.Ref.{now}
 use Rattle.services.specs.Ways.{next-none, next-some}
 use borrow.Author.Needs.{needs}
@@ -10,7 +11,9 @@ row-count-requires : tie.Need-row-count-requires
 row-count-requires c κs = search needs
 
 first-row-requires : tie.Need-first-row-requires
-first-row-requires c κs = search needs
+first-row-requires c κs =
+    let e = c .row-count .ensures in
+    omega arith
 
 returns : tie.Need-returns
 returns c =
@@ -19,7 +22,9 @@ returns c =
     next-none (now (a .s)) (now (a .rows)) (a .i) (a .n) (f .before .row-count .result) (f .first-row .result) (f .before .row-count .ensures) (f .first-row .ensures) (c .if1 .taken)
 
 service-at-requires : tie.Need-service-at-requires
-service-at-requires c κs = search needs
+service-at-requires c κs =
+    let e = c .before .before .row-count .ensures in
+    (search needs, omega arith)
 
 returns-2 : tie.Need-returns-2
 returns-2 c =

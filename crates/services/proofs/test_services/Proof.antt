@@ -2,7 +2,7 @@
 -- Assumes nothing.
 use mathlib.Core.Path.{_≡_, sym, ap, _∙_}
 use mathlib.Core.List.{List}
-use Prim.Native.Nat.{_+_, _-_, _≤_}
+use Prim.Native.Nat.{_-_, _≤_}
 use native.Mathlib.Omega.{arith}
 use borrow.Author.Needs.{needs}
 use denote.Ref.{now}
@@ -44,7 +44,7 @@ module _ (t : tie.After-test-service Inv-loop μ-loop) where
   left = servicesFrom (now (start .args .s)) (now (start .args .rows)) (rowCount (now (start .args .rows)) (start .args .n)) (own .loop .i)
 
   abbrev rest : List Service
-  rest = servicesFrom (now (start .args .s)) (now (start .args .rows)) (rowCount (now (start .args .rows)) (start .args .n)) (service .from + 1)
+  rest = servicesFrom (now (start .args .s)) (now (start .args .rows)) (rowCount (now (start .args .rows)) (start .args .n)) (service .to)
 
 loop-holds : tie.Need-loop-holds Inv-loop μ-loop
 loop-holds c =
@@ -63,31 +63,26 @@ test-service-requires c κs = search needs
 enum-told : tie.Need-enum-told Inv-loop μ-loop
 enum-told c = search needs
 
-add-i : tie.Need-add-i Inv-loop μ-loop
-add-i c =
-    let w = next (c .before .before .before) .inside in
-    omega arith
-
 add-count : tie.Need-add-count Inv-loop μ-loop
 add-count c =
-    let t = c .before .before .before in
+    let t = c .before .before in
     let w = next t in
     let v = own t .loop .inv in
     omega arith
 
 loop-less : tie.Need-loop-less Inv-loop μ-loop
 loop-less c =
-    let w = next (c .before .before .before) in
+    let w = next (c .before .before) in
     omega arith
 
 loop-again : tie.Need-loop-again Inv-loop μ-loop
 loop-again c =
-    let t = c .before .before .before in
+    let t = c .before .before in
     let w = next t in
     let v = own t .loop .inv in
     let a = start t .args in (
       omega arith,
-      sym (count-good (now (a .s)) (now (a .rows)) (left t) (own t .loop .count) (service t) (rest t) (w .rest) (tested t Good (c .before .enum-told .given .1))) ∙ v .1,
+      sym (count-good (now (a .s)) (now (a .rows)) (left t) (own t .loop .count) (service t) (rest t) (w .rest) (tested t Good (c .enum-told .given .1))) ∙ v .1,
     )
 
 enum-known-refusal : tie.Need-enum-known-refusal Inv-loop μ-loop
@@ -123,7 +118,6 @@ test-services-spec =
     enum-known-service
     test-service-requires
     enum-told
-    add-i
     add-count
     loop-less
     loop-again

@@ -5,7 +5,7 @@ use borrow.Author.Needs.{needs}
 use borrow.Author.Tests.{not-true, not-false}
 use denote.Ref.{now}
 use Rattle.service_tests.specs.Tests.{totalsAnswer}
-use Rattle.staging.specs.Closing.{room-refused, room-over, room-done}
+use Rattle.staging.specs.Closing.{room-unremoved, room-refused, room-over, room-done}
 use Rattle.staging.proofs.stage_room.Statement.{statement}
 use Rattle.staging.proofs.stage_room.Tie as tie
 
@@ -33,8 +33,13 @@ returns c =
     room-over (now (a .room)) (a .first) (now (a .s)) (now (a .rows)) (a .n) (t .totals .given .0 .0) (sym (ap totalsAnswer (t .totals .given .1)) ∙ x .test-all .ensures) (f .fits2 .result) (f .fits2 .ensures)
     (not-true (f .fits2 .result) (c .if1 .taken))
 
-remove-all-requires : tie.Need-remove-all-requires
-remove-all-requires c κs = search needs
+remove-any-requires : tie.Need-remove-any-requires
+remove-any-requires c κs =
+    let f = c .before .before in
+    let t = f .before .before .before in
+    let x = t .before .before in
+    let a = x .before .before .before .before .before .args in
+    room-unremoved (now (a .room)) (a .first) (now (a .s)) (now (a .rows)) (a .n) (t .totals .given .0 .0) (sym (ap totalsAnswer (t .totals .given .1)) ∙ x .test-all .ensures)
 
 put-all-requires : tie.Need-put-all-requires
 put-all-requires c κs = search needs
@@ -63,7 +68,7 @@ returns-3 c =
     let x = t .before .before in
     let a = x .before .before .before .before .before .args in
     room-done (now (a .room)) (a .first) (now (a .s)) (now (a .rows)) (a .n) (t .totals .given .0 .0) (sym (ap totalsAnswer (t .totals .given .1)) ∙ x .test-all .ensures) (f .fits2 .result) (f .fits2 .ensures)
-    (not-false (f .fits2 .result) (e .if1 .left)) (d .remove-all .last .0) (p .put-all .last .0) (d .remove-all .ensures) (p .put-all .ensures)
+    (not-false (f .fits2 .result) (e .if1 .left)) (d .remove-any .last .0) (p .put-all .last .0) (d .remove-any .ensures) (p .put-all .ensures)
 
 pub stage-room-spec : {M : Type 1} → statement M
 stage-room-spec =
@@ -75,7 +80,7 @@ stage-room-spec =
     fits-requires
     same-length
     returns
-    remove-all-requires
+    remove-any-requires
     put-all-requires
     same-length-2
     returns-2

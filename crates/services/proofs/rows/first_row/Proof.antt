@@ -4,8 +4,8 @@ use mathlib.Core.Path.{_≡_, refl, sym, _∙_}
 use Prim.Native.Nat.{_-_}
 use native.Mathlib.Omega.{arith}
 use denote.Ref.{now}
-use borrow.Author.Needs.{needs}
-use Rattle.services.specs.Rows.{isRow, firstFrom, first-past, first-here, first-on}
+use Rattle.services.specs.Rows.{isRow, firstFrom}
+use Rattle.services.specs.Search.{first-past, first-here, first-on}
 use Rattle.services.proofs.rows.first_row.Statement.{statement}
 use Rattle.services.proofs.rows.first_row.Tie as tie
 
@@ -19,7 +19,9 @@ loop-holds : tie.Need-loop-holds Inv-loop μ-loop
 loop-holds c = refl
 
 is-row-requires : tie.Need-is-row-requires Inv-loop μ-loop
-is-row-requires c κs = search needs
+is-row-requires c κs =
+    let h = c .before .before .before .pre in
+    omega arith
 
 returns : tie.Need-returns Inv-loop μ-loop
 returns c =

@@ -2,7 +2,7 @@
 -- Assumes nothing.
 use mathlib.Core.Path.{_∙_}
 use denote.Ref.{now}
-use Rattle.services.specs.Rows.{offset-some, offset-none}
+use Rattle.services.specs.Search.{offset-some, offset-none}
 use borrow.Author.Needs.{needs}
 use Rattle.services.proofs.rows.offset_of.Statement.{statement}
 use Rattle.services.proofs.rows.offset_of.Tie as tie

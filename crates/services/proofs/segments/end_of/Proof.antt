@@ -5,17 +5,19 @@ use mathlib.Core.Logic.{⊎-elim}
 use Prim.Native.Nat.{_+_, _-_}
 use native.Mathlib.Omega.{arith}
 use denote.Ref.{now}
-use borrow.Author.Needs.{needs}
 use lib.ListN.{length, drop}
-use Rattle.services.specs.Marks.{endsBy, firstBy, stopOf, stop-past, stop-here, stop-released, stop-goes}
+use Rattle.syntax.specs.Bytes.{terminator}
+use Rattle.syntax.specs.Pieces.{firstPiece}
+use Rattle.syntax.specs.Segment.{bodyAt}
+use Rattle.services.specs.Ways.{body-past, body-here, body-released, body-goes}
 use Rattle.services.proofs.segments.end_of.Statement.{statement}
 use Rattle.services.proofs.segments.end_of.Tie as tie
 
 abbrev Inv-loop : tie.InvT-loop
-Inv-loop s from kind i₀ released₀ i released = i + length (firstBy (endsBy kind) released (drop i s)) ≡ stopOf (endsBy kind) s from
+Inv-loop s from i₀ released₀ i released = i + length (firstPiece terminator released (drop i s)) ≡ from + length (bodyAt s from)
 
 abbrev μ-loop : tie.MeasureT-loop
-μ-loop s from kind i₀ released₀ i released = length s - i
+μ-loop s from i₀ released₀ i released = length s - i
 
 loop-holds : tie.Need-loop-holds Inv-loop μ-loop
 loop-holds c = refl
@@ -23,16 +25,13 @@ loop-holds c = refl
 shared-slice-read-b : tie.Need-shared-slice-read-b Inv-loop μ-loop
 shared-slice-read-b c = omega arith
 
-is-end-requires : tie.Need-is-end-requires Inv-loop μ-loop
-is-end-requires c κs = search needs
-
 returns : tie.Need-returns Inv-loop μ-loop
 returns c =
-    let b = c .before .before .before in
+    let b = c .before .before in
     let o = b .before .before in
-    let a = o .before .before .args in
-    let e = stop-here (endsBy (a .kind)) (now (a .s)) (o .loop .i) (b .before .loop-test .taken) (sym (c .before .is-end .ensures) ∙ c .if2 .taken) in
-    let v = rw (c .before .before .if1 .left) at (o .loop .inv) in
+    let a = o .before .args in
+    let e = body-here (now (a .s)) (o .loop .i) (b .before .loop-test .taken) (c .if2 .taken) in
+    let v = rw (c .before .if1 .left) at (o .loop .inv) in
     omega arith
 
 add-i : tie.Need-add-i Inv-loop μ-loop
@@ -45,18 +44,18 @@ loop-again : tie.Need-loop-again Inv-loop μ-loop
 loop-again c =
     let b = c .before in
     let o = b .before .before in
-    let a = o .before .before .args in
+    let a = o .before .args in
     let v = o .loop .inv in
     ⊎-elim
-    (λ w. rw (w .1) (sym (stop-released (endsBy (a .kind)) (now (a .s)) (o .loop .i) (b .before .loop-test .taken)) ∙ (rw (w .0 .taken) at v)))
-    (λ w. rw (w .3) (sym (stop-goes (endsBy (a .kind)) (now (a .s)) (o .loop .i) (b .before .loop-test .taken) (sym (w .1 .ensures) ∙ w .2 .left)) ∙ (rw (w .0 .left) at v)))
+    (λ w. rw (w .1) (sym (body-released (now (a .s)) (o .loop .i) (b .before .loop-test .taken)) ∙ (rw (w .0 .taken) at v)))
+    (λ w. rw (w .2) (sym (body-goes (now (a .s)) (o .loop .i) (b .before .loop-test .taken) (w .1 .left)) ∙ (rw (w .0 .left) at v)))
     (c .if1 .came)
 
 returns-2 : tie.Need-returns-2 Inv-loop μ-loop
 returns-2 c =
     let o = c .before in
-    let a = o .before .before .args in
-    let e = stop-past (endsBy (a .kind)) (now (a .s)) (o .loop .i) (o .loop .released) (c .loop-test .left) in
+    let a = o .before .args in
+    let e = body-past (now (a .s)) (o .loop .i) (o .loop .released) (c .loop-test .left) in
     let v = o .loop .inv in
     omega arith
 
@@ -68,7 +67,6 @@ end-of-spec =
     μ-loop
     loop-holds
     shared-slice-read-b
-    is-end-requires
     returns
     add-i
     loop-less

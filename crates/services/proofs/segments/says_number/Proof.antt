@@ -6,17 +6,21 @@ use borrow.Author.Needs.{needs}
 use Rattle.services.proofs.segments.says_number.Statement.{statement}
 use Rattle.services.proofs.segments.says_number.Tie as tie
 
-number-start-requires : tie.Need-number-start-requires
-number-start-requires c κs = search needs
+number-at-requires : tie.Need-number-at-requires
+number-at-requires c κs = search needs
 
-says-same-requires : tie.Need-says-same-requires
-says-same-requires c κs = search needs
+bytes-of-requires : tie.Need-bytes-of-requires
+bytes-of-requires c κs = search needs
+
+same-requires : tie.Need-same-requires
+same-requires c κs = search needs
 
 returns : tie.Need-returns
 returns c =
-    let n = c .before in
+    let b = c .before in
+    let n = b .before in
     let a = n .before .before .before .args in
-    number-says (now (a .s)) (a .at) (n .number-start .result) (now (a .number)) (c .says-same .result) (n .number-start .ensures) (c .says-same .ensures)
+    number-says (now (a .s)) (a .at) (now (a .number)) (n .number-at .result) (now (b .bytes-of .result)) (c .same .result) (n .number-at .ensures) (b .bytes-of .ensures) (c .same .ensures)
 
 pub says-number-spec : {M : Type 1} → statement M
-says-number-spec = tie.close (tie.spec number-start-requires says-same-requires returns)
+says-number-spec = tie.close (tie.spec number-at-requires bytes-of-requires same-requires returns)

@@ -6,8 +6,8 @@ use borrow.Author.Needs.{needs}
 use Rattle.services.proofs.segments.says_removal.Statement.{statement}
 use Rattle.services.proofs.segments.says_removal.Tie as tie
 
-end-of-requires : tie.Need-end-of-requires
-end-of-requires c κs = search needs
+segment-at-requires : tie.Need-segment-at-requires
+segment-at-requires c κs = search needs
 
 part-at-requires : tie.Need-part-at-requires
 part-at-requires c κs = search needs
@@ -24,15 +24,16 @@ equals-requires c κs = search needs
 returns : tie.Need-returns
 returns c =
     let b = c .before .before in
-    let e = b .before .before in
-    let a = e .before .before .args in
-    removal-says (now (a .s)) (a .at) (e .end-of .result) (b .before .part-at .result) (now (b .bytes-of .result)) (c .equals .result) (e .end-of .ensures) (b .before .part-at .ensures) (b .bytes-of .ensures) (c .equals .ensures)
+    let p = b .before in
+    let g = p .before in
+    let a = g .before .before .args in
+    removal-says (now (a .s)) (a .at) (g .segment-at .result) (p .part-at .result) (g .segment-at .ensures) (p .part-at .ensures) (now (b .bytes-of .result)) (c .equals .result) (b .bytes-of .ensures) (c .equals .ensures)
 
 pub says-removal-spec : {M : Type 1} → statement M
 says-removal-spec =
     tie.close
     (tie.spec
-    end-of-requires
+    segment-at-requires
     part-at-requires
     bytes-of-requires
     slice-aggregate-equals
