@@ -17,35 +17,30 @@ use Rattle.placing.specs.Skdupd.{skdupdTable}
 use Rattle.placing.specs.Tsdupd.{tsdupdTable}
 use Rattle.placing.specs.Tables.{tables, tableIn}
 use Rattle.laws.specs.Decimal.{decimalOn}
+use Rattle.laws.specs.Text.{bytes}
 use Rattle.envelope.specs.Envelope.{uibOf, uihOf, trailerOf}
 use Rattle.answers.specs.Answers.{refused}
 use Rattle.steps.specs.Step.{opening, betweenMessages, closing, trailing, placed, insideMessage, stepBy}
 use Rattle.interchange.specs.Reader.{turnAt, readOn, readingOf, numbers}
 use Rattle.acceptance.specs.Interchange.{segmentsWritten, unbroken, isSegment, Interchange, segmentsOf, placesFrom, isMessage, rulesHold, rowsFrom, rowsOf}
 
--- `UIB+UNOB:4+7`
 abbrev uib : List ℕ
-uib = 85 ∷ 73 ∷ 66 ∷ 43 ∷ 85 ∷ 78 ∷ 79 ∷ 66 ∷ 58 ∷ 52 ∷ 43 ∷ 55 ∷ []
+uib = bytes "UIB+UNOB:4+7"
 
--- `UIH+TSDUPD:D:04A::UN+1`
 abbrev tsdupd : List ℕ
-tsdupd = 85 ∷ 73 ∷ 72 ∷ 43 ∷ 84 ∷ 83 ∷ 68 ∷ 85 ∷ 80 ∷ 68 ∷ 58 ∷ 68 ∷ 58 ∷ 48 ∷ 52 ∷ 65 ∷ 58 ∷ 58 ∷ 85 ∷ 78 ∷ 43 ∷ 49 ∷ []
+tsdupd = bytes "UIH+TSDUPD:D:04A::UN+1"
 
--- `MSD+AAR:61`
 abbrev msd : List ℕ
-msd = 77 ∷ 83 ∷ 68 ∷ 43 ∷ 65 ∷ 65 ∷ 82 ∷ 58 ∷ 54 ∷ 49 ∷ []
+msd = bytes "MSD+AAR:61"
 
--- `UIT+1+3`
 abbrev uit : List ℕ
-uit = 85 ∷ 73 ∷ 84 ∷ 43 ∷ 49 ∷ 43 ∷ 51 ∷ []
+uit = bytes "UIT+1+3"
 
--- `UIZ+7+1`
 abbrev uiz : List ℕ
-uiz = 85 ∷ 73 ∷ 90 ∷ 43 ∷ 55 ∷ 43 ∷ 49 ∷ []
+uiz = bytes "UIZ+7+1"
 
--- `UIT+1+4`
 abbrev uit-four : List ℕ
-uit-four = 85 ∷ 73 ∷ 84 ∷ 43 ∷ 49 ∷ 43 ∷ 52 ∷ []
+uit-four = bytes "UIT+1+4"
 
 -- one message of the type TSDUPD with its MSD, and a trailer
 abbrev one : List ℕ → Interchange
