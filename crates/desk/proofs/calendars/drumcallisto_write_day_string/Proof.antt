@@ -3,7 +3,6 @@ use Rattle.desk.proofs.calendars.drumcallisto_write_day_string.Statemen
 use Rattle.desk.proofs.calendars.drumcallisto_write_day_string.Tie as tie
 use Rattle.desk.proofs.calendars.drumcallisto_write_day_string.Reads as reads
 use Rattle.desk.proofs.calendars.drumcallisto_write_day_string.Lts as lts
-use Rattle.calendar.proofs.day_string.write_day_string.Reads as write-day-string-reads
 use Rattle.desk.proofs.calendars.date_of.Reads as date-of-reads
 use Rattle.desk.proofs.calendars.told.Reads as told-reads
 

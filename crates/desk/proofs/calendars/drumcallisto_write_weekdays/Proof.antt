@@ -3,7 +3,6 @@ use Rattle.desk.proofs.calendars.drumcallisto_write_weekdays.Statement.
 use Rattle.desk.proofs.calendars.drumcallisto_write_weekdays.Tie as tie
 use Rattle.desk.proofs.calendars.drumcallisto_write_weekdays.Reads as reads
 use Rattle.desk.proofs.calendars.drumcallisto_write_weekdays.Lts as lts
-use Rattle.calendar.proofs.weekdays.write_weekdays.Reads as write-weekdays-reads
 use Rattle.desk.proofs.calendars.date_of.Reads as date-of-reads
 use Rattle.desk.proofs.calendars.told.Reads as told-reads
 
