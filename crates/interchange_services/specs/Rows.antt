@@ -16,7 +16,7 @@ use Rattle.placing.specs.declared.Stepped.the-variants.{Placed, OutOfPlace}
 use Rattle.messages.specs.declared.MessageType.{MessageType}
 use Rattle.messages.specs.declared.MessageType.the-variants.{Skdupd, Tsdupd}
 use Rattle.messages.specs.Tags.{PRD}
-use Rattle.placing.specs.Table.{Table, tagAt, groupAt}
+use Rattle.placing.specs.Table.{Table, groupAt}
 use Rattle.placing.specs.Tsdupd.{tsdupdTable}
 use Rattle.placing.specs.Tables.{tableOf, tsdupd-own}
 use Rattle.placing.specs.Place.{startPlace}

@@ -1,16 +1,15 @@
 -- Bytes that a text names: `~`, which is 126, and two hexadecimal digits.
 -- Assumes nothing.
-use Prim.Native.Nat.{ℕ, zero, suc, _+_, _-_, _*_, _≤_, _<_}
+use Prim.Native.Nat.{ℕ, suc, _+_, _-_, _*_, _≤_, _<_}
 use mathlib.Core.Path.{_≡_, refl, sym, ap, _∙_}
-use mathlib.Core.Bool.{Bool, true, false}
 use mathlib.Core.Logic.{_⊎_, inl, inr}
 use mathlib.Core.List.{List, [], _∷_}
 use native.Mathlib.Omega.{arith}
-use lib.Dec.{eqb, leb, ltb}
+use lib.Dec.{eqb, leb}
 use lib.ListN.{length, getD, set, take, drop, length-drop, length-set}
 use lib.Seq.{take-nil, drop-drop}
 use native.Mathlib.Nat.{sub-zero}
-use borrow.Author.Tests.{eq-eqb, ne-eqb, le-leb, lt-leb, le-ltb, lt-ltb}
+use borrow.Author.Tests.{eq-eqb, ne-eqb, le-leb, lt-leb}
 use Rattle.laws.specs.Choice.{pick, both, choose}
 use Rattle.laws.specs.Lists.{drop-here, drop-past}
 use Rattle.laws.specs.Put.{putAt, put-none, put-step}

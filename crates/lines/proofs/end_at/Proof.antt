@@ -1,14 +1,14 @@
-use Prim.Native.Nat.{ℕ, _+_, _-_, _<_, _≤_}
-use mathlib.Core.Path.{_≡_, refl, sym, ap, _∙_}
-use lib.ListN.{length, drop}
+-- `lines::end_at` stops at the first mark.
+-- Assumes nothing.
+use Prim.Native.Nat.{_-_}
+use mathlib.Core.Path.{_≡_, refl, sym, _∙_}
+use lib.ListN.{length}
 use denote.Ref.{now}
 use native.Mathlib.Omega.{arith}
 use Rattle.lines.specs.Lines.{endAt, end-none, end-here, end-on}
 use borrow.Author.Needs.{needs}
 use Rattle.lines.proofs.end_at.Statement.{statement}
 use Rattle.lines.proofs.end_at.Tie as tie
-use Rattle.lines.proofs.end_at.Reads as reads
-use Rattle.lines.proofs.end_at.Lts as lts
 
 abbrev Inv-loop : tie.InvT-loop
 Inv-loop s from mark i₀ i = endAt s i mark ≡ endAt s from mark

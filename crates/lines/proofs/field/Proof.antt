@@ -1,15 +1,13 @@
-use Prim.Native.Nat.{ℕ, _+_, _-_, _<_, _≤_}
+-- `lines::field` passes so many tabs.
+-- Assumes nothing.
+use Prim.Native.Nat.{ℕ, _-_}
 use mathlib.Core.Path.{_≡_, refl, sym, ap, _∙_}
-use lib.ListN.{length, drop}
 use denote.Ref.{now}
 use native.Mathlib.Omega.{arith}
 use Rattle.lines.specs.Lines.{startAt, start-step, start-none}
 use borrow.Author.Needs.{needs}
 use Rattle.lines.proofs.field.Statement.{statement}
 use Rattle.lines.proofs.field.Tie as tie
-use Rattle.lines.proofs.field.Reads as reads
-use Rattle.lines.proofs.field.Lts as lts
-use Rattle.lines.proofs.past.Reads as past-reads
 
 abbrev Inv-loop : tie.InvT-loop
 Inv-loop line k at₀ left₀ at left = startAt line at 9 left ≡ startAt line 0 9 k

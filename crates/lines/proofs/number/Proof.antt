@@ -1,5 +1,7 @@
-use Prim.Native.Nat.{ℕ, _+_, _-_, _<_, _≤_}
-use mathlib.Core.Path.{_≡_, refl, sym, ap, _∙_}
+-- `lines::number` reads the digits from the left.
+-- Assumes nothing.
+use Prim.Native.Nat.{_-_, _<_}
+use mathlib.Core.Path.{_≡_}
 use lib.ListN.{length, drop}
 use denote.Ref.{now}
 use native.Mathlib.Omega.{arith}
@@ -7,8 +9,6 @@ use Rattle.lines.specs.Numbers.{lastOf, valueOn, numberSaid, number-star
 use borrow.Author.Needs.{needs}
 use Rattle.lines.proofs.number.Statement.{statement}
 use Rattle.lines.proofs.number.Tie as tie
-use Rattle.lines.proofs.number.Reads as reads
-use Rattle.lines.proofs.number.Lts as lts
 
 abbrev Inv-loop : tie.InvT-loop
 Inv-loop s from i₀ value₀ i value = (value < 10000000000000000000) × (lastOf (valueOn value (drop i s)) ≡ numberSaid s from)

@@ -1,15 +1,11 @@
-use Prim.Native.Nat.{ℕ, _+_, _-_, _<_, _≤_}
-use mathlib.Core.Path.{_≡_, refl, sym, ap, _∙_}
-use lib.ListN.{length, drop}
+-- `lines::past` stands past the next mark.
+-- Assumes nothing.
+use Prim.Native.Nat.{_-_}
 use denote.Ref.{now}
-use native.Mathlib.Omega.{arith}
 use Rattle.lines.specs.Lines.{past-some, past-none}
 use borrow.Author.Needs.{needs}
 use Rattle.lines.proofs.past.Statement.{statement}
 use Rattle.lines.proofs.past.Tie as tie
-use Rattle.lines.proofs.past.Reads as reads
-use Rattle.lines.proofs.past.Lts as lts
-use Rattle.lines.proofs.end_at.Reads as end-at-reads
 
 end-at-requires : tie.Need-end-at-requires
 end-at-requires c κs = search needs

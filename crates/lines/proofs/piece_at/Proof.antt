@@ -1,15 +1,12 @@
-use Prim.Native.Nat.{ℕ, _+_, _-_, _<_, _≤_}
-use mathlib.Core.Path.{_≡_, refl, sym, ap, _∙_}
-use lib.ListN.{length, drop}
+-- `lines::piece_at` answers the bytes up to the next mark.
+-- Assumes nothing.
+use Prim.Native.Nat.{_-_}
 use denote.Ref.{now}
 use native.Mathlib.Omega.{arith}
 use Rattle.lines.specs.Lines.{piece-none, piece-between, end-within}
 use borrow.Author.Needs.{needs}
 use Rattle.lines.proofs.piece_at.Statement.{statement}
 use Rattle.lines.proofs.piece_at.Tie as tie
-use Rattle.lines.proofs.piece_at.Reads as reads
-use Rattle.lines.proofs.piece_at.Lts as lts
-use Rattle.lines.proofs.end_at.Reads as end-at-reads
 
 sub-result : tie.Need-sub-result
 sub-result c = search needs

@@ -1,5 +1,7 @@
-use Prim.Native.Nat.{ℕ, _+_, _-_, _<_, _≤_}
-use mathlib.Core.Path.{_≡_, refl, sym, ap, _∙_}
+-- `lines::decode` writes what each sign says, as far as there is room.
+-- Assumes nothing.
+use Prim.Native.Nat.{_-_}
+use mathlib.Core.Path.{ap}
 use lib.ListN.{length, drop}
 use denote.Ref.{now}
 use native.Mathlib.Omega.{arith}
@@ -9,9 +11,6 @@ use Rattle.lines.specs.Coded.{said, Writing, writing-starts, writing-on,
 use borrow.Author.Needs.{needs}
 use Rattle.lines.proofs.coded.decode.Statement.{statement}
 use Rattle.lines.proofs.coded.decode.Tie as tie
-use Rattle.lines.proofs.coded.decode.Reads as reads
-use Rattle.lines.proofs.coded.decode.Lts as lts
-use Rattle.lines.proofs.coded.sign_at.Reads as sign-at-reads
 
 abbrev Inv-loop : tie.InvT-loop
 Inv-loop text out₀ n₀ i₀ out n i = Writing text out₀ n out (said (drop i text))

@@ -1,9 +1,9 @@
+-- `lines::hexadecimal` reads one digit.
+-- Assumes nothing.
 use Rattle.lines.specs.Coded.{hex-low, hex-digit, hex-middle, hex-letter, hex-high}
 use borrow.Author.Needs.{needs}
 use Rattle.lines.proofs.coded.hexadecimal.Statement.{statement}
 use Rattle.lines.proofs.coded.hexadecimal.Tie as tie
-use Rattle.lines.proofs.coded.hexadecimal.Reads as reads
-use Rattle.lines.proofs.coded.hexadecimal.Lts as lts
 
 returns : tie.Need-returns
 returns c = hex-low _ (c .if1 .taken)

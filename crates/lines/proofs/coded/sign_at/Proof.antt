@@ -1,12 +1,11 @@
+-- `lines::sign_at` reads one sign.
+-- Assumes nothing.
 use native.Mathlib.Omega.{arith}
 use denote.Ref.{now}
 use Rattle.lines.specs.Coded.{sign-none, sign-other, sign-short, sign-coded}
 use borrow.Author.Needs.{needs}
 use Rattle.lines.proofs.coded.sign_at.Statement.{statement}
 use Rattle.lines.proofs.coded.sign_at.Tie as tie
-use Rattle.lines.proofs.coded.sign_at.Reads as reads
-use Rattle.lines.proofs.coded.sign_at.Lts as lts
-use Rattle.lines.proofs.coded.hexadecimal.Reads as hexadecimal-reads
 
 returns : tie.Need-returns
 returns c = let a = c .before .before .args in sign-none (now (a .text)) (a .i) (c .if1 .taken)
