@@ -19,7 +19,8 @@ use Rattle.contents.specs.Contents.{Record, goodAccount, goodAccounts, goodWind
 use Rattle.contents.specs.Written.{twoBytes, headOf, roomBytes, roomsBytes, written, recordsIn, accountsIn, numbersIn, held, isRegister}
 use Rattle.rooms.specs.Order.{same-itself}
 use Rattle.rooms.specs.Registers.{length-register}
-use Rattle.slot_check.specs.Same.{Bytes, same-append, same-zeros}
+use Rattle.slots.specs.Words.{Bytes}
+use Rattle.slot_check.specs.Same.{same-append, same-zeros}
 use Rattle.checking.specs.Room.{isRoom, room-length}
 
 -- whether bytes are rooms of so many slots each, one behind the other, and zeros

@@ -6,24 +6,26 @@ use mathlib.Core.List.{List, [], _∷_}
 use mathlib.Core.Logic.{_⊎_, inl, inr}
 use Prim.Native.Nat.{ℕ, zero, suc, _+_, _-_, _*_, _/_, _%_, _≤_, _<_}
 use native.Mathlib.Omega.{arith}
-use native.Mathlib.Nat.{sub-zero, add-zero}
-use lib.Dec.{eqb, lit≤}
-use borrow.Author.Tests.{eq-eqb, ne-eqb, le-leb}
-use lib.ListN.{length, getD, take, drop, length-drop}
-use lib.Seq.{take-take, take-all, drop-drop, getD-drop, length-take-le}
-use Rattle.laws.specs.Choice.{pick, both, choose, all, both-parts, both-assoc, both-false}
+use native.Mathlib.Nat.{sub-zero}
+use lib.Dec.{eqb, ltb, lit≤}
+use borrow.Author.Tests.{ne-eqb, eqb-true, le-leb, le-ltb}
+use lib.ListN.{length, getD, take, drop, replicate, length-drop}
+use lib.Seq.{take-take, take-all, drop-drop, getD-take, length-take-le}
+use Rattle.laws.specs.Choice.{pick, both, choose, all, both-parts, both-assoc, both-false, false≢true}
 use Rattle.laws.specs.Joined.{joined}
 use Rattle.values.specs.Values.{sameText}
 use Rattle.gaps.specs.Zero.{allZero}
 use Rattle.slots.specs.Order.{orderOf}
 use Rattle.slots.specs.Rising.{isBefore}
+use Rattle.slots.specs.Words.{Bytes, highOf, lowOf, four, risesTo, bytes-take, high-take, low-take, words-rise}
 use Rattle.contents.specs.Contents.{Record, goodRecord, comesBefore, inOrder, goodAccount}
 use Rattle.contents.specs.Written.{upToZero, slotOf, roomBytes, recordIn, recordsIn}
 use Rattle.rooms.specs.Order.{number-least}
 use Rattle.rooms.specs.Slots.{record-number, length-slot, length-room, account-records, account-fits}
 use Rattle.rooms.specs.Registers.{room-cons}
-use Rattle.slot_check.specs.Same.{same-append, same-zeros}
+use Rattle.slot_check.specs.Same.{bytes-drop, same-append, same-zeros}
 use Rattle.slot_check.specs.Number.{isNumber, before-any, before-first, before-filled}
+use Rattle.slot_check.specs.Word.{number-first}
 use Rattle.slot_check.specs.Slot.{isSlot, slot-parts}
 
 -- whether n slots are used ones whose numbers rise, the first above the number before it, and zeros from the first unused one on
@@ -60,9 +62,9 @@ room-length n rs q = length-room n rs (account-records n rs q) (account-fits n r
 
 -- ---- slot by slot
 
--- the bytes of the number before: none, or those of a number
+-- the bytes of the number before: zeros, or those of a number
 abbrev Told : List ℕ → Type 0
-Told x = (x ≡ []) ⊎ (isNumber x ≡ true)
+Told x = (x ≡ replicate 10 0) ⊎ (isNumber x ≡ true)
 
 told-before : (x y : List ℕ) → Told x → isNumber y ≡ true → isBefore (orderOf x y) ≡ comesBefore (upToZero x) (upToZero y)
 unfolding upToZero
@@ -88,14 +90,14 @@ first-row r rs n b g =
 abbrev goodRows : List ℕ → ℕ → List Record → List ℕ → Bool
 goodRows x n rs b = both (both (all goodRecord rs) (risingFrom (upToZero x) rs)) (sameText (roomBytes n rs) b)
 
+slot-number : (b : List ℕ) → isSlot (take 140 b) ≡ true → length (take 140 b) ≡ 140 → isNumber (take 10 b) ≡ true
+slot-number b q h =
+    let e : isNumber (take 10 (take 140 b)) ≡ true = both-parts _ _ (sym (slot-parts (take 140 b) h) ∙ q) .0 in
+    rw (take-take 10 140 b (lit≤ tt)) at e
+
 module _ (x : List ℕ) (n : ℕ) (b : List ℕ) (t : Told x) (h : length b ≡ suc n * 140) (rs : List Record) where
   slot-length : length (take 140 b) ≡ 140
   slot-length = length-take-le 140 b (omega arith)
-
-  slot-number : isSlot (take 140 b) ≡ true → isNumber (take 10 b) ≡ true
-  slot-number q =
-      let e : isNumber (take 10 (take 140 b)) ≡ true = both-parts _ _ (sym (slot-parts (take 140 b) slot-length) ∙ q) .0 in
-      rw (take-take 10 140 b (lit≤ tt)) at e
 
   number-here : recordIn (take 140 b) .number ≡ upToZero (take 10 b)
   unfolding recordIn
@@ -106,7 +108,7 @@ module _ (x : List ℕ) (n : ℕ) (b : List ℕ) (t : Told x) (h : length b ≡ 
   slot-here q =
       let r : Record = recordIn (take 140 b) in
       let w = both-parts (goodRecord r) (sameText (slotOf r) (take 140 b)) q in
-      let m = slot-number q in
+      let m = slot-number b q slot-length in
       rw (first-row r rs n b (w .0))
       (regrouped (goodRecord r) (all goodRecord rs) (comesBefore (upToZero x) (r .number)) (risingFrom (r .number) rs) (sameText (slotOf r) (take 140 b)) (sameText (roomBytes n rs) (drop 140 b)) (w .0) (w .1)
       ∙ rw (number-here, told-before x (take 10 b) t m))
@@ -137,7 +139,7 @@ rows-fit x (suc n) b t h =
     (λ p.
     choose (isSlot (take 140 b))
     (λ q.
-    let ih = rows-fit (take 10 b) n (drop 140 b) (inr (slot-number x n b t h rs q)) (omega arith) in
+    let ih = rows-fit (take 10 b) n (drop 140 b) (inr (slot-number b q (slot-length x n b t h rs))) (omega arith) in
     rw p (slot-here x n b t h rs q ∙ rw q (ap (both (isBefore (orderOf x (take 10 b)))) ih)))
     (λ q. rw p (no-slot x n b t h rs q ∙ rw q (sym (both-false (isBefore (orderOf x (take 10 b))))))))
 
@@ -154,11 +156,11 @@ from-none (r ∷ rs) =
     (λ p. rw p)
 
 -- what `is_room` tests
-pub room-is : (n : ℕ) (b : List ℕ) → length b ≡ n * 140 → isRoom n b ≡ slotsFit [] n b
+pub room-is : (n : ℕ) (b : List ℕ) → length b ≡ n * 140 → isRoom n b ≡ slotsFit (replicate 10 0) n b
 unfolding isRoom goodAccount upToZero
 room-is n b h =
     let rs : List Record = recordsIn n b in
-    rw (le-leb (length rs) n (records-le n b), from-none rs) (rows-fit [] n b (inl refl) h)
+    rw (le-leb (length rs) n (records-le n b), from-none rs) (rows-fit (replicate 10 0) n b (inl refl) h)
 
 -- ---- for the code
 
@@ -167,91 +169,158 @@ unfolding slotsFit
 slots-end x zero b h = refl
 slots-end x (suc n) b h = absurd (omega arith)
 
+zero-first : (b : List ℕ) → eqb (getD b 0 0) 0 ≡ false → allZero b ≡ false
+unfolding allZero
+zero-first [] p = absurd (false≢true (sym p))
+zero-first (c ∷ b) p = rw p
+
+zero-take : (n : ℕ) (b : List ℕ) → allZero b ≡ true → allZero (take n b) ≡ true
+unfolding allZero
+zero-take zero b q = refl
+zero-take (suc n) [] q = refl
+zero-take (suc n) (c ∷ b) q = choose (eqb c 0) (λ p. rw p (zero-take n b (rw p at q))) (λ p. absurd (false≢true (rw p at q)))
+
+-- nothing comes before zeros, as many
+before-zeros : (x y : List ℕ) → length x ≡ length y → allZero y ≡ true → isBefore (orderOf x y) ≡ false
+unfolding allZero orderOf
+before-zeros [] [] h q = refl
+before-zeros [] (d ∷ y) h q = absurd (omega arith)
+before-zeros (c ∷ x) [] h q = refl
+before-zeros (c ∷ x) (d ∷ y) h q =
+    choose (eqb d 0)
+    (λ p.
+    let e = eqb-true d 0 p in
+    choose (ltb d c)
+    (λ r. rw (le-ltb c d (omega arith), r))
+    (λ r. rw (le-ltb c d (omega arith), r) (before-zeros x y (omega arith) (rw p at q))))
+    (λ p. absurd (false≢true (rw p at q)))
+
 module _ (x : List ℕ) (b : List ℕ) where
-  slots-unused : (n : ℕ) → 0 < n → getD b 0 0 ≡ 0 → slotsFit x n b ≡ allZero b
+  slots-falls : (n : ℕ) → 0 < n → isBefore (orderOf x (take 10 b)) ≡ false → slotsFit x n b ≡ allZero b
   unfolding slotsFit
-  slots-unused zero h e = absurd (omega arith)
-  slots-unused (suc n) h e = rw (eq-eqb (getD b 0 0) 0 e)
+  slots-falls zero h q = absurd (omega arith)
+  slots-falls (suc n) h q = choose (eqb (getD b 0 0) 0) (λ p. rw p) (λ p. rw (p, q) (sym (zero-first b p)))
 
-  slots-used : (n : ℕ) → 0 < n → (getD b 0 0 ≡ 0 → ⊥)
-      → slotsFit x n b ≡ both (isBefore (orderOf x (take 10 b))) (both (isSlot (take 140 b)) (slotsFit (take 10 b) (n - 1) (drop 140 b)))
+  module _ (u : isBefore (orderOf x (take 10 b)) ≡ true) (e : length x ≡ 10) (l : 10 ≤ length b) where
+    slots-no-slot : (n : ℕ) → 0 < n → isSlot (take 140 b) ≡ false → slotsFit x n b ≡ false
+    unfolding slotsFit
+    slots-no-slot zero h q = absurd (omega arith)
+    slots-no-slot (suc n) h q =
+        choose (eqb (getD b 0 0) 0)
+        (λ p.
+        rw p
+        (choose (allZero b)
+        (λ z. absurd (false≢true (sym (before-zeros x (take 10 b) (e ∙ sym (length-take-le 10 b l)) (zero-take 10 b z)) ∙ u)))
+        (λ z. z)))
+        (λ p. rw (p, u, q))
+
+  slots-on : (n : ℕ) → 0 < n → isBefore (orderOf x (take 10 b)) ≡ true → isSlot (take 140 b) ≡ true → (getD b 0 0 ≡ 0 → ⊥) → slotsFit x n b ≡ slotsFit (take 10 b) (n - 1) (drop 140 b)
   unfolding slotsFit
-  slots-used zero h e = absurd (omega arith)
-  slots-used (suc n) h e =
+  slots-on zero h u v d = absurd (omega arith)
+  slots-on (suc n) h u v d =
       let k : suc n - 1 ≡ n = omega arith in
-      rw (ne-eqb (getD b 0 0) 0 e, k)
+      rw (ne-eqb (getD b 0 0) 0 d, u, v, k)
 
--- the number before stands from one index to another, and so many slots are left from an index on
-pub record Left (room : List ℕ) (from to at : ℕ) : Type 0 where
-  pub order : from ≤ to
-  pub inside : to ≤ length room
+-- the number before is in two words, and so many slots are left from an index on
+pub record Left (room : List ℕ) (high low at : ℕ) : Type 0 where
+  pub number : List ℕ
+  pub ten : length number ≡ 10
+  pub all : Bytes number
+  pub upper : high ≡ highOf number
+  pub lower : low ≡ lowOf number
   pub slots : ℕ
   pub end : length room ≡ at + slots * 140
-  pub same : slotsFit (take (to - from) (drop from room)) slots (drop at room) ≡ isRoom (length room / 140) room
+  pub same : slotsFit number slots (drop at room) ≡ isRoom (length room / 140) room
+
+zero-bytes : (n : ℕ) → Bytes (replicate n 0)
+zero-bytes zero i = omega arith
+zero-bytes (suc n) zero = omega arith
+zero-bytes (suc n) (suc i) = zero-bytes n i
 
 pub left-start : (room : List ℕ) → length room % 140 ≡ 0 → Left room 0 0 0
+unfolding highOf lowOf four
 left-start room h =
     record {
-      order = omega arith;
-      inside = omega arith;
+      number = replicate 10 0;
+      ten = refl;
+      all = zero-bytes 10;
+      upper = refl;
+      lower = refl;
       slots = length room / 140;
       end = omega arith;
       same = sym (room-is (length room / 140) room (omega arith));
     }
 
-module _ (room : List ℕ) (from to at : ℕ) (l : Left room from to at) where
-  abbrev before : List ℕ
-  before = take (to - from) (drop from room)
+module _ (room : List ℕ) (f : Bytes room) (high low at : ℕ) (l : Left room high low at) where
+  abbrev whole : Bool
+  whole = isRoom (length room / 140) room
 
-  pub left-end : length room ≤ at → true ≡ isRoom (length room / 140) room
-  left-end h = let e = l .end in sym (slots-end before (l .slots) (drop at room) (omega arith)) ∙ l .same
+  abbrev rest : List ℕ
+  rest = drop at room
+
+  pub left-end : length room ≤ at → true ≡ whole
+  left-end h = let e = l .end in sym (slots-end (l .number) (l .slots) rest (omega arith)) ∙ l .same
 
   module _ (h : at < length room) where
     pub room-for-slot : at + 140 ≤ length room
     room-for-slot = let e = l .end in omega arith
 
-    first-here : getD (drop at room) 0 0 ≡ getD room at 0
-    first-here = rw (getD-drop, add-zero)
+    slots-left : 0 < l .slots
+    slots-left = let e = l .end in omega arith
 
-    pub left-unused : getD room at 0 ≡ 0 → (z : Bool) → z ≡ allZero (take (length room - at) (drop at room)) → z ≡ isRoom (length room / 140) room
-    left-unused e z q =
-        let k = l .end in
-        let d = length-drop at room in
-        q ∙ ap allZero (take-all (length room - at) (drop at room) (omega arith)) ∙ sym (slots-unused before (drop at room) (l .slots) (omega arith) (first-here ∙ e)) ∙ l .same
+    rest-length : 140 ≤ length rest
+    rest-length = let d = length-drop at room in let k = room-for-slot in omega arith
 
-    module _ (d : getD room at 0 ≡ 0 → ⊥) where
-      used-here :
-          both (isBefore (orderOf before (take 10 (drop at room))))
-          (both (isSlot (take 140 (drop at room))) (slotsFit (take 10 (drop at room)) (l .slots - 1) (drop 140 (drop at room))))
-          ≡ isRoom (length room / 140) room
-      used-here = let k = l .end in sym (slots-used before (drop at room) (l .slots) (omega arith) (λ e. d (sym first-here ∙ e))) ∙ l .same
+    module _
+        (k m : ℕ)
+        (p : k ≡ highOf (take (at + 140 - at) rest))
+        (q : m ≡ lowOf (take (at + 140 - at) rest))
+      where
+        upper-here : k ≡ highOf (take 10 rest)
+        upper-here = p ∙ high-take (at + 140 - at) rest (omega arith) ∙ sym (high-take 10 rest (omega arith))
 
-      module _ (u : Bool) (p : u ≡ isBefore (orderOf before (take (at + 10 - at) (drop at room)))) where
-        told-rises : isBefore (orderOf before (take 10 (drop at room))) ≡ u
-        told-rises =
-            let e : 10 ≡ at + 10 - at = omega arith in
-            ap (λ (k : ℕ). isBefore (orderOf before (take k (drop at room)))) e ∙ sym p
+        lower-here : m ≡ lowOf (take 10 rest)
+        lower-here = q ∙ low-take (at + 140 - at) rest (omega arith) ∙ sym (low-take 10 rest (omega arith))
 
-        pub left-falls : u ≡ false → false ≡ isRoom (length room / 140) room
-        left-falls t = rw (told-rises, t) at used-here
+        bytes-here : Bytes (take 10 rest)
+        bytes-here = bytes-take 10 rest (bytes-drop at room f)
 
-        module _ (t : u ≡ true) (v : Bool) (q : v ≡ isSlot (take (at + 140 - at) (drop at room))) where
-          told-slot : isSlot (take 140 (drop at room)) ≡ v
-          told-slot =
-              let e : 140 ≡ at + 140 - at = omega arith in
-              ap (λ (k : ℕ). isSlot (take k (drop at room))) e ∙ sym q
+        ten-here : length (take 10 rest) ≡ 10
+        ten-here = length-take-le 10 rest (let e = rest-length in omega arith)
 
-          pub left-no-slot : v ≡ false → false ≡ isRoom (length room / 140) room
-          left-no-slot r = rw (told-rises, t, told-slot, r) at used-here
+        module _ (u : Bool) (r : u ≡ risesTo high low k m) where
+          told-rises : isBefore (orderOf (l .number) (take 10 rest)) ≡ u
+          told-rises = sym (r ∙ rw (l .upper, l .lower, upper-here, lower-here) (words-rise (l .number) (take 10 rest) (l .all) bytes-here (l .ten) ten-here))
 
-          pub left-on : v ≡ true → Left room at (at + 10) (at + 140)
-          left-on r =
-              let k = l .end in
-              let e : at + 10 - at ≡ 10 = omega arith in
-              record {
-                order = omega arith;
-                inside = omega arith;
-                slots = l .slots - 1;
-                end = omega arith;
-                same = rw (e, ← drop-drop 140 at room) (rw (told-rises, t, told-slot, r) at used-here);
-              }
+          pub left-unused : u ≡ false → (z : Bool) → z ≡ allZero (take (length room - at) rest) → z ≡ whole
+          left-unused t z e =
+              let d = length-drop at room in
+              e ∙ ap allZero (take-all (length room - at) rest (omega arith)) ∙ sym (slots-falls (l .number) rest (l .slots) slots-left (told-rises ∙ t)) ∙ l .same
+
+          module _ (t : u ≡ true) (v : Bool) (e : v ≡ isSlot (take (at + 140 - at) rest)) where
+            told-slot : isSlot (take 140 rest) ≡ v
+            told-slot =
+                let g : 140 ≡ at + 140 - at = omega arith in
+                ap (λ (n : ℕ). isSlot (take n rest)) g ∙ sym e
+
+            pub left-no-slot : v ≡ false → false ≡ whole
+            left-no-slot w = sym (slots-no-slot (l .number) rest (told-rises ∙ t) (l .ten) (let g = rest-length in omega arith) (l .slots) slots-left (told-slot ∙ w)) ∙ l .same
+
+            pub left-on : v ≡ true → Left room k m (at + 140)
+            left-on w =
+                let g = l .end in
+                let s : isSlot (take 140 rest) ≡ true = told-slot ∙ w in
+                let n : isNumber (take 10 rest) ≡ true = slot-number rest s (length-take-le 140 rest rest-length) in
+                record {
+                  number = take 10 rest;
+                  ten = ten-here;
+                  all = bytes-here;
+                  upper = upper-here;
+                  lower = lower-here;
+                  slots = l .slots - 1;
+                  end = omega arith;
+                  same =
+                      ap (slotsFit (take 10 rest) (l .slots - 1)) (sym (drop-drop 140 at room))
+                      ∙ sym (slots-on (l .number) rest (l .slots) slots-left (told-rises ∙ t) s (λ z. number-first (take 10 rest) ten-here n (getD-take 10 rest 0 0 (lit≤ tt) ∙ z)))
+                      ∙ l .same;
+                }

@@ -4,12 +4,10 @@
 ghost use mathlib.Core.Path.{_≡_};
 ghost use Prim.Native.Nat.{_+_, _*_, _/_, _%_, _≤_, _<_};
 ghost use lib.ListN.{length, getD, drop};
-ghost use Rattle.slots.specs.Order.{orderOf};
-ghost use Rattle.slots.specs.Rising.{isBefore};
 ghost use Rattle.contents.specs.Written.{numbersIn, isRegister};
 ghost use Rattle.checking.specs.Room.{isRoom};
 ghost use Rattle.checking.specs.Register.{roomsFit};
-use slots::Order;
+use slots::words;
 
 const LENGTH: usize = 35858;
 
@@ -17,46 +15,32 @@ const HEAD: usize = 18;
 
 const SLOT: usize = 140;
 
-const NUMBER: usize = 10;
-
 // The days of a window, and how many dates there are.
 const WINDOW: usize = 512;
 
 const DATES: usize = 40177;
 
-// Whether one text comes before another.
-fn comes_before(a: &[u8], b: &[u8]) -> bool
-    ensures { λ r. ⌜ r ≡ isBefore (orderOf (now (a .entry)) (now (b .entry))) ⌝ }
-{
-    match slots::compare(a, b) {
-        Order::Before => true,
-        Order::Same => false,
-        Order::After => false,
-    }
-}
-
-// Whether bytes are an account's room. Before the first number stands none, which comes before every number.
+// Whether bytes are an account's room. Before the first number stands 0, which comes before every number. A slot whose number does not
+// rise is not used, or the room is none.
 fn is_room(room: &[u8]) -> bool
     requires { ⌜ length (now room) % 140 ≡ 0 ⌝ }
     ensures { λ r. ⌜ r ≡ isRoom (length (now (room .entry)) / 140) (now (room .entry)) ⌝ }
 {
-    let mut from = 0;
-    let mut to = 0;
+    let mut high = 0;
+    let mut low = 0;
     let mut at = 0;
     while at < room.len() {
-        if room[at] == 0 {
+        let next = at + SLOT;
+        let next_high = words::high(&room[at..next]);
+        let next_low = words::low(&room[at..next]);
+        if !words::rises(high, low, next_high, next_low) {
             return gaps::is_zero(&room[at..]);
         }
-        let end = at + NUMBER;
-        if !comes_before(&room[from..to], &room[at..end]) {
-            return false;
-        }
-        let next = at + SLOT;
         if !slot_check::is_slot(&room[at..next]) {
             return false;
         }
-        from = at;
-        to = end;
+        high = next_high;
+        low = next_low;
         at = next;
     }
     true

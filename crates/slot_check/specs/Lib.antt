@@ -1,3 +1,4 @@
 pub mod Same
 pub mod Number
 pub mod Slot
+pub mod Word

@@ -3,15 +3,15 @@
 use mathlib.Core.Path.{_≡_, refl, sym, _∙_, ap}
 use mathlib.Core.Bool.{Bool, true, false}
 use mathlib.Core.List.{List, [], _∷_}
-use Prim.Native.Nat.{ℕ, suc, _+_, _-_, _≤_, _<_}
+use Prim.Native.Nat.{ℕ, zero, suc, _+_, _-_, _≤_, _<_, min}
 use native.Mathlib.Omega.{arith}
-use native.Mathlib.Nat.{sub-zero}
+use native.Mathlib.Nat.{sub-zero, zero-min, min-zero, suc-min-suc}
 use lib.Dec.{eqb, leb}
-use borrow.Author.Tests.{eq-eqb, eqb-true, le-leb}
-use lib.ListN.{length, getD, take, drop, length-append, length-replicate, length-drop}
-use lib.Seq.{take-all}
+use borrow.Author.Tests.{eq-eqb, eqb-true, eqb-false, le-leb, lt-ltb}
+use lib.ListN.{length, getD, take, drop, replicate, length-append, length-replicate, drop-of-length-le}
+use lib.Seq.{length-take-le}
 use Rattle.laws.specs.Choice.{pick, both, choose, all, both-parts, both-assoc, both-true}
-use Rattle.laws.specs.Lists.{drop-here, drop-past}
+use Rattle.laws.specs.Lists.{drop-here, drop-past, drop-take}
 use Rattle.syntax.specs.Bytes.{permittedOf}
 use Rattle.values.specs.Values.{sameText}
 use Rattle.gaps.specs.Zero.{allZero}
@@ -108,17 +108,32 @@ number-is x h =
     ∙ ap (λ (n : ℕ). both a (both (all permittedOf (upToZero x)) (sameText (filledUp n (upToZero x)) x))) (sym h)
     ∙ rw (rest-zero x) (some-first x))
 
-module _ (x : List ℕ) (h : length x ≡ 10) (n : ℕ) (e : n ≡ permittedRun x) where
-  pub run-inside : n ≤ length x
-  run-inside = let k = run-le x in omega arith
+run-take : (k : ℕ) (s : List ℕ) → permittedRun (take k s) ≡ min k (permittedRun s)
+unfolding permittedRun
+run-take zero s = sym (zero-min (permittedRun s))
+run-take (suc k) [] = sym (min-zero (suc k))
+run-take (suc k) (b ∷ s) = choose (permittedOf b) (λ p. rw p (ap suc (run-take k s) ∙ sym (suc-min-suc k (permittedRun s)))) (λ p. rw p (sym (min-zero (suc k))))
 
-  pub number-none : n ≡ 0 → false ≡ isNumber x
-  number-none q = sym (number-is x h ∙ rw (← e, q))
+module _ (s : List ℕ) (h : length s ≡ 140) (n : ℕ) (e : n ≡ permittedRun s) where
+  ten : length (take 10 s) ≡ 10
+  ten = length-take-le 10 s (omega arith)
 
-  pub number-rest : (n ≡ 0 → ⊥) → (z : Bool) → z ≡ allZero (take (length x - n) (drop n x)) → z ≡ isNumber x
-  number-rest q z t =
-      let d = length-drop n x in
-      t ∙ rw (take-all (length x - n) (drop n x) (omega arith)) (sym (number-is x h ∙ rw (← e, le-leb 1 n (omega arith))))
+  run-here : permittedRun (take 10 s) ≡ min 10 n
+  run-here = run-take 10 s ∙ ap (min 10) (sym e)
+
+  pub number-none : n ≡ 0 → false ≡ isNumber (take 10 s)
+  number-none q = sym (number-is (take 10 s) ten ∙ rw (run-here, q))
+
+  pub number-full : 10 ≤ n → true ≡ isNumber (take 10 s)
+  unfolding allZero
+  number-full q =
+      let m : min 10 n ≡ 10 = omega arith in
+      sym (number-is (take 10 s) ten ∙ rw (run-here, m, drop-of-length-le (take 10 s) {i = 10} (let t = ten in omega arith)))
+
+  pub number-rest : (n ≡ 0 → ⊥) → n < 10 → (z : Bool) → z ≡ allZero (take (10 - n) (drop n s)) → z ≡ isNumber (take 10 s)
+  number-rest d q z t =
+      let m : min 10 n ≡ n = omega arith in
+      t ∙ sym (number-is (take 10 s) ten ∙ rw (run-here, m, le-leb 1 n (omega arith), drop-take n 10 s))
 
 -- ---- numbers filled up with zeros stand to each other as the numbers do
 
@@ -126,6 +141,14 @@ pub before-any : (l : List ℕ) → 1 ≤ length l → comesBefore [] l ≡ true
 unfolding comesBefore
 before-any [] h = absurd (omega arith)
 before-any (b ∷ l) h = refl
+
+zeros-before : (x : List ℕ) → 1 ≤ length (upToZero x) → isBefore (orderOf (replicate 10 0) x) ≡ true
+unfolding upToZero orderOf
+zeros-before [] h = absurd (omega arith)
+zeros-before (b ∷ l) h =
+    choose (eqb b 0)
+    (λ p. absurd (let g = rw p at h in omega arith))
+    (λ p. let d = eqb-false b 0 p in rw (lt-ltb 0 b (omega arith)))
 
 module _ (x : List ℕ) (q : isNumber x ≡ true) where
   number-filled : filledUp 10 (upToZero x) ≡ x
@@ -136,12 +159,11 @@ module _ (x : List ℕ) (q : isNumber x ≡ true) where
   unfolding isNumber
   number-good = both-parts (goodNumber (upToZero x)) (sameText (filledUp 10 (upToZero x)) x) q .0
 
-  -- no number comes before every number
-  pub before-first : isBefore (orderOf [] x) ≡ comesBefore [] (upToZero x)
+  -- zeros come before every number
+  pub before-first : isBefore (orderOf (replicate 10 0) x) ≡ comesBefore [] (upToZero x)
   before-first =
       let m = number-least (upToZero x) number-good in
-      let l : length x ≡ 10 = sym (ap length number-filled) ∙ length-filled 10 (upToZero x) (number-most (upToZero x) number-good) in
-      sym (before-order [] x) ∙ before-any x (omega arith) ∙ sym (before-any (upToZero x) m)
+      zeros-before x m ∙ sym (before-any (upToZero x) m)
 
 pub before-filled : (x y : List ℕ) → isNumber x ≡ true → isNumber y ≡ true → isBefore (orderOf x y) ≡ comesBefore (upToZero x) (upToZero y)
 before-filled x y p q =

@@ -12,6 +12,7 @@ use lib.Seq.{getD-drop}
 use Rattle.laws.specs.Choice.{both, choose, all, both-assoc}
 use Rattle.values.specs.Values.{sameText}
 use Rattle.gaps.specs.Zero.{allZero}
+use Rattle.slots.specs.Words.{Bytes}
 use Rattle.rooms.specs.Order.{same-not}
 
 -- a text of two parts is compared part by part
@@ -38,10 +39,6 @@ same-zeros zero [] h = refl
 same-zeros zero (d ∷ b) h = absurd (omega arith)
 same-zeros (suc n) [] h = absurd (omega arith)
 same-zeros (suc n) (d ∷ b) h = rw (same-number 0 d, same-zeros n b (omega arith))
-
--- a list of bytes
-abbrev pub Bytes : List ℕ → Type 0
-Bytes s = (i : ℕ) → getD s i 0 < 256
 
 pub bytes-drop : (k : ℕ) (s : List ℕ) → Bytes s → Bytes (drop k s)
 bytes-drop k s h i = rw getD-drop (h (k + i))

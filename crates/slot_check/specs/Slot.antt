@@ -17,7 +17,8 @@ use Rattle.contents.specs.Contents.{nothing, put, removal, isCalendar, goodNumb
 use Rattle.contents.specs.Written.{filledUp, upToZero, liveBytes, pendingBytes, slotOf, liveIn, pendingIn, recordIn}
 use Rattle.rooms.specs.Order.{same-itself}
 use Rattle.rooms.specs.Slots.{length-slot}
-use Rattle.slot_check.specs.Same.{Bytes, bytes-drop, bytes-all, same-append, same-number, same-zeros, other-length}
+use Rattle.slots.specs.Words.{Bytes}
+use Rattle.slot_check.specs.Same.{bytes-drop, bytes-all, same-append, same-number, same-zeros, other-length}
 use Rattle.slot_check.specs.Number.{isNumber, length-filled, length-up}
 
 -- whether bytes are a good record, written

@@ -2,9 +2,10 @@
 //! the live one and the pending one.
 
 ghost use mathlib.Core.Path.{_≡_};
-ghost use lib.ListN.{length};
+ghost use lib.ListN.{length, take};
 ghost use Rattle.slot_check.specs.Number.{permittedRun, isNumber};
 ghost use Rattle.slot_check.specs.Slot.{isSlot};
+use slots::words;
 
 const SLOT: usize = 140;
 
@@ -24,16 +25,40 @@ fn permitted_run(x: &[u8]) -> usize
     i
 }
 
-// Whether bytes are a number, filled up with zeros.
-fn is_number(x: &[u8]) -> bool
-    requires { ⌜ length (now x) ≡ 10 ⌝ }
-    ensures { λ r. ⌜ r ≡ isNumber (now (x .entry)) ⌝ }
+// Whether a slot's number is one, filled up with zeros: byte by byte.
+fn is_long(slot: &[u8]) -> bool
+    requires { ⌜ length (now slot) ≡ 140 ⌝ }
+    ensures { λ r. ⌜ r ≡ isNumber (take 10 (now (slot .entry))) ⌝ }
 {
-    let end = permitted_run(x);
+    let end = permitted_run(slot);
     if end == 0 {
         return false;
     }
-    gaps::is_zero(&x[end..])
+    if NUMBER <= end {
+        return true;
+    }
+    gaps::is_zero(&slot[end..NUMBER])
+}
+
+// The same. One of at most eight characters is a word, whose highest byte is looked at, again and again, until nothing is left.
+fn is_number(slot: &[u8]) -> bool
+    requires { ⌜ length (now slot) ≡ 140 ⌝ }
+    ensures { λ r. ⌜ r ≡ isNumber (take 10 (now (slot .entry))) ⌝ }
+{
+    let mut left = words::high(slot);
+    if words::low(slot) != 0 {
+        return is_long(slot);
+    }
+    if left == 0 {
+        return false;
+    }
+    while left != 0 {
+        if !syntax::bytes::permitted((left >> 56) as u8) {
+            return false;
+        }
+        left = left << 8;
+    }
+    true
 }
 
 /// Whether bytes are a slot in use: its number, a live calendar or none, a pending entry or none.
@@ -45,7 +70,7 @@ pub fn is_slot(slot: &[u8]) -> bool
     }
     let live = slot[10];
     let pending = slot[75];
-    if !is_number(&slot[..NUMBER]) {
+    if !is_number(slot) {
         return false;
     }
     if live == 0 {

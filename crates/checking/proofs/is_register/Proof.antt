@@ -3,7 +3,7 @@
 use mathlib.Core.Path.{sym, _∙_}
 use native.Mathlib.Omega.{arith}
 use borrow.Author.Needs.{needs}
-use Rattle.slot_check.specs.Same.{Bytes}
+use Rattle.slots.specs.Words.{Bytes}
 use Rattle.checking.specs.Register.{other-buffer, window-outside, window-inside}
 use Rattle.checking.proofs.is_register.Statement.{statement}
 use Rattle.checking.proofs.is_register.Tie as tie

@@ -10,7 +10,7 @@ use lib.Seq.{length-take-le}
 use borrow.Author.Tests.{not-true, not-false}
 use borrow.Author.Needs.{needs}
 use Rattle.gaps.specs.Zero.{allZero}
-use Rattle.slot_check.specs.Same.{Bytes}
+use Rattle.slots.specs.Words.{Bytes}
 use Rattle.slot_check.specs.Slot.{isSlot, flagsFit, fits-put, fits-none, fits-no-flag, fits-both, fits-no-entry, fits-live, other-slot, slot-no-number, slot-number-fits}
 use Rattle.slot_check.proofs.is_slot.Statement.{statement}
 use Rattle.slot_check.proofs.is_slot.Tie as tie
@@ -24,22 +24,19 @@ shared-slice-read-live c = search needs
 shared-slice-read-pending : tie.Need-shared-slice-read-pending
 shared-slice-read-pending c = search needs
 
-slice-aggregate-is-number : tie.Need-slice-aggregate-is-number
-slice-aggregate-is-number c = let h = c .before .before .before .if1 .left in sym (length-take-le 10 (c .before .before .before .before .before .args .slot .now) (omega arith))
-
 is-number-requires : tie.Need-is-number-requires
-is-number-requires c κs = let h = c .before .before .before .if1 .left in length-take-le 10 (c .before .before .before .before .before .args .slot .now) (omega arith)
+is-number-requires c κs = c .before .before .if1 .left
 
 -- the number was looked at
 module _ (n : tie.After-is-number) where
   abbrev slot : List ℕ
-  slot = n .before .before .before .before .before .before .args .slot .now
+  slot = n .before .before .before .before .before .args .slot .now
 
   bytes : Bytes slot
-  bytes i = omega (arith, n .before .before .before .shared-slice-known2 .given i)
+  bytes i = omega (arith, n .before .before .shared-slice-known2 .given i)
 
   refused : n .is-number .result ≡ false → false ≡ isSlot slot
-  refused t = slot-no-number slot (n .before .before .before .before .if1 .left) bytes (n .is-number .result) (n .is-number .ensures) t
+  refused t = slot-no-number slot (n .before .before .before .if1 .left) bytes (n .is-number .result) (n .is-number .ensures) t
 
   abbrev live : ℕ
   live = getD slot 10 0
@@ -54,7 +51,7 @@ module _ (n : tie.After-is-number) where
   no-put = allZero (take 64 (drop 76 slot))
 
   fitting : n .is-number .result ≡ true → flagsFit live pending no-live no-put ≡ isSlot slot
-  fitting t = slot-number-fits slot (n .before .before .before .before .if1 .left) bytes (n .is-number .result) (n .is-number .ensures) t
+  fitting t = slot-number-fits slot (n .before .before .before .if1 .left) bytes (n .is-number .result) (n .is-number .ensures) t
 
 returns-2 : tie.Need-returns-2
 returns-2 c = refused (c .before) (not-true _ (c .if2 .taken))
@@ -130,7 +127,6 @@ is-slot-spec =
     returns
     shared-slice-read-live
     shared-slice-read-pending
-    slice-aggregate-is-number
     is-number-requires
     returns-2
     returns-3
