@@ -114,7 +114,7 @@ fn times(place: Place, table: &[[u32; 8]], tag: u32, e: usize) -> u32
     repeated(place, table, e)
 }
 
-// The place of the next segment, by its tag: that of the hint, or by the placing rule where the hint does not tell.
+/// The place of the next segment, by its tag: that of the hint, or by the placing rule where the hint does not tell.
 pub fn quick_step(place: Place, table: &[[u32; 8]], hints: &[u64], tag: u32) -> Stepped
     ensures step { λ r. ⌜ r ≡ quickOf (now (table .entry)) (now (hints .entry)) place tag ⌝ }
     ensures said { λ r. ⌜ ((at : ℕ) → steppedAnswer at r ≡ quickAnswer at (now (table .entry)) (now (hints .entry)) place tag) ⌝ }

@@ -10,8 +10,8 @@ ghost use Rattle.placing.specs.Rule.{inGroup, fits, again, firstOf, step
 ghost use Rattle.placing.specs.Answer.{steppedAnswer, placeAnswer};
 ghost use Rattle.placing.specs.Reading.{readGroup, turnOf};
 
-// The row reached, and how often each open level has been entered: the place itself at its own level,
-// each group that it stands in at that group's level. Deeper levels have 0.
+/// The row reached, and how often each open level has been entered: the place itself at its own level,
+/// each group that it stands in at that group's level. Deeper levels have 0.
 pub struct Place {
     pub row: usize,
     pub c0: u32,
@@ -21,13 +21,13 @@ pub struct Place {
     pub c4: u32,
 }
 
-// The place of the next segment; out of place is document 01's number 9.
+/// The place of the next segment; out of place is document 01's number 9.
 pub enum Stepped {
     Placed(Place),
     OutOfPlace,
 }
 
-// Where a tag fits in one place: the row, and the depth that is left below it.
+/// Where a tag fits in one place: the row, and the depth that is left below it.
 pub enum Fit {
     At(usize, usize),
     Nowhere,
@@ -62,7 +62,7 @@ const HELD: usize = 6;
 
 const OUTER: usize = 7;
 
-// The number in a row's column, 0 past the last row.
+/// The number in a row's column, 0 past the last row.
 pub fn entry(table: &[[u32; 8]], row: usize, column: usize) -> u32
     ensures { λ r. ⌜ r ≡ entryOf (now (table .entry)) row column ⌝ }
 {
@@ -189,7 +189,7 @@ fn kept(own: u32, k: usize, level: usize, n: u32, last: usize) -> u32
 }
 
 impl Place {
-    // The place reached with a message's UIH.
+    /// The place reached with a message's UIH.
     pub fn start() -> Place
         ensures { λ r. ⌜ r ≡ startPlace ⌝ }
     {
@@ -203,7 +203,7 @@ impl Place {
         }
     }
 
-    // The group of the segment placed, 0 for none.
+    /// The group of the segment placed, 0 for none.
     pub fn group(self, table: &[[u32; 8]]) -> u32
         ensures { λ r. ⌜ r ≡ groupOf (now (table .entry)) self ⌝ }
     {
@@ -230,7 +230,7 @@ impl Place {
         if level == 4 { self.c4 } else { 0 }
     }
 
-    // The place in a row: that of a level entered for the n-th time, the levels below it anew.
+    /// The place in a row: that of a level entered for the n-th time, the levels below it anew.
     pub fn reached(self, level: usize, n: u32, row: usize, last: usize) -> Place
         ensures { λ r. ⌜ r ≡ reachedOf self level n row last ⌝ }
     {
@@ -276,7 +276,7 @@ impl Place {
         }
     }
 
-    // The place of the next segment, by its tag.
+    /// The place of the next segment, by its tag.
     pub fn step(self, table: &[[u32; 8]], tag: u32) -> Stepped
         ensures step { λ r. ⌜ r ≡ stepOf (now (table .entry)) self tag ⌝ }
         ensures said { λ r. ⌜ ((at : ℕ) → steppedAnswer at r ≡ placeAnswer at (now (table .entry)) self tag) ⌝ }
@@ -302,7 +302,7 @@ impl Place {
         }
     }
 
-    // Whether the message may end here: its UIT fits.
+    /// Whether the message may end here: its UIT fits.
     pub fn may_end(self, table: &[[u32; 8]]) -> bool
         ensures { λ r. ⌜ r ≡ mayEnd (now (table .entry)) self ⌝ }
     {
