@@ -106,7 +106,6 @@ module _ (at : ℕ) (m : Message) where
   message-begins = by-type (messageTypeOf m) refl
     where
       by-type : (t : MessageType) → messageTypeOf m ≡ t → beginnings at (groupsIn m) ≡ groupsAt at m
-      unfolding beginnings
       by-type Skdupd q = rw q
       by-type Tsdupd q = rw (q, tsdupd-own) (tsdupd-none (at + length (m .heading) + 1) (Placed startPlace) (m .within ++ (m .trailer ∷ [])))
 
