@@ -52,7 +52,7 @@ leading-room n rs e u =
 
 -- ---- from bytes to records
 
-zero-list : (l : List ℕ) → allZero l ≡ true → l ≡ replicate (length l) 0
+pub zero-list : (l : List ℕ) → allZero l ≡ true → l ≡ replicate (length l) 0
 unfolding allZero
 zero-list [] q = refl
 zero-list (b ∷ l) q =

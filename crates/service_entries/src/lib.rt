@@ -11,15 +11,17 @@ use services::next_service;
 use services::segment_at;
 ghost use mathlib.Core.Path.{_≡_};
 ghost use mathlib.Core.List.{_∷_, map};
-ghost use Prim.Native.Nat.{_+_, _≤_};
+ghost use Prim.Native.Nat.{_+_, _≤_, min, max};
 ghost use lib.ListN.{length};
 ghost use Rattle.syntax.specs.Bytes.{plain};
 ghost use Rattle.syntax.specs.Segment.{bodyAt};
 ghost use Rattle.parts.specs.Places.{bytesOf};
 ghost use Rattle.joining.specs.Joined.{joinAll};
+ghost use Rattle.gaps.specs.Move.{insertedIn};
 ghost use Rattle.services.specs.Services.{periodsFrom, servicesOf};
 ghost use Rattle.stages.specs.Stage.{daysOf};
 ghost use Rattle.service_entries.specs.Room.{numberBytes, knownAt, lookAt, newSlot, putIn, slotRemoved, removeIn, removeBytes, putBytes, removesIn, putsIn};
+ghost use Rattle.service_entries.specs.Front.{Ends};
 
 const SLOT: usize = 140;
 
@@ -110,17 +112,65 @@ fn new_slot(number: [u8; 10], entry: [u8; 65]) -> [u8; 140]
     slot
 }
 
-// Sets the pending entry of a number, in its slot or in a new one.
-fn put_service(room: &mut [u8], number: [u8; 10], entry: [u8; 65])
-    ensures { λ _. ⌜ now (room .exit) ≡ putIn (now (room .entry)) number entry ⌝ }
+// From where on a room's bytes are all 0: behind its used slots, else at its end.
+fn end_of(room: &[u8]) -> usize
+    ensures { λ r. ⌜ Ends (now (room .entry)) r ⌝ }
+{
+    let end = slots::used(room) * SLOT;
+    if gaps::is_zero(&room[end..]) {
+        return end;
+    }
+    room.len()
+}
+
+// The later of two places.
+fn later(a: usize, b: usize) -> usize
+    ensures { λ r. ⌜ r ≡ max a b ⌝ }
+{
+    if a < b {
+        return b;
+    }
+    a
+}
+
+// Where a slot more ends, or the room.
+fn slot_more(end: usize, len: usize) -> usize
+    requires { ⌜ end ≤ len ⌝ }
+    ensures { λ r. ⌜ r ≡ min (end + 140) len ⌝ }
+{
+    if len - end < SLOT {
+        return len;
+    }
+    end + SLOT
+}
+
+// Puts a slot in at an index of a room whose bytes are all 0 from another index on: those are not moved. Answers from where on they are 0
+// then.
+fn insert_slot(room: &mut [u8], at: usize, slot: [u8; 140], end: usize) -> usize
+    requires { ⌜ (at ≤ length (now room)) × Ends (now room) end ⌝ }
+    ensures left { λ _. ⌜ now (room .exit) ≡ insertedIn (now (room .entry)) at slot ⌝ }
+    ensures zeros { λ r. ⌜ Ends (now (room .exit)) r ⌝ }
+{
+    let top = slot_more(later(at, end), room.len());
+    gaps::insert(&mut room[..top], at, &slot);
+    top
+}
+
+// Sets the pending entry of a number, in its slot or in a new one. Takes and answers from where on the bytes are all 0.
+fn put_service(room: &mut [u8], number: [u8; 10], entry: [u8; 65], end: usize) -> usize
+    requires { ⌜ Ends (now room) end ⌝ }
+    ensures left { λ _. ⌜ now (room .exit) ≡ putIn (now (room .entry)) number entry ⌝ }
+    ensures zeros { λ r. ⌜ Ends (now (room .exit)) r ⌝ }
 {
     match slots::find(room, &number) {
         slots::Found::At(k) => {
-            bytes::put_bytes(room, k * SLOT + PENDING, &entry);
+            let at = k * SLOT;
+            bytes::put_bytes(room, at + PENDING, &entry);
+            later(end, at + SLOT)
         }
         slots::Found::Gap(k) => {
             let slot = new_slot(number, entry);
-            gaps::insert(room, k * SLOT, &slot);
+            insert_slot(room, k * SLOT, slot, end)
         }
     }
 }
@@ -161,16 +211,25 @@ fn remove_one(room: &mut [u8], s: &[u8], service: Service)
     remove_service(room, number_of(s, number));
 }
 
-// What a service puts.
-fn put_one(room: &mut [u8], first: usize, s: &[u8], rows: &[u32], service: Service)
-    ensures { λ _. ⌜ now (room .exit) ≡ putBytes first (now (s .entry)) (now (rows .entry)) service (now (room .entry)) ⌝ }
+// What a service puts. Takes and answers from where on the bytes are all 0.
+fn put_one(
+    room: &mut [u8],
+    first: usize,
+    s: &[u8],
+    rows: &[u32],
+    service: Service,
+    end: usize,
+) -> usize
+    requires { ⌜ Ends (now room) end ⌝ }
+    ensures left { λ _. ⌜ now (room .exit) ≡ putBytes first (now (s .entry)) (now (rows .entry)) service (now (room .entry)) ⌝ }
+    ensures zeros { λ r. ⌜ Ends (now (room .exit)) r ⌝ }
 {
     if service.removal {
-        return;
+        return end;
     }
     let number = service.number;
     let days = days_of(first, s, rows, service.from, service.to);
-    put_service(room, number_of(s, number), entry_of(1, days));
+    put_service(room, number_of(s, number), entry_of(1, days), end)
 }
 
 /// All removals among the services of n rows.
@@ -195,11 +254,12 @@ pub fn remove_all(room: &mut [u8], s: &[u8], rows: &[u32], n: usize)
 pub fn put_all(room: &mut [u8], first: usize, s: &[u8], rows: &[u32], n: usize)
     ensures { λ _. ⌜ now (room .exit) ≡ putsIn first (now (s .entry)) (now (rows .entry)) (servicesOf (now (s .entry)) (now (rows .entry)) n) (now (room .entry)) ⌝ }
 {
+    let mut end = end_of(room);
     let mut i = 0;
     loop {
         match next_service(s, rows, n, i) {
             Found::At(service) => {
-                put_one(room, first, s, rows, service);
+                end = put_one(room, first, s, rows, service, end);
                 i = service.to;
             }
             Found::NoMore => {

@@ -5,14 +5,14 @@ use mathlib.Core.Path.{_≡_, refl, sym, ap, _∙_}
 use mathlib.Core.Bool.{Bool, true, false}
 use mathlib.Core.List.{List, [], _∷_}
 use native.Mathlib.Omega.{arith}
-use lib.Dec.{eqb, leb}
+use lib.Dec.{leb}
 use borrow.Author.Tests.{le-leb, lt-leb, leb-true, leb-false}
 use borrow.Rule.Slice.PartMut.{midOf, putMid}
-use lib.ListN.{length, getD}
+use lib.ListN.{length}
 use Rattle.laws.specs.Choice.{choose}
 use Rattle.answers.specs.Answers.{Answer, done, refused, notRegister, badAccount}
 use Rattle.answers.specs.Laws.{done-is}
-use Rattle.slots.specs.Slots.{slotsOf, length-slots}
+use Rattle.slots.specs.Slots.{slotsOf}
 use Rattle.slots.specs.Rising.{leading}
 use Rattle.interchange.specs.Reader.{Verdict, accepted, readingOf, numbers}
 use Rattle.services.specs.Services.{servicesOf}
@@ -27,24 +27,12 @@ use Rattle.services.specs.declared.Service.{Service}
 use Rattle.stages.specs.Stage.{numberIn, stageServices, stageBy, stageOf}
 use Rattle.service_entries.specs.declared.Known.{Known}
 use Rattle.service_entries.specs.Room.{lookAt, removesIn, putsIn}
+use Rattle.service_entries.specs.Front.{used-within}
 use Rattle.staging.specs.Room.{roomTests, roomFits, roomAnswer, roomAfter}
 use Rattle.staging.specs.Staged.{staged-room}
 use Rattle.stages.specs.Kept.{reading-named}
 
 -- ---- 15
-
-leading-few : (l : List (List ℕ)) → leading l ≤ length l
-unfolding leading
-leading-few [] = omega arith
-leading-few (r ∷ l) =
-    let h = leading-few l in
-    choose (eqb (getD r 0 0) 0) (λ p. rw p (omega arith)) (λ p. rw p (omega arith))
-
-pub used-within : (room : List ℕ) (used : ℕ) → used ≡ leading (slotsOf room) → used ≤ length room / 140
-used-within room used e =
-    let h = leading-few (slotsOf room) in
-    let l = length-slots room in
-    omega arith
 
 module _ (room : List ℕ) (u : Totals) where
   pub fits-fewer : u .added ≤ u .dropped → true ≡ roomFits room u

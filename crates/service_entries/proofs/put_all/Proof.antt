@@ -13,15 +13,16 @@ use Rattle.services.specs.Services.{servicesFrom, servicesOf}
 use Rattle.services.specs.Ways.{Next, next-found, next-gone}
 use Rattle.service_entries.specs.Room.{putsIn}
 use Rattle.service_entries.specs.Ways.{puts-none, puts-on}
+use Rattle.service_entries.specs.Front.{Ends}
 use Rattle.service_entries.proofs.put_all.Statement.{statement}
 use Rattle.service_entries.proofs.put_all.Tie as tie
 
 abbrev Inv-loop : tie.InvT-loop
-Inv-loop room₀ first s rows n i₀ room i =
-    (putsIn first s rows (servicesFrom s rows (rowCount rows n) i) room ≡ putsIn first s rows (servicesOf s rows n) room₀) × (length room ≡ length room₀)
+Inv-loop room₀ first s rows n end₀ i₀ room end i =
+    (putsIn first s rows (servicesFrom s rows (rowCount rows n) i) room ≡ putsIn first s rows (servicesOf s rows n) room₀) × (length room ≡ length room₀) × Ends room end
 
 abbrev μ-loop : tie.MeasureT-loop
-μ-loop room₀ first s rows n i₀ room i = rowCount rows n - i
+μ-loop room₀ first s rows n end₀ i₀ room end i = rowCount rows n - i
 
 -- the service that was found
 module _ (t : tie.After-put-one Inv-loop μ-loop) where
@@ -29,7 +30,7 @@ module _ (t : tie.After-put-one Inv-loop μ-loop) where
   own = t .before .before .before .before .before .before
 
   abbrev start : tie.Start Inv-loop μ-loop
-  start = own .before .before .before .before
+  start = own .before .before .before .before .before .before
 
   abbrev service : Service
   service = t .before .before .before .service .given .0 .0
@@ -45,8 +46,11 @@ module _ (t : tie.After-put-one Inv-loop μ-loop) where
   abbrev rest : List Service
   rest = servicesFrom (now (start .args .s)) (now (start .args .rows)) (rowCount (now (start .args .rows)) (start .args .n)) (service .to)
 
+end-of-requires : tie.Need-end-of-requires Inv-loop μ-loop
+end-of-requires c κs = search needs
+
 loop-holds : tie.Need-loop-holds Inv-loop μ-loop
-loop-holds c = (refl, refl)
+loop-holds c = (refl, refl, c .end-of .ensures)
 
 next-service-requires : tie.Need-next-service-requires Inv-loop μ-loop
 next-service-requires c κs = search needs
@@ -67,8 +71,9 @@ loop-again c =
     let t = c .before .before in
     let a = start t .args in
     let v = own t .loop .inv in (
-      puts-on (a .first) (now (a .s)) (now (a .rows)) (left t) (own t .loop .room) (service t) (rest t) (next t .rest) (t .put-one .last .0) (t .put-one .ensures) ∙ v .0,
+      puts-on (a .first) (now (a .s)) (now (a .rows)) (left t) (own t .loop .room) (service t) (rest t) (next t .rest) (t .put-one .last .0) (t .put-one .ensures .0) ∙ v .0,
       t .put-one .kept .0 ∙ v .1,
+      t .put-one .ensures .1,
     )
 
 enum-told : tie.Need-enum-told Inv-loop μ-loop
@@ -81,7 +86,7 @@ returns : tie.Need-returns Inv-loop μ-loop
 returns c =
     let n = c .before .before in
     let o = n .before in
-    let a = o .before .before .before .before .args in
+    let a = o .before .before .before .before .before .before .args in
     sym (puts-none (a .first) (now (a .s)) (now (a .rows)) (servicesFrom (now (a .s)) (now (a .rows)) (rowCount (now (a .rows)) (a .n)) (o .loop .i)) (o .loop .room)
     (next-gone (now (a .s)) (now (a .rows)) (a .n) (o .loop .i) (sym (n .next-service .ensures) ∙ c .enum-told .given .1)))
     ∙ o .loop .inv .0
@@ -92,6 +97,7 @@ put-all-spec =
     (tie.spec
     Inv-loop
     μ-loop
+    end-of-requires
     loop-holds
     next-service-requires
     enum-known-service

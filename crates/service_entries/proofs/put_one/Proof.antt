@@ -8,8 +8,9 @@ use Rattle.service_entries.proofs.put_one.Tie as tie
 
 returns : tie.Need-returns
 returns c =
-    let a = c .before .before .before .before .args in
-    puts-not (a .first) (now (a .s)) (now (a .rows)) (a .service) (now (a .room)) (c .if1 .taken)
+    let i = c .before .before .before .before in
+    let a = i .args in
+    (puts-not (a .first) (now (a .s)) (now (a .rows)) (a .service) (now (a .room)) (c .if1 .taken), i .pre)
 
 days-of-requires : tie.Need-days-of-requires
 days-of-requires c κs = search needs
@@ -33,9 +34,11 @@ returns-2 c =
     let n = e .before in
     let d = n .before .before in
     let l = d .before .before in
-    let a = l .before .before .before .before .args in
-    puts-one (a .first) (now (a .s)) (now (a .rows)) (a .service) (now (a .room)) (l .if1 .left) (n .number-of .result) (d .days-of .result) (e .entry-of .result) (p .put-service .last .0)
-    (n .number-of .ensures) (d .days-of .ensures) (e .entry-of .ensures) (p .put-service .ensures)
+    let a = l .before .before .before .before .args in (
+      puts-one (a .first) (now (a .s)) (now (a .rows)) (a .service) (now (a .room)) (l .if1 .left) (n .number-of .result) (d .days-of .result) (e .entry-of .result) (p .put-service .last .0)
+          (n .number-of .ensures) (d .days-of .ensures) (e .entry-of .ensures) (p .put-service .ensures .0),
+      p .put-service .ensures .1,
+    )
 
 pub put-one-spec : {M : Type 1} → statement M
 put-one-spec =
