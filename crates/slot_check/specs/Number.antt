@@ -19,7 +19,7 @@ use Rattle.slots.specs.Order.{orderOf}
 use Rattle.slots.specs.Rising.{isBefore}
 use Rattle.contents.specs.Contents.{goodNumber, comesBefore}
 use Rattle.contents.specs.Written.{filledUp, upToZero}
-use Rattle.rooms.specs.Order.{same-told, before-order, number-least, number-most, number-order}
+use Rattle.rooms.specs.Order.{same-told, before-order, number-least, number-order}
 use Rattle.slot_check.specs.Same.{same-zeros}
 
 -- how many bytes, from the first on, are permitted

@@ -21,18 +21,18 @@ pub fn byte_at(x: &[u8], at: usize) -> usize
     0
 }
 
-/// The first eight bytes as one number: a flat sum, which the compiler makes one load of.
+/// The first eight bytes as one number: a flat row of `|`, of which the compiler makes one load.
 pub fn high(x: &[u8]) -> usize
     ensures { λ r. ⌜ r ≡ highOf (now (x .entry)) ⌝ }
 {
     byte_at(x, 0) * 72057594037927936
-        + byte_at(x, 1) * 281474976710656
-        + byte_at(x, 2) * 1099511627776
-        + byte_at(x, 3) * 4294967296
-        + byte_at(x, 4) * 16777216
-        + byte_at(x, 5) * 65536
-        + byte_at(x, 6) * 256
-        + byte_at(x, 7)
+        | byte_at(x, 1) * 281474976710656
+        | byte_at(x, 2) * 1099511627776
+        | byte_at(x, 3) * 4294967296
+        | byte_at(x, 4) * 16777216
+        | byte_at(x, 5) * 65536
+        | byte_at(x, 6) * 256
+        | byte_at(x, 7)
 }
 
 /// The two bytes behind them.
@@ -46,8 +46,11 @@ pub fn low(x: &[u8]) -> usize
 pub fn rises(h: usize, l: usize, k: usize, m: usize) -> bool
     ensures { λ r. ⌜ r ≡ risesTo h l k m ⌝ }
 {
-    if h != k {
-        return h < k;
+    if h < k {
+        return true;
+    }
+    if k < h {
+        return false;
     }
     l < m
 }

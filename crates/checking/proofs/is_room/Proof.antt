@@ -1,7 +1,5 @@
 -- `checking::is_room` meets its contract. Invariant: the slots left fit behind the number before exactly when the room is one.
 -- Assumes nothing.
-use mathlib.Core.Path.{_≡_}
-use mathlib.Core.Bool.{true, false}
 use mathlib.Core.List.{List}
 use Prim.Native.Nat.{ℕ, _-_, _+_, _≤_}
 use native.Mathlib.Omega.{arith}
