@@ -1,14 +1,15 @@
 //! What release and withdraw do to an account's room, in place, on any bytes of a room. Document 01, "The register".
 use slots::Found;
 ghost use mathlib.Core.Path.{_≡_};
+ghost use mathlib.Core.List.{_++_};
 ghost use Prim.Native.Nat.{_+_, _≤_};
-ghost use lib.ListN.{length, take, drop};
+ghost use lib.ListN.{length, getD, take, drop};
 ghost use lib.Seq.{paste};
 ghost use Rattle.laws.specs.Choice.{all};
 ghost use Rattle.syntax.specs.Bytes.{permittedOf};
 ghost use Rattle.contents.specs.Contents.{goodNumber};
 ghost use Rattle.contents.specs.Written.{filledUp};
-ghost use Rattle.entries.specs.Release.{madeLive, keptSlot, settledSlot, pendingOne, pendingSlots, usedSlots, releasedRoom};
+ghost use Rattle.entries.specs.Release.{keptSlot, settledSlot, pendingOne, pendingSlots, usedSlots, releasedRoom};
 ghost use Rattle.entries.specs.Withdraw.{slotFound, withdrawsAt, leftAt, withdraws, withdrawnRoom};
 
 const SLOT: usize = 140;
@@ -17,6 +18,9 @@ const SLOT: usize = 140;
 const LIVE: usize = 10;
 
 const PENDING: usize = 75;
+
+// A flag and a calendar.
+const ENTRY: usize = 65;
 
 // 1 if the slot at an index has a pending entry, else 0.
 fn pending_at(room: &[u8], at: usize) -> usize
@@ -37,44 +41,45 @@ fn whole_slot(room: &[u8], at: usize) -> [u8; 140]
     slot
 }
 
-// The slot at an index with its pending calendar live.
-fn made_live(room: &[u8], at: usize) -> [u8; 140]
-    requires { ⌜ at + 140 ≤ length (now room) ⌝ }
-    ensures { λ r. ⌜ r ≡ madeLive (take 140 (drop at (now (room .entry)))) ⌝ }
-{
-    let mut slot = [0u8; 140];
-    let live = at + LIVE;
-    let days = at + PENDING + 1;
-    let end = at + SLOT;
-    bytes::put_bytes(&mut slot, 0, &room[at..live]);
-    bytes::put_bytes(&mut slot, LIVE, b"\x01");
-    bytes::put_bytes(&mut slot, LIVE + 1, &room[days..end]);
-    slot
-}
-
-// The slot at an index as a release leaves it where it is kept.
-fn kept_slot(room: &[u8], at: usize) -> [u8; 140]
-    requires { ⌜ at + 140 ≤ length (now room) ⌝ }
-    ensures { λ r. ⌜ r ≡ keptSlot (take 140 (drop at (now (room .entry)))) ⌝ }
+// Makes a pending put of the slot at an index live, in its place: its flag and its calendar move down over the live ones.
+fn make_live(room: &mut [u8], at: usize)
+    requires { ⌜ (at + 140 ≤ length (now room)) × (getD (now room) (at + 75) 0 ≤ 1) ⌝ }
+    ensures { λ _. ⌜ now (room .exit) ≡ paste (now (room .entry)) at (keptSlot (take 140 (drop at (now (room .entry))))) 140 ⌝ }
 {
     if room[at + PENDING] == 0 {
-        return whole_slot(room, at);
+        return;
     }
-    made_live(room, at)
+    let live = at + LIVE;
+    let end = at + SLOT;
+    gaps::close_gap(&mut room[live..end], 0, ENTRY);
 }
 
-// Writes what a release leaves of the slot at one index to another, and says how many bytes that is.
+// Writes the slot at one index to another before it; where both are the same it stands there already.
+fn move_slot(room: &mut [u8], from: usize, to: usize)
+    requires { ⌜ (from + 140 ≤ length (now room)) × (to ≤ from) ⌝ }
+    ensures { λ _. ⌜ now (room .exit) ≡ paste (now (room .entry)) to (take 140 (drop from (now (room .entry)))) 140 ⌝ }
+{
+    if to == from {
+        return;
+    }
+    let slot = whole_slot(room, from);
+    let end = to + SLOT;
+    bytes::put_bytes(&mut room[to..end], 0, &slot);
+}
+
+// Writes what a release leaves of the slot at one index to another, and says where that ends. The slots behind it stay.
 fn settle(room: &mut [u8], from: usize, to: usize) -> usize
     requires { ⌜ (from + 140 ≤ length (now room)) × (to ≤ from) ⌝ }
-    ensures told { λ r. ⌜ r ≡ length (settledSlot (take 140 (drop from (now (room .entry))))) ⌝ }
-    ensures left { λ _. ⌜ now (room .exit) ≡ paste (now (room .entry)) to (settledSlot (take 140 (drop from (now (room .entry))))) (length (settledSlot (take 140 (drop from (now (room .entry)))))) ⌝ }
+    ensures told { λ r. ⌜ r ≡ to + length (settledSlot (take 140 (drop from (now (room .entry))))) ⌝ }
+    ensures left { λ r. ⌜ take r (now (room .exit)) ≡ take to (now (room .entry)) ++ settledSlot (take 140 (drop from (now (room .entry)))) ⌝ }
+    ensures behind { λ _. ⌜ drop (from + 140) (now (room .exit)) ≡ drop (from + 140) (now (room .entry)) ⌝ }
 {
     if 1 < room[from + PENDING] {
-        return 0;
+        return to;
     }
-    let slot = kept_slot(room, from);
-    bytes::put_bytes(room, to, &slot);
-    SLOT
+    make_live(room, from);
+    move_slot(room, from, to);
+    to + SLOT
 }
 
 /// Makes every put live and takes every removal's record out, the later ones moving down; answers how many entries were pending.
@@ -82,13 +87,16 @@ pub fn release_room(room: &mut [u8]) -> usize
     ensures told { λ r. ⌜ r ≡ pendingSlots (usedSlots (now (room .entry))) ⌝ }
     ensures left { λ _. ⌜ now (room .exit) ≡ releasedRoom (now (room .entry)) ⌝ }
 {
-    let n = slots::used(room);
+    let n = room.len() / SLOT;
     let mut k = 0;
     let mut to = 0;
     let mut count = 0;
     while k < n {
+        if room[k * SLOT] == 0 {
+            break;
+        }
         count += pending_at(room, k * SLOT);
-        to += settle(room, k * SLOT, to);
+        to = settle(room, k * SLOT, to);
         k += 1;
     }
     gaps::clear_from(room, to);

@@ -2,14 +2,15 @@
 -- Assumes nothing.
 use mathlib.Core.Path.{_≡_, refl, _∙_}
 use mathlib.Core.List.{_++_}
-use Prim.Native.Nat.{_+_, _-_, _*_, _≤_, _<_}
+use mathlib.Core.Logic.{⊎-elim}
+use Prim.Native.Nat.{_+_, _-_, _*_, _≤_}
 use native.Mathlib.Nat.{zero-add}
 use native.Mathlib.Omega.{arith}
 use lib.ListN.{length, take, drop}
 use Rattle.slots.specs.Rising.{leading}
 use Rattle.slots.specs.Slots.{slotsOf}
 use Rattle.entries.specs.Release.{settledSlots, pendingSlots, usedSlots}
-use Rattle.entries.specs.Released.{one-le, used-within, count-turn, to-turn, rest-turn, left-turn, count-end, left-end}
+use Rattle.entries.specs.Released.{one-le, used-within, used-on, used-stop, used-end, count-turn, to-turn, rest-turn, left-turn, count-end, left-end}
 use borrow.Author.Needs.{needs}
 use Rattle.entries.proofs.release_room.Statement.{statement}
 use Rattle.entries.proofs.release_room.Tie as tie
@@ -17,7 +18,7 @@ use Rattle.entries.proofs.release_room.Tie as tie
 abbrev Inv-loop : tie.InvT-loop
 Inv-loop room₀ n k₀ to₀ count₀ room k to count =
     (length room ≡ length room₀)
-    × (k ≤ n)
+    × (k + leading (drop k (slotsOf room₀)) ≡ leading (slotsOf room₀))
     × (to ≤ k * 140)
     × (count ≤ k)
     × (drop (k * 140) room ≡ drop (k * 140) room₀)
@@ -27,43 +28,29 @@ Inv-loop room₀ n k₀ to₀ count₀ room k to count =
 abbrev μ-loop : tie.MeasureT-loop
 μ-loop room₀ n k₀ to₀ count₀ room k to count = n - k
 
-used-requires : tie.Need-used-requires Inv-loop μ-loop
-used-requires c κs = search needs
-
 loop-holds : tie.Need-loop-holds Inv-loop μ-loop
-loop-holds c = (refl, omega arith, omega arith, omega arith, refl, refl, zero-add _)
+loop-holds c = (refl, zero-add _, omega arith, omega arith, refl, refl, zero-add _)
+
+mul-if1 : tie.Need-mul-if1 Inv-loop μ-loop
+mul-if1 c = omega arith
+
+slice-read-if1 : tie.Need-slice-read-if1 Inv-loop μ-loop
+slice-read-if1 c = omega arith
 
 mul-pending-at : tie.Need-mul-pending-at Inv-loop μ-loop
-mul-pending-at c = let w = used-within (c .before .before .before .before .before .before .args .room .now) in omega arith
+mul-pending-at c = omega arith
 
 pending-at-requires : tie.Need-pending-at-requires Inv-loop μ-loop
-pending-at-requires c κs = let w = used-within (c .before .before .before .before .before .before .args .room .now) in omega arith
+pending-at-requires c κs = omega arith
 
 add-count : tie.Need-add-count Inv-loop μ-loop
-add-count c = let o = one-le (take 140 (drop (c .before .before .before .loop .k * 140) (c .before .before .before .loop .room))) in omega arith
+add-count c = let o = one-le (take 140 (drop (c .before .before .before .before .before .loop .k * 140) (c .before .before .before .before .before .loop .room))) in omega arith
 
 mul-settle : tie.Need-mul-settle Inv-loop μ-loop
-mul-settle c = let w = used-within (c .before .before .before .before .before .before .before .before .args .room .now) in omega arith
+mul-settle c = omega arith
 
 settle-requires : tie.Need-settle-requires Inv-loop μ-loop
-settle-requires c κs = let w = used-within (c .before .before .before .before .before .before .before .before .args .room .now) in (omega arith, omega arith)
-
--- after a turn
-module _ (c : tie.After-slice-known2 Inv-loop μ-loop) where
-  inside : c .before .before .before .before .before .before .before .loop .k < leading (slotsOf (c .before .before .before .before .before .before .before .before .before .before .before .args .room .now))
-  inside = omega arith
-
-  turn-to : c .before .before .before .before .before .before .before .loop .to + c .before .before .settle .result ≤ (c .before .before .before .before .before .before .before .loop .k + 1) * 140
-  turn-to =
-      let l = c .before .before .before .before .before .before .before .loop in
-      let s = c .before .before .settle in
-      to-turn (c .before .before .before .before .before .before .before .before .before .before .before .args .room .now) (l .k) inside (l .room) (l .to) (s .result) (s .last .0) (l .inv .0) (l .inv .2) (l .inv .4) (s .ensures .0) (s .ensures .1)
-
-add-to : tie.Need-add-to Inv-loop μ-loop
-add-to c =
-    let w = used-within (c .before .before .before .before .before .before .before .before .before .before .before .args .room .now) in
-    let t = turn-to c in
-    omega arith
+settle-requires c κs = (omega arith, omega arith)
 
 add-k : tie.Need-add-k Inv-loop μ-loop
 add-k c = omega arith
@@ -73,15 +60,19 @@ loop-less c = omega arith
 
 loop-again : tie.Need-loop-again Inv-loop μ-loop
 loop-again c =
-    let l = c .before .before .before .before .before .before .before .loop in
+    let s = c .before .before .before .before .before .before .before .before .before .before .before .args .room .now in
+    let l = c .before .before .before .before .before .before .before .before .before .loop in
+    let v = l .inv in
+    let t = c .before .before .settle in
+    let u = used-on s (l .k) (l .room) (v .4) (v .1) (c .before .before .before .before .before .before .before .before .loop-test .taken) (c .before .before .before .before .before .before .if1 .left) in
     let o = one-le (take 140 (drop (l .k * 140) (l .room))) in (
-      c .before .before .settle .kept .0 ∙ l .inv .0,
+      t .kept .0 ∙ v .0,
+      u .1,
+      to-turn s (l .k) (u .0) (l .room) (l .to) (t .result) (t .last .0) (v .0) (v .2) (v .4) (t .ensures),
       omega arith,
-      turn-to c,
-      omega arith,
-      rest-turn (c .before .before .before .before .before .before .before .before .before .before .before .args .room .now) (l .k) (inside c) (l .room) (l .to) (c .before .before .settle .result) (c .before .before .settle .last .0) (l .inv .0) (l .inv .2) (l .inv .4) (c .before .before .settle .ensures .0) (c .before .before .settle .ensures .1),
-      left-turn (c .before .before .before .before .before .before .before .before .before .before .before .args .room .now) (l .k) (inside c) (l .room) (l .to) (c .before .before .settle .result) (c .before .before .settle .last .0) (l .inv .0) (l .inv .2) (l .inv .4) (c .before .before .settle .ensures .0) (c .before .before .settle .ensures .1) (l .inv .5),
-      count-turn (c .before .before .before .before .before .before .before .before .before .before .before .args .room .now) (l .k) (inside c) (l .room) (l .count) (c .before .before .before .before .pending-at .result) (l .inv .4) (c .before .before .before .before .pending-at .ensures) (l .inv .6),
+      rest-turn s (l .k) (u .0) (l .room) (l .to) (t .result) (t .last .0) (v .0) (v .2) (v .4) (t .ensures),
+      left-turn s (l .k) (u .0) (l .room) (l .to) (t .result) (t .last .0) (v .0) (v .2) (v .4) (t .ensures) (v .5),
+      count-turn s (l .k) (u .0) (l .room) (l .count) (c .before .before .before .before .pending-at .result) (v .4) (c .before .before .before .before .pending-at .ensures) (v .6),
     )
 
 clear-from-requires : tie.Need-clear-from-requires Inv-loop μ-loop
@@ -92,11 +83,13 @@ same-length c = search needs
 
 returns : tie.Need-returns Inv-loop μ-loop
 returns c =
+    let s = c .before .before .before .before .before .before .before .args .room .now in
     let l = c .before .before .before .before .before .loop in
-    let s = c .before .before .before .before .before .before .before .before .before .args .room .now in
-    let w = used-within s in (
-      count-end s (l .k) (l .count) (omega arith) (l .inv .6),
-      c .before .before .clear-from .ensures ∙ left-end s (l .room) (l .k) (l .to) (l .inv .0) (omega arith) (omega arith) (l .inv .5),
+    let v = l .inv in
+    let w = used-within s in
+    let e : leading (slotsOf s) ≤ l .k = ⊎-elim (λ x. used-end s (l .k) (l .room) (v .4) (v .1) (x .left)) (λ x. used-stop s (l .k) (l .room) (v .4) (v .1) (x .0 .taken) (x .2 .taken)) (c .before .before .before .before .loop-test .came) in (
+      count-end s (l .k) (l .count) e (v .6),
+      c .before .before .clear-from .ensures ∙ left-end s (l .room) (l .k) (l .to) (v .0) (omega arith) e (v .5),
     )
 
 pub release-room-spec : {M : Type 1} → statement M
@@ -105,14 +98,14 @@ release-room-spec =
     (tie.spec
     Inv-loop
     μ-loop
-    used-requires
     loop-holds
+    mul-if1
+    slice-read-if1
     mul-pending-at
     pending-at-requires
     add-count
     mul-settle
     settle-requires
-    add-to
     add-k
     loop-less
     loop-again
