@@ -82,6 +82,30 @@ run-zeros (b ∷ c) h =
     rw (ap permittedOf e ∙ zero-not) h)
     (λ p. absurd (false≢true (rw p at h)))
 
+-- the sixteen bytes from 48, `0`, on are permitted
+row-permitted : (b : ℕ) → 48 ≤ b → b < 64 → permittedOf b ≡ true
+unfolding permittedOf
+row-permitted b h k =
+    rw (
+      le-leb 32 b (omega arith),
+      le-leb b 126 (omega arith),
+      ne-eqb b 35 (λ e. omega arith),
+      ne-eqb b 36 (λ e. omega arith),
+      ne-eqb b 64 (λ e. omega arith),
+      ne-eqb b 91 (λ e. omega arith),
+      ne-eqb b 92 (λ e. omega arith),
+      ne-eqb b 93 (λ e. omega arith),
+      ne-eqb b 94 (λ e. omega arith),
+      ne-eqb b 96 (λ e. omega arith),
+      ne-eqb b 123 (λ e. omega arith),
+      ne-eqb b 124 (λ e. omega arith),
+      ne-eqb b 125 (λ e. omega arith),
+      ne-eqb b 126 (λ e. omega arith),
+    )
+
+pub top-permitted : (w : ℕ) → w / 1152921504606846976 ≡ 3 → permittedOf (w / 72057594037927936) ≡ true
+top-permitted w e = row-permitted (w / 72057594037927936) (omega arith) (omega arith)
+
 -- ---- for the loop: what is left of the word is that of some bytes
 
 pub record Rest (x : List ℕ) (w : ℕ) : Type 0 where

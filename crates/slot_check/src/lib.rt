@@ -41,6 +41,7 @@ fn is_long(slot: &[u8]) -> bool
 }
 
 // The same. One of at most eight characters is a word, whose highest byte is looked at, again and again, until nothing is left.
+// The sixteen bytes from `0` on, the digits among them, are permitted: of these four bits tell.
 fn is_number(slot: &[u8]) -> bool
     requires { ⌜ length (now slot) ≡ 140 ⌝ }
     ensures { λ r. ⌜ r ≡ isNumber (take 10 (now (slot .entry))) ⌝ }
@@ -53,8 +54,10 @@ fn is_number(slot: &[u8]) -> bool
         return false;
     }
     while left != 0 {
-        if !syntax::bytes::permitted((left >> 56) as u8) {
-            return false;
+        if left >> 60 != 3 {
+            if !syntax::bytes::permitted((left >> 56) as u8) {
+                return false;
+            }
         }
         left = left << 8;
     }

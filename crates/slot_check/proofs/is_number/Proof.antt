@@ -1,15 +1,18 @@
 -- `slot_check::is_number` meets its contract. Invariant: the word left is that of the bytes behind those seen.
 -- Assumes nothing.
 use mathlib.Core.Path.{_≡_, sym, _∙_, subst⁻¹}
+use mathlib.Core.Bool.{true}
+use mathlib.Core.Logic.{⊎-elim}
 use mathlib.Core.List.{List}
-use Prim.Native.Nat.{ℕ}
+use Prim.Native.Nat.{ℕ, _/_}
 use native.Mathlib.Omega.{arith}
 use lib.ListN.{length, take}
 use lib.Seq.{length-take-le}
 use borrow.Author.Tests.{not-true, not-false}
 use borrow.Author.Needs.{needs}
+use Rattle.syntax.specs.Bytes.{permittedOf}
 use Rattle.slots.specs.Words.{Bytes, highOf, lowOf, bytes-take, high-take, low-take}
-use Rattle.slot_check.specs.Word.{Rest, live, rest-start, rest-end, rest-not, rest-on, rest-less, rest-below, word-none, word-clean}
+use Rattle.slot_check.specs.Word.{Rest, live, rest-start, rest-end, rest-not, rest-on, rest-less, rest-below, top-permitted, word-none, word-clean}
 use Rattle.slot_check.proofs.is_number.Statement.{statement}
 use Rattle.slot_check.proofs.is_number.Tie as tie
 
@@ -60,8 +63,9 @@ loop-holds c =
 
 cast-permitted : tie.Need-cast-permitted Inv-loop μ-loop
 cast-permitted c =
-    let l = c .before .loop in
-    let h = rest-below (number (c .before .before .before)) (l .left) (l .inv) in
+    let i = c .before in
+    let l = i .before .loop in
+    let h = rest-below (number (i .before .before .before)) (l .left) (l .inv) in
     omega arith
 
 permitted-requires : tie.Need-permitted-requires Inv-loop μ-loop
@@ -77,23 +81,31 @@ module _ (n : tie.Else2 Inv-loop μ-loop) where
 
 returns-3 : tie.Need-returns-3 Inv-loop μ-loop
 returns-3 c =
-    let i = c .before .before in
+    let i = c .before .before .before in
     let l = i .before .loop in
     let n = i .before .before in
     let e = first n in
-    rest-not (number e) (l .left) (i .loop-test .taken) (sym (c .before .permitted .ensures) ∙ not-true _ (c .if3 .taken)) (l .inv) ∙ word-clean (number e) (bytes e) (ten e) (ends e) (some n)
+    rest-not (number e) (l .left) (i .loop-test .taken) (sym (c .before .permitted .ensures) ∙ not-true _ (c .if4 .taken)) (l .inv) ∙ word-clean (number e) (bytes e) (ten e) (ends e) (some n)
 
 loop-less : tie.Need-loop-less Inv-loop μ-loop
 loop-less c =
-    let i = c .before .before in
+    let i = c .before in
     let l = i .before .loop in
     rest-less (number (first (i .before .before))) (l .left) (i .loop-test .taken) (l .inv)
 
+-- its highest byte is permitted, in either way
+seen : (c : tie.Joined3 Inv-loop μ-loop) → permittedOf (c .before .before .loop .left / 72057594037927936) ≡ true
+seen c =
+    ⊎-elim
+    (λ a. sym (a .1 .ensures) ∙ not-false _ (a .2 .left))
+    (λ b. top-permitted (c .before .before .loop .left) (b .left))
+    (c .if3 .came)
+
 loop-again : tie.Need-loop-again Inv-loop μ-loop
 loop-again c =
-    let i = c .before .before in
+    let i = c .before in
     let l = i .before .loop in
-    rest-on (number (first (i .before .before))) (l .left) (i .loop-test .taken) (sym (c .before .permitted .ensures) ∙ not-false _ (c .if3 .left)) (l .inv)
+    rest-on (number (first (i .before .before))) (l .left) (i .loop-test .taken) (seen c) (l .inv)
 
 returns-4 : tie.Need-returns-4 Inv-loop μ-loop
 returns-4 c =
