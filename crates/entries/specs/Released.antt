@@ -1,6 +1,6 @@
 -- The laws of a release for the code: one slot, and one turn of the loop.
 -- Assumes nothing.
-use mathlib.Core.Path.{_≡_, refl, sym, _∙_, ap}
+use mathlib.Core.Path.{_≡_, refl, sym, _∙_, ap, subst}
 use mathlib.Core.List.{List, [], _∷_, _++_, append-assoc, append-nil}
 use Prim.Native.Nat.{ℕ, _+_, _-_, _*_, _/_, _≤_, _<_}
 use native.Mathlib.Omega.{arith}
@@ -109,9 +109,6 @@ module _ (s : List ℕ) (at : ℕ) where
 -- ---- for `move_slot`
 
 module _ (s : List ℕ) (from to : ℕ) where
-  pub move-same : to ≡ from → s ≡ paste s to (take 140 (drop from s)) 140
-  move-same e = rw e (paste-same s from)
-
   pub move-put : from + 140 ≤ length s → to ≤ from → (n : ℕ) (slot last : List ℕ) → n ≡ 140 → slot ≡ take 140 (drop from s) → last ≡ putAt (midOf to n s) 0 slot
       → putMid to n s last ≡ paste s to (take 140 (drop from s)) 140
   move-put h t n slot last e q g =
@@ -191,7 +188,11 @@ module _ (s : List ℕ) (from to : ℕ) where
       let c = length-kept (take 140 (drop from s)) (length-slot s from h) in
       rw (settled-kept l) (omega arith, (placed-front h t k b n c p m, placed-behind h t k b n c p m))
 
--- ---- for `release_room`
+  -- the same in its place
+  settle-here : (b : List ℕ) → to ≡ from → from + 140 ≤ length s → getD s (from + 75) 0 ≤ 1 → b ≡ paste s from (keptSlot (take 140 (drop from s))) 140 → Settled (from + 140) b
+  settle-here b e h l p = subst (λ (i : ℕ). Settled (i + 140) b) e (settle-kept b b h (omega arith) l p (rw e (paste-same b from)))
+
+-- ---- for `settle_front`, `release_room`
 
 settled-le : (slot : List ℕ) → length slot ≡ 140 → length (settledSlot slot) ≤ 140
 unfolding settledSlot
@@ -227,7 +228,7 @@ module _ (s : List ℕ) where
     slot-same : (b : List ℕ) → drop (k * 140) b ≡ drop (k * 140) s → take 140 (drop (k * 140) b) ≡ take 140 (drop (k * 140) s)
     slot-same b q = ap (take 140) q
 
-    pub count-turn : (b : List ℕ) (count one : ℕ) → drop (k * 140) b ≡ drop (k * 140) s → one ≡ pendingOne (take 140 (drop (k * 140) b))
+    count-turn : (b : List ℕ) (count one : ℕ) → drop (k * 140) b ≡ drop (k * 140) s → one ≡ pendingOne (take 140 (drop (k * 140) b))
         → count + pendingSlots (drop k (usedSlots s)) ≡ pendingSlots (usedSlots s) → count + one + pendingSlots (drop (k + 1) (usedSlots s)) ≡ pendingSlots (usedSlots s)
     unfolding pendingSlots
     count-turn b count one q p v =
@@ -236,19 +237,19 @@ module _ (s : List ℕ) where
         omega arith
 
     module _ (b : List ℕ) (to r : ℕ) (n : List ℕ) (lb : length b ≡ length s) (t : to ≤ k * 140) (q : drop (k * 140) b ≡ drop (k * 140) s) (p : Settled b (k * 140) to r n) where
-      pub to-turn : r ≤ (k + 1) * 140
+      to-turn : r ≤ (k + 1) * 140
       to-turn =
           let w = used-within in
           let l = settled-le (take 140 (drop (k * 140) b)) (length-slot b (k * 140) (omega arith)) in
           let e = p .0 in
           omega arith
 
-      pub rest-turn : drop ((k + 1) * 140) n ≡ drop ((k + 1) * 140) s
+      rest-turn : drop ((k + 1) * 140) n ≡ drop ((k + 1) * 140) s
       rest-turn =
           let e : (k + 1) * 140 ≡ k * 140 + 140 = omega arith in
           rw e (p .1 .1 ∙ sym (drop-drop 140 (k * 140) b) ∙ ap (drop 140) q ∙ drop-drop 140 (k * 140) s)
 
-      pub left-turn : take to b ++ settledSlots (drop k (usedSlots s)) ≡ settledSlots (usedSlots s) → take r n ++ settledSlots (drop (k + 1) (usedSlots s)) ≡ settledSlots (usedSlots s)
+      left-turn : take to b ++ settledSlots (drop k (usedSlots s)) ≡ settledSlots (usedSlots s) → take r n ++ settledSlots (drop (k + 1) (usedSlots s)) ≡ settledSlots (usedSlots s)
       unfolding settledSlots
       left-turn v =
           ap (λ (l : List ℕ). l ++ settledSlots (drop (k + 1) (usedSlots s))) (p .1 .0)
@@ -263,7 +264,7 @@ module _ (s : List ℕ) where
         let z : k * 140 ≡ k * 140 + 0 = omega arith in
         ap (λ (i : ℕ). getD b i 0) z ∙ sym (getD-drop (k * 140) b 0 0) ∙ ap (λ (l : List ℕ). getD l 0 0) q ∙ getD-drop (k * 140) s 0 0 ∙ ap (λ (i : ℕ). getD s i 0) (sym z)
 
-    pub used-on : k < length s / 140 → (getD b (k * 140) 0 ≡ 0 → ⊥) → (k < leading (slotsOf s)) × (k + 1 + leading (drop (k + 1) (slotsOf s)) ≡ leading (slotsOf s))
+    used-on : k < length s / 140 → (getD b (k * 140) 0 ≡ 0 → ⊥) → (k < leading (slotsOf s)) × (k + 1 + leading (drop (k + 1) (slotsOf s)) ≡ leading (slotsOf s))
     used-on h f =
         let e = leading-on s k h (λ g. f (first-same ∙ g)) in
         (omega arith, omega arith)
@@ -277,6 +278,40 @@ module _ (s : List ℕ) where
     used-end h =
         let w = used-within in
         omega arith
+
+  -- the slots before the k-th are released, into as many bytes, and so many of them had a pending entry; the others are as they were
+  abbrev pub SoFar : List ℕ → ℕ → ℕ → ℕ → Type 0
+  SoFar b k to count =
+      (length b ≡ length s)
+      × (k + leading (drop k (slotsOf s)) ≡ leading (slotsOf s))
+      × (to ≤ k * 140)
+      × (count ≤ k)
+      × (drop (k * 140) b ≡ drop (k * 140) s)
+      × (take to b ++ settledSlots (drop k (usedSlots s)) ≡ settledSlots (usedSlots s))
+      × (count + pendingSlots (drop k (usedSlots s)) ≡ pendingSlots (usedSlots s))
+
+  pub turn : (b : List ℕ) (k to count : ℕ) → SoFar b k to count → k < length s / 140 → (getD b (k * 140) 0 ≡ 0 → ⊥) → (one r : ℕ) (n : List ℕ)
+      → one ≡ pendingOne (take 140 (drop (k * 140) b)) → length n ≡ length b → Settled b (k * 140) to r n → SoFar n (k + 1) r (count + one)
+  turn b k to count v h f one r n o l p =
+      let u = used-on k b (v .4) (v .1) h f in
+      let m = one-le (take 140 (drop (k * 140) b)) in
+      let c = v .3 in (
+        l ∙ v .0,
+        u .1,
+        to-turn k (u .0) b to r n (v .0) (v .2) (v .4) p,
+        omega arith,
+        rest-turn k (u .0) b to r n (v .0) (v .2) (v .4) p,
+        left-turn k (u .0) b to r n (v .0) (v .2) (v .4) p (v .5),
+        count-turn k (u .0) b count one (v .4) o (v .6),
+      )
+
+  -- the same where the slot stays in its place
+  pub turn-here : (b : List ℕ) (k count : ℕ) → SoFar b k (k * 140) count → k < length s / 140 → (getD b (k * 140) 0 ≡ 0 → ⊥) → getD b (k * 140 + 75) 0 ≤ 1 → (one : ℕ) (n : List ℕ)
+      → one ≡ pendingOne (take 140 (drop (k * 140) b)) → length n ≡ length b → n ≡ paste b (k * 140) (keptSlot (take 140 (drop (k * 140) b))) 140 → SoFar n (k + 1) ((k + 1) * 140) (count + one)
+  turn-here b k count v h f g one n o l p =
+      let e : k * 140 + 140 ≡ (k + 1) * 140 = omega arith in
+      let m = v .0 in
+      subst (λ (i : ℕ). SoFar n (k + 1) i (count + one)) e (turn b k (k * 140) count v h f one (k * 140 + 140) n o l (settle-here b (k * 140) (k * 140) n refl (omega arith) g p))
 
   pub used-all : (k : ℕ) → leading (slotsOf s) ≤ k → drop k (usedSlots s) ≡ []
   used-all k h = let l = length-used in drop-of-length-le (usedSlots s) {i = k} (omega arith)

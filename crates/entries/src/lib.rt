@@ -2,7 +2,7 @@
 use slots::Found;
 ghost use mathlib.Core.Path.{_≡_};
 ghost use mathlib.Core.List.{_++_};
-ghost use Prim.Native.Nat.{_+_, _≤_};
+ghost use Prim.Native.Nat.{_+_, _*_, _≤_};
 ghost use lib.ListN.{length, getD, take, drop};
 ghost use lib.Seq.{paste};
 ghost use Rattle.laws.specs.Choice.{all};
@@ -10,6 +10,7 @@ ghost use Rattle.syntax.specs.Bytes.{permittedOf};
 ghost use Rattle.contents.specs.Contents.{goodNumber};
 ghost use Rattle.contents.specs.Written.{filledUp};
 ghost use Rattle.entries.specs.Release.{keptSlot, settledSlot, pendingOne, pendingSlots, usedSlots, releasedRoom};
+ghost use Rattle.entries.specs.Released.{SoFar};
 ghost use Rattle.entries.specs.Withdraw.{slotFound, withdrawsAt, leftAt, withdraws, withdrawnRoom};
 
 const SLOT: usize = 140;
@@ -21,6 +22,12 @@ const PENDING: usize = 75;
 
 // A flag and a calendar.
 const ENTRY: usize = 65;
+
+// The slots in front of the first removal: how many they are, and how many had a pending entry.
+struct Front {
+    slots: usize,
+    pending: usize,
+}
 
 // 1 if the slot at an index has a pending entry, else 0.
 fn pending_at(room: &[u8], at: usize) -> usize
@@ -54,14 +61,11 @@ fn make_live(room: &mut [u8], at: usize)
     gaps::close_gap(&mut room[live..end], 0, ENTRY);
 }
 
-// Writes the slot at one index to another before it; where both are the same it stands there already.
+// Writes the slot at one index to another that is not behind it.
 fn move_slot(room: &mut [u8], from: usize, to: usize)
     requires { ⌜ (from + 140 ≤ length (now room)) × (to ≤ from) ⌝ }
     ensures { λ _. ⌜ now (room .exit) ≡ paste (now (room .entry)) to (take 140 (drop from (now (room .entry)))) 140 ⌝ }
 {
-    if to == from {
-        return;
-    }
     let slot = whole_slot(room, from);
     let end = to + SLOT;
     bytes::put_bytes(&mut room[to..end], 0, &slot);
@@ -82,15 +86,40 @@ fn settle(room: &mut [u8], from: usize, to: usize) -> usize
     to + SLOT
 }
 
+// Makes the puts in front of the first removal live: none of these slots moves.
+fn settle_front(room: &mut [u8]) -> Front
+    ensures { λ r. ⌜ SoFar (now (room .entry)) (now (room .exit)) (r .slots) (r .slots * 140) (r .pending) ⌝ }
+{
+    let n = room.len() / SLOT;
+    let mut k = 0;
+    let mut count = 0;
+    while k < n {
+        if room[k * SLOT] == 0 {
+            break;
+        }
+        if 1 < room[k * SLOT + PENDING] {
+            break;
+        }
+        count += pending_at(room, k * SLOT);
+        make_live(room, k * SLOT);
+        k += 1;
+    }
+    Front {
+        slots: k,
+        pending: count,
+    }
+}
+
 /// Makes every put live and takes every removal's record out, the later ones moving down; answers how many entries were pending.
 pub fn release_room(room: &mut [u8]) -> usize
     ensures told { λ r. ⌜ r ≡ pendingSlots (usedSlots (now (room .entry))) ⌝ }
     ensures left { λ _. ⌜ now (room .exit) ≡ releasedRoom (now (room .entry)) ⌝ }
 {
+    let front = settle_front(room);
     let n = room.len() / SLOT;
-    let mut k = 0;
-    let mut to = 0;
-    let mut count = 0;
+    let mut k = front.slots;
+    let mut to = front.slots * SLOT;
+    let mut count = front.pending;
     while k < n {
         if room[k * SLOT] == 0 {
             break;

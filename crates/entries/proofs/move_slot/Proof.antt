@@ -2,13 +2,10 @@
 -- Assumes nothing.
 use Prim.Native.Nat.{_+_, _-_}
 use native.Mathlib.Omega.{arith}
-use Rattle.entries.specs.Released.{move-same, move-put}
+use Rattle.entries.specs.Released.{move-put}
 use borrow.Author.Needs.{needs}
 use Rattle.entries.proofs.move_slot.Statement.{statement}
 use Rattle.entries.proofs.move_slot.Tie as tie
-
-returns : tie.Need-returns
-returns c = let a = c .before .before .args in move-same (a .room .now) (a .from) (a .to) (c .if1 .taken)
 
 whole-slot-requires : tie.Need-whole-slot-requires
 whole-slot-requires c κs = search needs
@@ -34,9 +31,9 @@ put-bytes-requires c κs = search needs
 same-length : tie.Need-same-length
 same-length c = search needs
 
-returns-2 : tie.Need-returns-2
-returns-2 c =
-    let i = c .before .before .before .before .before .before .before .before .before in
+returns : tie.Need-returns
+returns c =
+    let i = c .before .before .before .before .before .before .before .before in
     let a = i .args in
     let w = c .before .before .before .before .before .whole-slot in
     let p = c .before .before .put-bytes in
@@ -46,7 +43,6 @@ pub move-slot-spec : {M : Type 1} → statement M
 move-slot-spec =
     tie.close
     (tie.spec
-    returns
     whole-slot-requires
     add-end
     sub-put-bytes
@@ -55,4 +51,4 @@ move-slot-spec =
     slice-aggregate-put-bytes
     put-bytes-requires
     same-length
-    returns-2)
+    returns)

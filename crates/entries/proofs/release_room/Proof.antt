@@ -1,16 +1,14 @@
--- `entries::release_room` meets its contract. Invariant: what is written and what is left of the slots not yet read make up the answer; the slots not yet read are as they were.
+-- `entries::release_room` meets its contract. Invariant: of whatever room the slots before the loop were released, so are those that it has passed.
 -- Assumes nothing.
 use mathlib.Core.Path.{_≡_, refl, _∙_}
-use mathlib.Core.List.{_++_}
+use mathlib.Core.List.{List}
 use mathlib.Core.Logic.{⊎-elim}
-use Prim.Native.Nat.{_+_, _-_, _*_, _≤_}
-use native.Mathlib.Nat.{zero-add}
+use Prim.Native.Nat.{ℕ, _+_, _-_, _*_, _≤_}
 use native.Mathlib.Omega.{arith}
 use lib.ListN.{length, take, drop}
 use Rattle.slots.specs.Rising.{leading}
 use Rattle.slots.specs.Slots.{slotsOf}
-use Rattle.entries.specs.Release.{settledSlots, pendingSlots, usedSlots}
-use Rattle.entries.specs.Released.{one-le, used-within, used-on, used-stop, used-end, count-turn, to-turn, rest-turn, left-turn, count-end, left-end}
+use Rattle.entries.specs.Released.{SoFar, one-le, turn, used-within, used-stop, used-end, count-end, left-end}
 use borrow.Author.Needs.{needs}
 use Rattle.entries.proofs.release_room.Statement.{statement}
 use Rattle.entries.proofs.release_room.Tie as tie
@@ -18,18 +16,24 @@ use Rattle.entries.proofs.release_room.Tie as tie
 abbrev Inv-loop : tie.InvT-loop
 Inv-loop room₀ n k₀ to₀ count₀ room k to count =
     (length room ≡ length room₀)
-    × (k + leading (drop k (slotsOf room₀)) ≡ leading (slotsOf room₀))
     × (to ≤ k * 140)
     × (count ≤ k)
-    × (drop (k * 140) room ≡ drop (k * 140) room₀)
-    × (take to room ++ settledSlots (drop k (usedSlots room₀)) ≡ settledSlots (usedSlots room₀))
-    × (count + pendingSlots (drop k (usedSlots room₀)) ≡ pendingSlots (usedSlots room₀))
+    × ((s : List ℕ) → SoFar s room₀ k₀ to₀ count₀ → SoFar s room k to count)
 
 abbrev μ-loop : tie.MeasureT-loop
 μ-loop room₀ n k₀ to₀ count₀ room k to count = n - k
 
+settle-front-requires : tie.Need-settle-front-requires Inv-loop μ-loop
+settle-front-requires c κs = search needs
+
+mul-to : tie.Need-mul-to Inv-loop μ-loop
+mul-to c =
+    let v = c .before .before .before .settle-front .ensures .1 in
+    let w = used-within (c .before .before .before .before .before .before .args .room .now) in
+    omega arith
+
 loop-holds : tie.Need-loop-holds Inv-loop μ-loop
-loop-holds c = (refl, zero-add _, omega arith, omega arith, refl, refl, zero-add _)
+loop-holds c = let v = c .before .before .before .settle-front .ensures in (refl, v .2, v .3, λ s u. u)
 
 mul-if1 : tie.Need-mul-if1 Inv-loop μ-loop
 mul-if1 c = omega arith
@@ -60,20 +64,16 @@ loop-less c = omega arith
 
 loop-again : tie.Need-loop-again Inv-loop μ-loop
 loop-again c =
-    let s = c .before .before .before .before .before .before .before .before .before .before .before .args .room .now in
     let l = c .before .before .before .before .before .before .before .before .before .loop in
-    let v = l .inv in
     let t = c .before .before .settle in
-    let u = used-on s (l .k) (l .room) (v .4) (v .1) (c .before .before .before .before .before .before .before .before .loop-test .taken) (c .before .before .before .before .before .before .if1 .left) in
-    let o = one-le (take 140 (drop (l .k * 140) (l .room))) in (
-      t .kept .0 ∙ v .0,
-      u .1,
-      to-turn s (l .k) (u .0) (l .room) (l .to) (t .result) (t .last .0) (v .0) (v .2) (v .4) (t .ensures),
-      omega arith,
-      rest-turn s (l .k) (u .0) (l .room) (l .to) (t .result) (t .last .0) (v .0) (v .2) (v .4) (t .ensures),
-      left-turn s (l .k) (u .0) (l .room) (l .to) (t .result) (t .last .0) (v .0) (v .2) (v .4) (t .ensures) (v .5),
-      count-turn s (l .k) (u .0) (l .room) (l .count) (c .before .before .before .before .pending-at .result) (v .4) (c .before .before .before .before .pending-at .ensures) (v .6),
-    )
+    let o = c .before .before .before .before .pending-at in
+    let f = c .before .before .before .before .before .before .before .before .before .before .before .before .before .settle-front in
+    let next : (s : List ℕ) → SoFar s (f .last .0) (f .result .slots) (f .result .slots * 140) (f .result .pending) → SoFar s (t .last .0) (l .k + 1) (t .result) (l .count + o .result) =
+    λ s u.
+    let e = u .0 in
+    turn s (l .room) (l .k) (l .to) (l .count) (l .inv .3 s u) (omega arith) (c .before .before .before .before .before .before .if1 .left) (o .result) (t .result) (t .last .0) (o .ensures) (t .kept .0) (t .ensures) in
+    let v = next (c .before .before .before .before .before .before .before .before .before .before .before .before .before .before .before .before .args .room .now) (f .ensures) in
+    (t .kept .0 ∙ l .inv .0, v .2, v .3, next)
 
 clear-from-requires : tie.Need-clear-from-requires Inv-loop μ-loop
 clear-from-requires c κs = search needs
@@ -83,11 +83,15 @@ same-length c = search needs
 
 returns : tie.Need-returns Inv-loop μ-loop
 returns c =
-    let s = c .before .before .before .before .before .before .before .args .room .now in
+    let s = c .before .before .before .before .before .before .before .before .before .before .before .before .args .room .now in
     let l = c .before .before .before .before .before .loop in
-    let v = l .inv in
+    let f = c .before .before .before .before .before .before .before .before .before .settle-front .ensures in
+    let v = l .inv .3 s f in
     let w = used-within s in
-    let e : leading (slotsOf s) ≤ l .k = ⊎-elim (λ x. used-end s (l .k) (l .room) (v .4) (v .1) (x .left)) (λ x. used-stop s (l .k) (l .room) (v .4) (v .1) (x .0 .taken) (x .2 .taken)) (c .before .before .before .before .loop-test .came) in (
+    let g = f .0 in
+    let a = v .0 in
+    let b = v .1 in
+    let e : leading (slotsOf s) ≤ l .k = ⊎-elim (λ x. used-end s (l .k) (l .room) (v .4) (v .1) (let y = x .left in omega arith)) (λ x. used-stop s (l .k) (l .room) (v .4) (v .1) (let y = x .0 .taken in omega arith) (x .2 .taken)) (c .before .before .before .before .loop-test .came) in (
       count-end s (l .k) (l .count) e (v .6),
       c .before .before .clear-from .ensures ∙ left-end s (l .room) (l .k) (l .to) (v .0) (omega arith) e (v .5),
     )
@@ -98,6 +102,8 @@ release-room-spec =
     (tie.spec
     Inv-loop
     μ-loop
+    settle-front-requires
+    mul-to
     loop-holds
     mul-if1
     slice-read-if1
