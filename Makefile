@@ -10,7 +10,7 @@ help:
 	@echo 'make example                        the example for C: lists the services of a file with their days'
 	@echo 'make install PREFIX=..              program, library, header and man page'
 	@echo 'make rust                           builds and runs the tests of the crate for Rust (rust/README.md)'
-	@echo 'make bench                          holds the reader against a plain one in C: times, costs and answers (bench/README.md)'
+	@echo 'make bench                          holds the reader against a tuned one in C: times, costs and answers (bench/README.md)'
 
 .PHONY: test
 test:

@@ -1,4 +1,4 @@
-// The yardstick: a plain reader in C for the rules of document 01, to hold the proved reader's speed and answers against.
+// The yardstick: a tuned reader in C for the rules of document 01, to hold the proved reader's speed and answers against.
 // The kit has no C headers, so the few types are taken from the compiler.
 #ifndef YARDSTICK_H
 #define YARDSTICK_H
