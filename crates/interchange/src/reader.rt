@@ -20,8 +20,8 @@ ghost use Rattle.interchange.specs.Room.{leastBytes};
 ghost use Rattle.interchange.specs.Chunks.{wholeFrom};
 ghost use Rattle.interchange.specs.Answers.{Behind};
 
-// Each call but the last reads 250 bytes at least, so that so many are enough for 60,000.
-const CALLS: usize = 241;
+// Each call but the last reads 500 bytes at least, so that so many are enough for 60,000.
+const CALLS: usize = 121;
 
 /// What reading an interchange comes to.
 pub enum Reading {

@@ -28,11 +28,11 @@ ghost use Rattle.interchange.specs.Room.{roomSize};
 ghost use Rattle.interchange.specs.Moves.{Moved};
 ghost use Rattle.interchange.specs.Runs.{goodPart, Hinted};
 
-/// The numbers of a room: 64 rows, three numbers each.
-pub(crate) const ROOM: usize = 192;
+/// The numbers of a room: 128 rows, three numbers each.
+pub(crate) const ROOM: usize = 384;
 
 /// A room with so many numbers has no place for a row more.
-pub(crate) const FULL: usize = 190;
+pub(crate) const FULL: usize = 382;
 
 /// Where some segments of a message led.
 pub(crate) struct Ran {
