@@ -26,43 +26,32 @@ isSameOrder Before = false
 isSameOrder Same = true
 isSameOrder After = false
 
-pub before-order : (a b : List ℕ) → comesBefore a b ≡ isBefore (orderOf a b)
-unfolding comesBefore orderOf
-before-order [] [] = refl
-before-order [] (y ∷ m) = refl
-before-order (x ∷ l) [] = refl
-before-order (x ∷ l) (y ∷ m) =
-    choose (ltb x y)
-    (λ p. rw p)
-    (λ p.
-    choose (ltb y x)
-    (λ t.
-    let h = ltb-true y x t in
-    rw (p, t, ne-eqb x y (λ e. omega arith)))
-    (λ t.
-    let h = ltb-false x y p in
-    let k = ltb-false y x t in
-    rw (p, t, eq-eqb x y (omega arith)) (before-order l m)))
-
-pub same-order : (a b : List ℕ) → sameText a b ≡ isSameOrder (orderOf a b)
-unfolding sameText orderOf
-same-order [] [] = refl
-same-order [] (y ∷ m) = refl
-same-order (x ∷ l) [] = refl
-same-order (x ∷ l) (y ∷ m) =
+-- one text comes before another, or is the same, as the order of both says
+by-order : (a b : List ℕ) → (comesBefore a b ≡ isBefore (orderOf a b)) × (sameText a b ≡ isSameOrder (orderOf a b))
+unfolding comesBefore sameText orderOf
+by-order [] [] = (refl, refl)
+by-order [] (y ∷ m) = (refl, refl)
+by-order (x ∷ l) [] = (refl, refl)
+by-order (x ∷ l) (y ∷ m) =
     choose (ltb x y)
     (λ p.
     let h = ltb-true x y p in
-    rw (p, ne-eqb x y (λ e. omega arith)))
+    rw (p, ne-eqb x y (λ e. omega arith)) (refl, refl))
     (λ p.
     choose (ltb y x)
     (λ t.
     let h = ltb-true y x t in
-    rw (p, t, ne-eqb x y (λ e. omega arith)))
+    rw (p, t, ne-eqb x y (λ e. omega arith)) (refl, refl))
     (λ t.
     let h = ltb-false x y p in
     let k = ltb-false y x t in
-    rw (p, t, eq-eqb x y (omega arith)) (same-order l m)))
+    rw (p, t, eq-eqb x y (omega arith)) (by-order l m)))
+
+pub before-order : (a b : List ℕ) → comesBefore a b ≡ isBefore (orderOf a b)
+before-order a b = by-order a b .0
+
+pub same-order : (a b : List ℕ) → sameText a b ≡ isSameOrder (orderOf a b)
+same-order a b = by-order a b .1
 
 -- ---- the test of two texts decides whether they are one
 
