@@ -1,9 +1,9 @@
-//! Bytes and decimal digits put into a lent buffer, and small numbers as sizes.
+//! Bytes and decimal digits put into a lent buffer, and small numbers and bytes as sizes.
 
 ghost use mathlib.Core.Path.{_≡_};
-ghost use Prim.Native.Nat.{_+_, _<_, _≤_};
+ghost use Prim.Native.Nat.{_+_, _*_, _<_, _≤_};
 ghost use lib.Dec.{leb};
-ghost use lib.ListN.{length, drop};
+ghost use lib.ListN.{length, getD, drop};
 ghost use Rattle.laws.specs.Put.{putAt};
 ghost use Rattle.laws.specs.Decimal.{decimalOf};
 
@@ -67,4 +67,24 @@ pub fn wide(n: u32) -> usize
     ensures { λ r. ⌜ (r ≡ n) × (r < 4294967296) ⌝ }
 {
     n as usize
+}
+
+/// The byte at an index; past the end it reads as 0.
+pub fn byte_at(b: &[u8], at: usize) -> usize
+    ensures { λ r. ⌜ (r ≡ getD (now (b .entry)) at 0) × (r < 256) ⌝ }
+{
+    if at < b.len() {
+        return wide_byte(b[at]);
+    }
+    0
+}
+
+/// The number in two bytes, the lower first; bytes past the end read as 0.
+pub fn number_at(b: &[u8], at: usize) -> usize
+    ensures { λ r. ⌜ (r ≡ getD (now (b .entry)) at 0 + 256 * getD (now (b .entry)) (at + 1) 0) × (r < 65536) ⌝ }
+{
+    if b.len() <= at {
+        return 0;
+    }
+    byte_at(b, at) + 256 * byte_at(b, at + 1)
 }

@@ -7,6 +7,7 @@ ghost use lib.ListN.{length, getD, drop};
 ghost use Rattle.contents.specs.Written.{numbersIn, isRegister};
 ghost use Rattle.checking.specs.Room.{isRoom};
 ghost use Rattle.checking.specs.Register.{roomsFit};
+use bytes::number_at;
 use slots::words;
 
 const LENGTH: usize = 35858;
@@ -44,20 +45,6 @@ fn is_room(room: &[u8]) -> bool
         at = next;
     }
     true
-}
-
-fn wide(x: u8) -> usize
-    ensures { λ r. ⌜ (r ≡ x) × (r < 256) ⌝ }
-{
-    x as usize
-}
-
-// The number in two bytes, the lower first.
-fn number_at(b: &[u8], at: usize) -> usize
-    requires { ⌜ at + 2 ≤ length (now b) ⌝ }
-    ensures { λ r. ⌜ (r ≡ getD (now (b .entry)) at 0 + 256 * getD (now (b .entry)) (at + 1) 0) × (r < 65536) ⌝ }
-{
-    wide(b[at]) + 256 * wide(b[at + 1])
 }
 
 // Whether behind the head stand a room for each quota, and zeros.

@@ -8,6 +8,7 @@ use lib.Dec.{eqb}
 use lib.ListN.{length, getD, take, drop, replicate}
 use Rattle.laws.specs.Choice.{pick, both}
 use Rattle.laws.specs.Joined.{joined, total}
+use Rattle.laws.specs.Filled.{filledUp}
 use Rattle.values.specs.Values.{sameText}
 use Rattle.contents.specs.Contents.{Pending, nothing, put, removal, Record, Contents, good}
 
@@ -18,10 +19,6 @@ twoBytes n = n % 256 ∷ n / 256 ∷ []
 -- the window's first date and the quotas: 18 bytes
 unfoldable pub headOf : Contents → List ℕ
 headOf c = twoBytes (c .first) ++ joined (map twoBytes (c .quotas))
-
--- a text filled up with zeros to n bytes
-unfoldable pub filledUp : ℕ → List ℕ → List ℕ
-filledUp n x = x ++ replicate (n - length x) 0
 
 -- a calendar behind a byte that says whether it is there
 unfoldable pub liveBytes : Option (List ℕ) → List ℕ

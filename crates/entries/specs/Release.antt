@@ -6,10 +6,11 @@ use mathlib.Core.List.{List, [], _∷_, _++_}
 use lib.Dec.{eqb}
 use lib.ListN.{length, getD, take, drop, replicate}
 use Rattle.laws.specs.Choice.{pick}
+use Rattle.laws.specs.Filled.{filledUp}
 use Rattle.slots.specs.Slots.{slotsOf}
 use Rattle.slots.specs.Rising.{leading}
 use Rattle.contents.specs.Contents.{Pending, nothing, put, removal}
-use Rattle.contents.specs.Written.{filledUp, pendingIn}
+use Rattle.contents.specs.Written.{pendingIn}
 
 -- a slot with its pending calendar live and nothing pending
 unfoldable pub madeLive : List ℕ → List ℕ

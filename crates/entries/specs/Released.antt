@@ -13,12 +13,12 @@ use borrow.Rule.Slice.PartMut.{midOf, putMid}
 use Rattle.laws.specs.Choice.{choose}
 use Rattle.laws.specs.Lists.{drop-here, drop-take}
 use Rattle.laws.specs.Put.{putAt, put-front}
+use Rattle.laws.specs.Filled.{filledUp}
 use Rattle.gaps.specs.Zero.{zeroFrom}
 use Rattle.gaps.specs.Move.{closed, closedIn, closed-fits}
 use Rattle.slots.specs.Slots.{slotsOf, length-slots, slot-at}
 use Rattle.slots.specs.Rising.{leading, leading-stop, leading-on}
 use Rattle.records.specs.Read.{leading-le}
-use Rattle.contents.specs.Written.{filledUp}
 use Rattle.entries.specs.Release.{madeLive, keptSlot, settledSlot, settledSlots, pendingOne, pendingSlots, usedSlots, releasedRoom}
 
 -- a byte of the slot at an index

@@ -11,11 +11,12 @@ use lib.ListN.{length, getD, take, drop, replicate, length-append, length-drop, 
 use lib.Seq.{paste, take-at, take-add, take-take, length-take-le, take-all}
 use Rattle.laws.specs.Choice.{pick, choose, all, both-parts}
 use Rattle.laws.specs.Joined.{joined, length-each}
+use Rattle.laws.specs.Filled.{filledUp}
 use Rattle.slots.specs.declared.Found.{Found}
 use Rattle.slots.specs.declared.Found.the-variants.{At, Gap}
 use Rattle.slots.specs.Find.{Within}
 use Rattle.contents.specs.Contents.{Pending, nothing, put, removal, Record, isCalendar, goodEntries, goodNumber, goodRecord, goodAccount}
-use Rattle.contents.specs.Written.{filledUp, liveBytes, pendingBytes, slotOf, liveIn, pendingIn, recordIn, roomBytes}
+use Rattle.contents.specs.Written.{liveBytes, pendingBytes, slotOf, liveIn, pendingIn, recordIn, roomBytes}
 use Rattle.contents.specs.Calls.{lookup, listed, changed, isPending, hasPending, pendingCount, released, withdrawn, keptLive, recordAt}
 use Rattle.contents.specs.Calls as calls
 use Rattle.rooms.specs.Order.{length-filled}

@@ -8,12 +8,12 @@ use lib.Dec.{eqb}
 use lib.ListN.{getD, replicate}
 use lib.Seq.{paste}
 use Rattle.laws.specs.Choice.{pick}
+use Rattle.laws.specs.Filled.{filledUp}
 use Rattle.slots.specs.declared.Found.{Found}
 use Rattle.slots.specs.declared.Found.the-variants.{At, Gap}
 use Rattle.slots.specs.Find.{findOf}
 use Rattle.gaps.specs.Move.{closed}
 use Rattle.contents.specs.Contents.{goodNumber}
-use Rattle.contents.specs.Written.{filledUp}
 
 -- a number's slot: a text that is no number has none
 unfoldable pub slotFound : List ℕ → List ℕ → Found

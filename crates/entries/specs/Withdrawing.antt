@@ -11,13 +11,13 @@ use lib.ListN.{length, getD, drop, replicate, length-replicate}
 use Rattle.laws.specs.Choice.{all}
 use Rattle.laws.specs.Lists.{drop-here, drop-past}
 use Rattle.laws.specs.Put.{putAt, put-room, put-front}
+use Rattle.laws.specs.Filled.{filledUp}
 use Rattle.gaps.specs.Move.{closedIn, closed-fits}
 use Rattle.slots.specs.declared.Found.{Found}
 use Rattle.slots.specs.declared.Found.the-variants.{At, Gap}
 use Rattle.slots.specs.Find.{findOf, Within, find-within}
 use Rattle.syntax.specs.Bytes.{permittedOf}
 use Rattle.contents.specs.Contents.{goodNumber}
-use Rattle.contents.specs.Written.{filledUp}
 use Rattle.entries.specs.Withdraw.{slotFound, withdrawsAt, leftAt, withdraws, withdrawnRoom}
 
 -- ---- for `all_permitted`, at an index, and `is_number`

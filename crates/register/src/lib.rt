@@ -1,5 +1,6 @@
 //! The register's calls: open, release, withdraw, show, on any buffer and any account number. Document 01, "The register".
 //! Each call tests before it stores; a refusal changes no byte.
+use bytes::wide;
 use dates::Date;
 use dates::Number;
 use shown::Lines;
@@ -50,12 +51,6 @@ pub enum Shown {
     BadAccount,
     NoRecord,
     TooShort,
-}
-
-fn wide(x: u32) -> usize
-    ensures { λ r. ⌜ (r ≡ x) × (r < 4294967296) ⌝ }
-{
-    x as usize
 }
 
 fn total_of(quotas: &[u32]) -> usize

@@ -9,6 +9,7 @@ use native.Mathlib.Omega.{arith}
 use borrow.Author.Tests.{ne-eqb}
 use lib.ListN.{length, getD, take, drop}
 use Rattle.laws.specs.Choice.{all, both-parts}
+use Rattle.laws.specs.Filled.{filledUp}
 use Rattle.slots.specs.declared.Order.{Order}
 use Rattle.slots.specs.declared.Order.the-variants.{Before, Same, After}
 use Rattle.slots.specs.declared.Found.{Found}
@@ -19,7 +20,7 @@ use Rattle.records.specs.Linear.{byOrder}
 use Rattle.records.specs.Found.{findIn}
 use Rattle.records.specs.Read.{find-room}
 use Rattle.contents.specs.Contents.{Record, goodNumber, goodRecord, inOrder, goodAccount}
-use Rattle.contents.specs.Written.{filledUp, slotOf, roomBytes}
+use Rattle.contents.specs.Written.{slotOf, roomBytes}
 use Rattle.contents.specs.Calls.{lookup, listed, changed, recordAt}
 use Rattle.rooms.specs.Order.{number-order}
 use Rattle.rooms.specs.Slots.{record-number, slot-number, slot-used, slots-each, slots-used, slots-rising, room-slots, account-records, account-order}

@@ -9,6 +9,7 @@ use lib.Dec.{leb, ltb}
 use borrow.Author.Tests.{ltb-true, ltb-false, leb-true, ne-eqb, eq-eqb}
 use lib.ListN.{length, replicate, length-append, length-replicate}
 use Rattle.laws.specs.Choice.{both, all, choose, both-parts, false≢true}
+use Rattle.laws.specs.Filled.{filledUp}
 use Rattle.syntax.specs.Bytes.{permittedOf}
 use Rattle.values.specs.Values.{sameText}
 use Rattle.slots.specs.declared.Order.{Order}
@@ -16,10 +17,9 @@ use Rattle.slots.specs.declared.Order.the-variants.{Before, Same, After}
 use Rattle.slots.specs.Order.{orderOf}
 use Rattle.slots.specs.Rising.{isBefore}
 use Rattle.records.specs.Order.{same-self, same-text}
-use Rattle.records.specs.Padded as padded
 use Rattle.records.specs.Padded.{NoZero, order-filled}
 use Rattle.contents.specs.Contents.{goodNumber, comesBefore}
-use Rattle.contents.specs.Written.{filledUp, upToZero}
+use Rattle.contents.specs.Written.{upToZero}
 
 abbrev pub isSameOrder : Order → Bool
 isSameOrder Before = false
@@ -124,12 +124,6 @@ pub number-again : (x : List ℕ) → goodNumber x ≡ true → upToZero (filled
 unfolding filledUp
 number-again x q = up-to-used x (replicate (10 - length x) 0) (number-used x q) (up-to-zeros (10 - length x))
 
-filled-same : (n : ℕ) (x : List ℕ) → filledUp n x ≡ padded.filledUp n x
-unfolding filledUp padded.filledUp
-filled-same n x = refl
-
 -- zeros at the end do not change the order
 pub number-order : (a b : List ℕ) → goodNumber a ≡ true → goodNumber b ≡ true → orderOf (filledUp 10 a) (filledUp 10 b) ≡ orderOf a b
-number-order a b p q =
-    rw (filled-same 10 a, filled-same 10 b)
-    (order-filled 10 a b (number-most a p) (number-most b q) (number-used a p) (number-used b q))
+number-order a b p q = order-filled 10 a b (number-most a p) (number-most b q) (number-used a p) (number-used b q)

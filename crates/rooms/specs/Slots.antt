@@ -12,13 +12,14 @@ use lib.ListN.{length, getD, take, drop, replicate, length-append, length-replic
 use lib.Seq.{take-at, take-all, getD-at, getD-append-add, drop-append-add}
 use Rattle.laws.specs.Choice.{both, all, both-parts, false≢true}
 use Rattle.laws.specs.Joined.{Each, joined-append, length-each}
+use Rattle.laws.specs.Filled.{filledUp}
 use Rattle.slots.specs.Rising.{rises, rising}
 use Rattle.records.specs.Found.{Used}
 use Rattle.records.specs.Padded.{NoZero}
 use Rattle.records.specs.Room.{padded, roomOf}
 use Rattle.records.specs.Read.{joined-zeros}
 use Rattle.contents.specs.Contents.{Pending, nothing, put, removal, Record, goodNumber, isCalendar, goodEntries, goodRecord, comesBefore, inOrder, goodAccount}
-use Rattle.contents.specs.Written.{filledUp, liveBytes, pendingBytes, slotOf, roomBytes, upToZero, liveIn, pendingIn, recordIn}
+use Rattle.contents.specs.Written.{liveBytes, pendingBytes, slotOf, roomBytes, upToZero, liveIn, pendingIn, recordIn}
 use Rattle.rooms.specs.Order.{before-order, number-least, number-used, length-filled, number-again, number-order}
 
 -- ---- a record's three parts

@@ -13,12 +13,13 @@ use lib.ListN.{length, getD, take, drop, replicate, length-append, length-drop, 
 use lib.Seq.{paste, take-at, take-all, take-take, take-add, take-append-add, drop-append-add, getD-append-add, length-take-le}
 use Rattle.laws.specs.Choice.{all}
 use Rattle.laws.specs.Put.{putAt, put-room, put-front}
+use Rattle.laws.specs.Filled.{filledUp}
 use Rattle.gaps.specs.Move.{closedIn, insertedIn}
 use Rattle.slots.specs.declared.Found.{Found}
 use Rattle.slots.specs.declared.Found.the-variants.{At, Gap}
 use Rattle.slots.specs.Find.{findOf, Within}
 use Rattle.contents.specs.Contents.{Pending, nothing, put, removal, Record, goodNumber, isCalendar, goodRecord, goodAccount}
-use Rattle.contents.specs.Written.{filledUp, liveBytes, pendingBytes, slotOf, roomBytes}
+use Rattle.contents.specs.Written.{liveBytes, pendingBytes, slotOf, roomBytes}
 use Rattle.contents.specs.Calls.{lookup, listed, changed, recordAt}
 use Rattle.rooms.specs.Order.{number-most, length-filled}
 use Rattle.rooms.specs.Slots.{calendar-length, goodLive, entries-parts, record-parts, record-number, length-slot, length-room, account-fits, account-records, account-order}

@@ -12,20 +12,17 @@ use lib.ListN.{length, getD, take, drop, replicate, length-append, length-replic
 use lib.Seq.{length-take-le}
 use Rattle.laws.specs.Choice.{pick, both, choose, all, both-parts, both-assoc, both-true}
 use Rattle.laws.specs.Lists.{drop-here, drop-past, drop-take}
+use Rattle.laws.specs.Filled.{filledUp}
 use Rattle.syntax.specs.Bytes.{permittedOf}
+use Rattle.syntax.specs.Segment.{permittedRun}
 use Rattle.values.specs.Values.{sameText}
 use Rattle.gaps.specs.Zero.{allZero}
 use Rattle.slots.specs.Order.{orderOf}
 use Rattle.slots.specs.Rising.{isBefore}
 use Rattle.contents.specs.Contents.{goodNumber, comesBefore}
-use Rattle.contents.specs.Written.{filledUp, upToZero}
+use Rattle.contents.specs.Written.{upToZero}
 use Rattle.rooms.specs.Order.{same-told, before-order, number-least, number-order}
 use Rattle.slot_check.specs.Same.{same-zeros}
-
--- how many bytes, from the first on, are permitted
-unfoldable pub permittedRun : List ℕ → ℕ
-permittedRun [] = 0
-permittedRun (b ∷ l) = pick (permittedOf b) (suc (permittedRun l)) 0
 
 -- whether bytes are a number, filled up with zeros
 unfoldable pub isNumber : List ℕ → Bool

@@ -11,10 +11,11 @@ use borrow.Author.Tests.{eq-eqb, ne-eqb, eqb-true, eqb-false, le-leb, lt-leb}
 use lib.ListN.{length, getD, take, drop, length-drop}
 use lib.Seq.{drop-cons, drop-drop, take-all, length-take-le}
 use Rattle.laws.specs.Choice.{pick, both, either, choose, both-true, both-false}
+use Rattle.laws.specs.Filled.{filledUp}
 use Rattle.values.specs.Values.{sameText}
 use Rattle.gaps.specs.Zero.{allZero}
 use Rattle.contents.specs.Contents.{nothing, put, removal, isCalendar, goodNumber, goodEntries, goodRecord}
-use Rattle.contents.specs.Written.{filledUp, upToZero, liveBytes, pendingBytes, slotOf, liveIn, pendingIn, recordIn}
+use Rattle.contents.specs.Written.{upToZero, liveBytes, pendingBytes, slotOf, liveIn, pendingIn, recordIn}
 use Rattle.rooms.specs.Order.{same-itself}
 use Rattle.rooms.specs.Slots.{length-slot}
 use Rattle.slots.specs.Words.{Bytes}

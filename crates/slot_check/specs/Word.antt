@@ -11,9 +11,10 @@ use lib.ListN.{length, getD, take, drop, drop-of-length-le, take-append-drop, Li
 use lib.Seq.{drop-cons, length-take-le}
 use Rattle.laws.specs.Choice.{pick, both, choose, false≢true}
 use Rattle.syntax.specs.Bytes.{permittedOf}
+use Rattle.syntax.specs.Segment.{permittedRun}
 use Rattle.gaps.specs.Zero.{allZero}
 use Rattle.slots.specs.Words.{Bytes, four, highOf, lowOf, bytes-take, high-take}
-use Rattle.slot_check.specs.Number.{permittedRun, isNumber, number-is}
+use Rattle.slot_check.specs.Number.{isNumber, number-is}
 
 -- whether behind the permitted bytes that lead there are only zeros
 unfoldable pub restZero : List ℕ → Bool

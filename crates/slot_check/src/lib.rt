@@ -3,7 +3,8 @@
 
 ghost use mathlib.Core.Path.{_≡_};
 ghost use lib.ListN.{length, take};
-ghost use Rattle.slot_check.specs.Number.{permittedRun, isNumber};
+ghost use Rattle.syntax.specs.Segment.{permittedRun};
+ghost use Rattle.slot_check.specs.Number.{isNumber};
 ghost use Rattle.slot_check.specs.Slot.{isSlot};
 use slots::words;
 

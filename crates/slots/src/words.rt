@@ -1,25 +1,8 @@
 //! A number's ten bytes as two numbers, the first byte the highest, so that they are compared at once and not byte by byte.
 
+use bytes::byte_at;
 ghost use mathlib.Core.Path.{_≡_};
-ghost use Prim.Native.Nat.{_<_};
-ghost use lib.ListN.{getD};
 ghost use Rattle.slots.specs.Words.{highOf, lowOf, risesTo};
-
-fn wide(x: u8) -> usize
-    ensures { λ r. ⌜ (r ≡ x) × (r < 256) ⌝ }
-{
-    x as usize
-}
-
-/// The byte at an index; past the end it reads as 0.
-pub fn byte_at(x: &[u8], at: usize) -> usize
-    ensures { λ r. ⌜ (r ≡ getD (now (x .entry)) at 0) × (r < 256) ⌝ }
-{
-    if at < x.len() {
-        return wide(x[at]);
-    }
-    0
-}
 
 /// The first eight bytes as one number: a flat row of `|`, of which the compiler makes one load.
 pub fn high(x: &[u8]) -> usize

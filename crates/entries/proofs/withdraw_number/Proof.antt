@@ -7,9 +7,9 @@ use Prim.Native.Nat.{ℕ, _/_, _<_}
 use native.Mathlib.Omega.{arith}
 use borrow.Author.Tests.{not-true, not-false}
 use lib.ListN.{length}
+use Rattle.laws.specs.Filled.{filledUp}
 use Rattle.slots.specs.Find.{findOf}
 use Rattle.contents.specs.Contents.{goodNumber}
-use Rattle.contents.specs.Written.{filledUp}
 use Rattle.rooms.specs.Order.{number-most}
 use Rattle.entries.specs.Withdrawing.{found-no, found-at, found-gap, found-within}
 use borrow.Author.Needs.{needs}

@@ -7,7 +7,8 @@ use native.Mathlib.Nat.{zero-add}
 use lib.ListN.{length, drop}
 use borrow.Author.Tests.{not-true, not-false}
 use borrow.Author.Needs.{needs}
-use Rattle.slot_check.specs.Number.{permittedRun, run-end, run-stop, run-on}
+use Rattle.syntax.specs.Segment.{permittedRun}
+use Rattle.slot_check.specs.Number.{run-end, run-stop, run-on}
 use Rattle.slot_check.proofs.permitted_run.Statement.{statement}
 use Rattle.slot_check.proofs.permitted_run.Tie as tie
 
