@@ -18,7 +18,7 @@ use Rattle.gaps.specs.Zero.{zeroFrom}
 use Rattle.gaps.specs.Move.{closed, closedIn, closed-fits}
 use Rattle.slots.specs.Slots.{slotsOf, length-slots, slot-at}
 use Rattle.slots.specs.Rising.{leading, leading-stop, leading-on}
-use Rattle.records.specs.Read.{leading-le}
+use Rattle.records.specs.Read.{leading-le, used-within}
 use Rattle.entries.specs.Release.{madeLive, keptSlot, settledSlot, settledSlots, pendingOne, pendingSlots, usedSlots, releasedRoom}
 
 -- a byte of the slot at an index
@@ -209,19 +209,12 @@ module _ (s : List ℕ) where
   unfolding usedSlots
   length-used = length-take-le (leading (slotsOf s)) (slotsOf s) (leading-le (slotsOf s))
 
-  -- the used slots lie within the room
-  pub used-within : leading (slotsOf s) ≤ length s / 140
-  used-within =
-      let a = leading-le (slotsOf s) in
-      let b = length-slots s in
-      omega arith
-
   module _ (k : ℕ) (h : k < leading (slotsOf s)) where
     used-here : drop k (usedSlots s) ≡ take 140 (drop (k * 140) s) ∷ drop (k + 1) (usedSlots s)
     unfolding usedSlots
     used-here =
         let l = length-used in
-        let w = used-within in
+        let w = used-within s (leading (slotsOf s)) refl in
         rw (add-one, drop-cons (usedSlots s) k [] (omega arith), getD-take (leading (slotsOf s)) (slotsOf s) k [] h, slot-at s k (omega arith))
 
     -- the slot read is that of the room as it was
@@ -239,7 +232,7 @@ module _ (s : List ℕ) where
     module _ (b : List ℕ) (to r : ℕ) (n : List ℕ) (lb : length b ≡ length s) (t : to ≤ k * 140) (q : drop (k * 140) b ≡ drop (k * 140) s) (p : Settled b (k * 140) to r n) where
       to-turn : r ≤ (k + 1) * 140
       to-turn =
-          let w = used-within in
+          let w = used-within s (leading (slotsOf s)) refl in
           let l = settled-le (take 140 (drop (k * 140) b)) (length-slot b (k * 140) (omega arith)) in
           let e = p .0 in
           omega arith
@@ -276,7 +269,7 @@ module _ (s : List ℕ) where
 
     pub used-end : length s / 140 ≤ k → leading (slotsOf s) ≤ k
     used-end h =
-        let w = used-within in
+        let w = used-within s (leading (slotsOf s)) refl in
         omega arith
 
   -- the slots before the k-th are released, into as many bytes, and so many of them had a pending entry; the others are as they were

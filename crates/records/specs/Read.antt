@@ -87,6 +87,13 @@ unfolding leading
 leading-le [] = omega arith
 leading-le (r ∷ rs) = choose (eqb (getD r 0 0) 0) (λ p. rw p (omega arith)) (λ p. rw p (let h = leading-le rs in omega arith))
 
+-- they lie within the room
+pub used-within : (room : List ℕ) (used : ℕ) → used ≡ leading (slotsOf room) → used ≤ length room / 140
+used-within room used e =
+    let h = leading-le (slotsOf room) in
+    let l = length-slots room in
+    omega arith
+
 zero-slots : (m : ℕ) (qs : List (List ℕ)) → Each 140 qs → length qs ≡ m → allZero (joined qs) ≡ true → joined qs ≡ joined (replicate m (replicate 140 0))
 zero-slots m qs e l q = zero-list (joined qs) q ∙ rw (length-each 140 qs e, l) (sym (joined-zeros m))
 

@@ -1,21 +1,17 @@
 -- A room whose bytes are all 0 from an index on: a new slot moves none of those.
 -- Assumes nothing.
-use Prim.Native.Nat.{ℕ, _+_, _-_, _/_, _≤_, min, max}
+use Prim.Native.Nat.{ℕ, _+_, _-_, _≤_, min, max}
 use mathlib.Core.Path.{_≡_, sym, ap, _∙_}
 use mathlib.Core.Bool.{true}
-use mathlib.Core.List.{List, [], _∷_, _++_, append-assoc, append-nil}
+use mathlib.Core.List.{List, _++_, append-assoc, append-nil}
 use native.Mathlib.Omega.{arith}
 use native.Mathlib.Decide.{decLt}
-use lib.Dec.{eqb}
-use lib.ListN.{length, getD, take, drop, replicate, length-drop, length-append, length-replicate, replicate-append-replicate, drop-of-length-le}
+use lib.ListN.{length, take, drop, replicate, length-drop, length-append, length-replicate, replicate-append-replicate, drop-of-length-le}
 use lib.Seq.{take-all, take-at, drop-at, take-take, take-add, drop-drop, paste, drop-paste, length-take-le}
-use Rattle.laws.specs.Choice.{choose}
 use Rattle.laws.specs.Lists.{drop-take}
 use Rattle.laws.specs.Put.{putAt, put-room, length-put}
 use Rattle.gaps.specs.Zero.{allZero}
 use Rattle.gaps.specs.Move.{inserted, insertedIn, inserted-fits}
-use Rattle.slots.specs.Slots.{slotsOf, length-slots}
-use Rattle.slots.specs.Rising.{leading}
 use Rattle.records.specs.Read.{zero-list}
 
 -- all bytes of a room from an index on are 0
@@ -42,19 +38,6 @@ put-before room at top part a k =
     ∙ ap (λ (i : ℕ). drop i room) e
 
 -- ---- where a room ends
-
-leading-few : (l : List (List ℕ)) → leading l ≤ length l
-unfolding leading
-leading-few [] = omega arith
-leading-few (r ∷ l) =
-    let h = leading-few l in
-    choose (eqb (getD r 0 0) 0) (λ p. rw p (omega arith)) (λ p. rw p (omega arith))
-
-pub used-within : (room : List ℕ) (used : ℕ) → used ≡ leading (slotsOf room) → used ≤ length room / 140
-used-within room used e =
-    let h = leading-few (slotsOf room) in
-    let l = length-slots room in
-    omega arith
 
 module _ (room : List ℕ) where
   pub ends-zero : (end : ℕ) → end ≤ length room → allZero (take (length room - end) (drop end room)) ≡ true → Ends room end

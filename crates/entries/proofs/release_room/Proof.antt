@@ -8,7 +8,8 @@ use native.Mathlib.Omega.{arith}
 use lib.ListN.{length, take, drop}
 use Rattle.slots.specs.Rising.{leading}
 use Rattle.slots.specs.Slots.{slotsOf}
-use Rattle.entries.specs.Released.{SoFar, one-le, turn, used-within, used-stop, used-end, count-end, left-end}
+use Rattle.records.specs.Read.{used-within}
+use Rattle.entries.specs.Released.{SoFar, one-le, turn, used-stop, used-end, count-end, left-end}
 use borrow.Author.Needs.{needs}
 use Rattle.entries.proofs.release_room.Statement.{statement}
 use Rattle.entries.proofs.release_room.Tie as tie
@@ -29,7 +30,8 @@ settle-front-requires c κs = search needs
 mul-to : tie.Need-mul-to Inv-loop μ-loop
 mul-to c =
     let v = c .before .before .before .settle-front .ensures .1 in
-    let w = used-within (c .before .before .before .before .before .before .args .room .now) in
+    let room = c .before .before .before .before .before .before .args .room .now in
+    let w = used-within room (leading (slotsOf room)) refl in
     omega arith
 
 loop-holds : tie.Need-loop-holds Inv-loop μ-loop
@@ -87,7 +89,7 @@ returns c =
     let l = c .before .before .before .before .before .loop in
     let f = c .before .before .before .before .before .before .before .before .before .settle-front .ensures in
     let v = l .inv .3 s f in
-    let w = used-within s in
+    let w = used-within s (leading (slotsOf s)) refl in
     let g = f .0 in
     let a = v .0 in
     let b = v .1 in

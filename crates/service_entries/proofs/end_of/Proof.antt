@@ -5,7 +5,8 @@ use Prim.Native.Nat.{_*_}
 use native.Mathlib.Omega.{arith}
 use borrow.Author.Needs.{needs}
 use denote.Ref.{now}
-use Rattle.service_entries.specs.Front.{used-within, ends-zero, ends-whole}
+use Rattle.records.specs.Read.{used-within}
+use Rattle.service_entries.specs.Front.{ends-zero, ends-whole}
 use Rattle.service_entries.proofs.end_of.Statement.{statement}
 use Rattle.service_entries.proofs.end_of.Tie as tie
 

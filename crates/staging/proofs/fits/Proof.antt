@@ -2,7 +2,7 @@
 -- Assumes nothing.
 use borrow.Author.Needs.{needs}
 use denote.Ref.{now}
-use Rattle.service_entries.specs.Front.{used-within}
+use Rattle.records.specs.Read.{used-within}
 use Rattle.staging.specs.Closing.{fits-fewer, fits-more}
 use Rattle.staging.proofs.fits.Statement.{statement}
 use Rattle.staging.proofs.fits.Tie as tie
