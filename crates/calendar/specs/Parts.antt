@@ -33,13 +33,13 @@ pub start-refused : (first last : Date) (o : List ℕ) → length o < 29 → o �
 start-refused first last o h = sym (put-no-room o 0 (start first last) (rw length-start (omega arith)))
 
 pub start-put : (first last : Date) (o : List ℕ) {p q r s f t : List ℕ} → 29 ≤ length o
-    → p ≡ putAt o 0 (80 ∷ 79 ∷ 80 ∷ 43 ∷ 50 ∷ 55 ∷ 51 ∷ 58 ∷ []) → f ≡ dateText first → q ≡ putAt p 8 f
-    → r ≡ putAt q 18 (47 ∷ []) → t ≡ dateText last → s ≡ putAt r 19 t → s ≡ putAt o 0 (start first last)
+    → p ≡ putAt o 0 (bytes "POP+273:") → f ≡ dateText first → q ≡ putAt p 8 f
+    → r ≡ putAt q 18 (bytes "/") → t ≡ dateText last → s ≡ putAt r 19 t → s ≡ putAt o 0 (start first last)
 unfolding start
 start-put first last o h e₁ f e₂ e₃ t e₄ =
-    let a = put-behind o 0 (80 ∷ 79 ∷ 80 ∷ 43 ∷ 50 ∷ 55 ∷ 51 ∷ 58 ∷ []) (dateText first) 8 e₁ e₂ f refl (rw length-text (omega arith)) in
-    let b = put-behind o 0 ((80 ∷ 79 ∷ 80 ∷ 43 ∷ 50 ∷ 55 ∷ 51 ∷ 58 ∷ []) ++ dateText first) (47 ∷ []) 18 a e₃ refl (simp length-text) (simp length-text (omega arith)) in
-    put-behind o 0 ((80 ∷ 79 ∷ 80 ∷ 43 ∷ 50 ∷ 55 ∷ 51 ∷ 58 ∷ []) ++ dateText first ++ (47 ∷ [])) (dateText last) 19 b e₄ t (simp (length-append, length-text)) (simp (length-append, length-text) (omega arith))
+    let a = put-behind o 0 (bytes "POP+273:") (dateText first) 8 e₁ e₂ f refl (rw length-text (omega arith)) in
+    let b = put-behind o 0 (bytes "POP+273:" ++ dateText first) (bytes "/") 18 a e₃ refl (simp length-text) (simp length-text (omega arith)) in
+    put-behind o 0 (bytes "POP+273:" ++ dateText first ++ bytes "/") (dateText last) 19 b e₄ t (simp (length-append, length-text)) (simp (length-append, length-text) (omega arith))
 
 -- a text that fits, and one that does not
 pub text-fits : (text o : List ℕ) (m : ℕ) → length text ≡ m → m ≤ length o → done m ≡ textAnswer text o
@@ -58,15 +58,15 @@ module _ (c : List ℕ) (first last : Date) (n : ℕ) (o : List ℕ) where
   pub characters-refused : length o < 32 + n → (outputTooShort ≡ textAnswer (dayStringText c first last n) o) × (o ≡ putAt o 0 (dayStringText c first last n))
   characters-refused h = text-refused (dayStringText c first last n) o (rw length-day-string h)
 
-  pub characters-put : {p q r s : List ℕ} → 32 + n ≤ length o → p ≡ putAt o 0 (start first last) → q ≡ putAt p 29 (58 ∷ 58 ∷ [])
-      → r ≡ putAt q 31 (dayCharacters c 0 n) → s ≡ putAt r (31 + n) (39 ∷ [])
+  pub characters-put : {p q r s : List ℕ} → 32 + n ≤ length o → p ≡ putAt o 0 (start first last) → q ≡ putAt p 29 (bytes "::")
+      → r ≡ putAt q 31 (dayCharacters c 0 n) → s ≡ putAt r (31 + n) (bytes "'")
       → (done (32 + n) ≡ textAnswer (dayStringText c first last n) o) × (s ≡ putAt o 0 (dayStringText c first last n))
   unfolding dayStringText
   characters-put h e₁ e₂ e₃ e₄ =
-      let a = put-behind o 0 (start first last) (58 ∷ 58 ∷ []) 29 e₁ e₂ refl (simp length-start) (simp length-start (omega arith)) in
-      let b = put-behind o 0 (start first last ++ (58 ∷ 58 ∷ [])) (dayCharacters c 0 n) 31 a e₃ refl (simp (length-append, length-start)) (simp (length-append, length-start, length-characters) (omega arith)) in (
+      let a = put-behind o 0 (start first last) (bytes "::") 29 e₁ e₂ refl (simp length-start) (simp length-start (omega arith)) in
+      let b = put-behind o 0 (start first last ++ bytes "::") (dayCharacters c 0 n) 31 a e₃ refl (simp (length-append, length-start)) (simp (length-append, length-start, length-characters) (omega arith)) in (
         text-fits (dayStringText c first last n) o (32 + n) length-day-string h,
-        put-behind o 0 (start first last ++ (58 ∷ 58 ∷ []) ++ dayCharacters c 0 n) (39 ∷ []) (31 + n) b e₄ refl (simp (length-append, length-start, length-characters, zero-add)) (simp (length-append, length-start, length-characters) (omega arith)),
+        put-behind o 0 (start first last ++ bytes "::" ++ dayCharacters c 0 n) (bytes "'") (31 + n) b e₄ refl (simp (length-append, length-start, length-characters, zero-add)) (simp (length-append, length-start, length-characters) (omega arith)),
       )
 
 module _ (c : List ℕ) (first last : Date) (o : List ℕ) where
@@ -91,15 +91,15 @@ module _ (first last : Date) (w o : List ℕ) where
   pub named-refused : length o < 31 + length w → (outputTooShort ≡ textAnswer (namedText first last w) o) × (o ≡ putAt o 0 (namedText first last w))
   named-refused h = text-refused (namedText first last w) o (rw length-named h)
 
-  pub named-put : {p q r s : List ℕ} → 31 + length w ≤ length o → p ≡ putAt o 0 (start first last) → q ≡ putAt p 29 (43 ∷ [])
-      → r ≡ putAt q 30 w → s ≡ putAt r (30 + length w) (39 ∷ [])
+  pub named-put : {p q r s : List ℕ} → 31 + length w ≤ length o → p ≡ putAt o 0 (start first last) → q ≡ putAt p 29 (bytes "+")
+      → r ≡ putAt q 30 w → s ≡ putAt r (30 + length w) (bytes "'")
       → (done (31 + length w) ≡ textAnswer (namedText first last w) o) × (s ≡ putAt o 0 (namedText first last w))
   unfolding namedText
   named-put h e₁ e₂ e₃ e₄ =
-      let a = put-behind o 0 (start first last) (43 ∷ []) 29 e₁ e₂ refl (simp length-start) (simp length-start (omega arith)) in
-      let b = put-behind o 0 (start first last ++ (43 ∷ [])) w 30 a e₃ refl (simp (length-append, length-start)) (simp (length-append, length-start) (omega arith)) in (
+      let a = put-behind o 0 (start first last) (bytes "+") 29 e₁ e₂ refl (simp length-start) (simp length-start (omega arith)) in
+      let b = put-behind o 0 (start first last ++ bytes "+") w 30 a e₃ refl (simp (length-append, length-start)) (simp (length-append, length-start) (omega arith)) in (
         text-fits (namedText first last w) o (31 + length w) length-named h,
-        put-behind o 0 (start first last ++ (43 ∷ []) ++ w) (39 ∷ []) (30 + length w) b e₄ refl (simp (length-append, length-start, zero-add)) (simp (length-append, length-start) (omega arith)),
+        put-behind o 0 (start first last ++ bytes "+" ++ w) (bytes "'") (30 + length w) b e₄ refl (simp (length-append, length-start, zero-add)) (simp (length-append, length-start) (omega arith)),
       )
 
 -- a good calendar's numbers are small

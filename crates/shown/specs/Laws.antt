@@ -14,6 +14,7 @@ use Rattle.laws.specs.Choice.{choose}
 use Rattle.laws.specs.Lists.{drop-here, drop-past}
 use Rattle.answers.specs.Answers.{done}
 use Rattle.laws.specs.Put.{putAt, put-no-room, put-none, put-put}
+use Rattle.laws.specs.Text.{bytes}
 use Rattle.calendar.specs.Written.{dayCharacters}
 use Rattle.calendar.specs.Steps.{length-characters}
 use Rattle.contents.specs.Written.{upToZero, liveIn, pendingIn, recordIn}
@@ -50,16 +51,16 @@ up-to-is (b ∷ l) = choose (eqb b 0) (λ p. rw p) (λ p. rw p (ap (λ (t : List
 -- ---- for `put_line`
 
 module _ (o number mark days : List ℕ) (at n : ℕ) (h : at + length number + length mark + n + 1 ≤ length o) where
-  pub line-put : putAt (putAt (putAt (putAt o at number) (at + length number) mark) (at + length number + length mark) (dayCharacters days 0 n)) (at + length number + length mark + n) (10 ∷ [])
-      ≡ putAt o at (number ++ (mark ++ (dayCharacters days 0 n ++ (10 ∷ []))))
+  pub line-put : putAt (putAt (putAt (putAt o at number) (at + length number) mark) (at + length number + length mark) (dayCharacters days 0 n)) (at + length number + length mark + n) (bytes "\n")
+      ≡ putAt o at (number ++ (mark ++ (dayCharacters days 0 n ++ bytes "\n")))
   line-put =
       let d : List ℕ = dayCharacters days 0 n in
       let ld : length d ≡ n = length-characters days 0 n in
       let l₂ = length-append number mark in
       let l₃ = length-append (number ++ mark) d in
-      ap (λ (l : List ℕ). putAt (putAt l (at + length number + length mark) d) (at + length number + length mark + n) (10 ∷ [])) (put-put o at number (at + length number) mark refl (omega arith))
-      ∙ ap (λ (l : List ℕ). putAt l (at + length number + length mark + n) (10 ∷ [])) (put-put o at (number ++ mark) (at + length number + length mark) d (omega arith) (omega arith))
-      ∙ put-put o at ((number ++ mark) ++ d) (at + length number + length mark + n) (10 ∷ []) (omega arith) (omega arith)
+      ap (λ (l : List ℕ). putAt (putAt l (at + length number + length mark) d) (at + length number + length mark + n) (bytes "\n")) (put-put o at number (at + length number) mark refl (omega arith))
+      ∙ ap (λ (l : List ℕ). putAt l (at + length number + length mark + n) (bytes "\n")) (put-put o at (number ++ mark) (at + length number + length mark) d (omega arith) (omega arith))
+      ∙ put-put o at ((number ++ mark) ++ d) (at + length number + length mark + n) (bytes "\n") (omega arith) (omega arith)
       ∙ ap (putAt o at) (simp append-assoc)
 
 -- ---- the two lines, by the bytes that say whether they are there
@@ -70,7 +71,7 @@ module _ (slot number : List ℕ) where
   live-none q = rw (eq-eqb (getD slot 10 0) 0 q)
 
   pub live-is : (getD slot 10 0 ≡ 0 → ⊥)
-      → number ++ ((9 ∷ 108 ∷ 105 ∷ 118 ∷ 101 ∷ 9 ∷ []) ++ (dayCharacters (take 64 (drop 11 slot)) 0 512 ++ (10 ∷ []))) ≡ liveLine number (liveIn slot)
+      → number ++ (bytes "\tlive\t" ++ (dayCharacters (take 64 (drop 11 slot)) 0 512 ++ bytes "\n")) ≡ liveLine number (liveIn slot)
   unfolding liveLine
   live-is q = sym (rw (ne-eqb (getD slot 10 0) 0 q))
 
@@ -83,7 +84,7 @@ module _ (slot number : List ℕ) where
 
   module _ (q : getD slot 75 0 ≡ 0 → ⊥) where
     pub put-is : getD slot 75 0 ≡ 1
-        → number ++ ((9 ∷ 112 ∷ 117 ∷ 116 ∷ 9 ∷ []) ++ (dayCharacters (take 64 (drop 76 slot)) 0 512 ++ (10 ∷ []))) ≡ pendingLine number (pendingIn slot)
+        → number ++ (bytes "\tput\t" ++ (dayCharacters (take 64 (drop 76 slot)) 0 512 ++ bytes "\n")) ≡ pendingLine number (pendingIn slot)
     unfolding pendingLine
     put-is p = sym (rw (ne-eqb (getD slot 75 0) 0 q, eq-eqb (getD slot 75 0) 1 p))
 
@@ -91,7 +92,7 @@ module _ (slot number : List ℕ) where
     put-size p = sym (ap length (sym (put-is p)) ∙ simp (length-append, length-characters) (omega arith))
 
     pub del-is : (getD slot 75 0 ≡ 1 → ⊥)
-        → number ++ ((9 ∷ 100 ∷ 101 ∷ 108 ∷ 9 ∷ []) ++ (dayCharacters (take 64 (drop 76 slot)) 0 0 ++ (10 ∷ []))) ≡ pendingLine number (pendingIn slot)
+        → number ++ (bytes "\tdel\t" ++ (dayCharacters (take 64 (drop 76 slot)) 0 0 ++ bytes "\n")) ≡ pendingLine number (pendingIn slot)
     unfolding pendingLine dayCharacters
     del-is p = sym (rw (ne-eqb (getD slot 75 0) 0 q, ne-eqb (getD slot 75 0) 1 p))
 
