@@ -16,3 +16,4 @@ pub mod Found
 pub mod Released
 pub mod Few
 pub mod Whole
+pub mod Quick

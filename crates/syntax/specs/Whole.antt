@@ -56,6 +56,15 @@ end-past-start s i h =
     choose (both (all permittedOf (firstPiece 39 false (drop i s))) (ltb (i + length (firstPiece 39 false (drop i s))) (length s)))
     (λ p. rw p (omega arith)) (λ p. rw p h)
 
+-- and not past the input
+pub end-most : (s : List ℕ) (i : ℕ) → endFrom s i ≤ length s
+unfolding foundEnd
+end-most s i =
+    let n = length (bodyAt s i) in
+    choose (both (all permittedOf (bodyAt s i)) (ltb (i + n) (length s)))
+    (λ p. let h = ltb-true (i + n) (length s) (both-parts (all permittedOf (bodyAt s i)) (ltb (i + n) (length s)) p .1) in rw p (omega arith))
+    (λ p. rw p (omega arith))
+
 -- and the body stands before it
 body-found : (s : List ℕ) (i : ℕ) → endFrom s i < length s → (all permittedOf (bodyAt s i) ≡ true) × (endFrom s i ≡ i + length (bodyAt s i))
 unfolding foundEnd
@@ -82,16 +91,20 @@ module _ (s : List ℕ) (at : ℕ) (q : tagAhead (drop at s) ≡ true) where
       ∙ goes-on n (at + 1 + 1) z (drop (at + 3) s) (capital-goes z (t .c))
       ∙ ap (λ (k : ℕ). foundEnd n k (firstPiece 39 false (drop (at + 3) s))) e
 
-  -- and so is the `+` after it
-  pub end-after-plus : (getD s (at + 3) 0 ≡ 39 → ⊥) → endFrom s (at + 4) ≡ endFrom s (at + 3)
-  unfolding permittedOf
-  end-after-plus o =
-      let h = t .long in
+  -- what follows a tag and is no terminator is `+`
+  pub plus-after : (getD s (at + 3) 0 ≡ 39 → ⊥) → getD s (at + 3) 0 ≡ 43
+  plus-after o =
       let b = getD s (at + 3) 0 in
       let p = t .d in
-      let r : eqb b 43 ≡ true = choose (eqb b 43) (λ y. y) (λ y. absurd (false≢true (rw (y, ne-eqb b 39 o) at p))) in
+      eqb-true b 43 (choose (eqb b 43) (λ y. y) (λ y. absurd (false≢true (rw (y, ne-eqb b 39 o) at p))))
+
+  -- which is passed over as well
+  pub end-after-plus : getD s (at + 3) 0 ≡ 43 → endFrom s (at + 4) ≡ endFrom s (at + 3)
+  unfolding permittedOf
+  end-after-plus r =
+      let h = t .long in
       let e : at + 3 + 1 ≡ at + 4 = omega arith in
-      sym (rw (drop-here s (at + 3) (omega arith), eqb-true b 43 r, e) (goes-on (length s) (at + 3) 43 (drop (at + 4) s) refl ∙ rw e))
+      sym (rw (drop-here s (at + 3) (omega arith), r, e) (goes-on (length s) (at + 3) 43 (drop (at + 4) s) refl ∙ rw e))
 
   no-mark : (b : ℕ) → capital b ≡ true → isMark b ≡ false
   unfolding isMark

@@ -14,6 +14,7 @@ ghost use lib.ListN.{drop};
 ghost use Rattle.laws.specs.Choice.{pick, both};
 ghost use Rattle.syntax.specs.Segment.{capital, segmentAt, scannedAnswer, refusalOf, segmentAnswer, tagNumber};
 ghost use Rattle.syntax.specs.Tags.{tagCloses, tagAhead};
+ghost use Rattle.syntax.specs.Quick.{quickEnd};
 
 /// What stands at an offset.
 pub enum Scanned {
@@ -100,6 +101,29 @@ fn is_tagged(s: &[u8], at: usize) -> bool
     is_tag(s[at], s[at + 1], s[at + 2], s[at + 3])
 }
 
+/// The terminator's index of a segment that has too few characters and marks to pass a limit, its tag with the `+` behind it at an offset; the input's length for any other.
+pub fn quick_end(s: &[u8], at: usize) -> usize
+    ensures { λ r. ⌜ r ≡ quickEnd (now (s .entry)) at ⌝ }
+{
+    if s.len() < 4 {
+        return s.len();
+    }
+    if s.len() - 4 < at {
+        return s.len();
+    }
+    let end = find_end(s, at + 4);
+    if end - at <= 34 {
+        return end;
+    }
+    if s.len() <= end {
+        return s.len();
+    }
+    if is_small(&s[at..end]) {
+        return end;
+    }
+    s.len()
+}
+
 /// The segment that starts at an offset. Its end is found first; its parts are counted only where it may pass a limit, or is to be refused.
 pub fn read_segment(s: &[u8], at: usize) -> Scanned
     ensures scan { λ r. ⌜ r ≡ segmentAt (now (s .entry)) at ⌝ }
@@ -109,14 +133,9 @@ pub fn read_segment(s: &[u8], at: usize) -> Scanned
         if s[at + 3] == b'\'' {
             return Scanned::End(at + 3);
         }
-        let end = find_end(s, at + 4);
+        let end = quick_end(s, at);
         if end < s.len() {
-            if end - at <= 34 {
-                return Scanned::End(end);
-            }
-            if is_small(&s[at..end]) {
-                return Scanned::End(end);
-            }
+            return Scanned::End(end);
         }
     }
     counted(s, at)
