@@ -1,18 +1,18 @@
 -- A segment with few marks and few characters passes no limit.
 -- Assumes nothing.
-use mathlib.Core.Path.{_≡_, refl, sym, ap, _∙_}
+use mathlib.Core.Path.{_≡_, refl, ap, _∙_}
 use mathlib.Core.Bool.{Bool, true, false}
 use mathlib.Core.List.{List, [], _∷_}
-use Prim.Native.Nat.{ℕ, zero, suc, _+_, _≤_, _<_}
+use Prim.Native.Nat.{ℕ, suc, _+_, _≤_, _<_}
 use native.Mathlib.Omega.{arith}
 use mir.Val.{boolByte}
-use lib.Dec.{leb, eqb}
+use lib.Dec.{eqb}
 use borrow.Author.Tests.{le-leb, eqb-true}
 use lib.ListN.{length, getD, drop}
-use Rattle.laws.specs.Choice.{pick, both, either, all, choose, either-true}
+use Rattle.laws.specs.Choice.{pick, all, choose}
 use Rattle.laws.specs.Lists.{drop-here, drop-past}
-use Rattle.syntax.specs.Bytes.{componentMark, elementMark, repetitionMark, stands, releases, plainOn, plain, unless, isMark}
-use Rattle.syntax.specs.Pieces.{firstPiece, laterPieces, joinPiece}
+use Rattle.syntax.specs.Bytes.{stands, releases, plainOn, plain, isMark}
+use Rattle.syntax.specs.Pieces.{firstPiece, laterPieces}
 use Rattle.syntax.specs.Firsts.{first-length}
 use Rattle.syntax.specs.Segment.{componentFits, occurrenceFits, elementFits, withinLimits}
 
@@ -141,3 +141,7 @@ mark-sum b =
     (λ p.
     choose (eqb b 42) (λ q. let e = eqb-true b 42 q in rw e)
     (λ q. rw (p, q) (choose (eqb b 58) (λ r. rw r) (λ r. rw r))))
+
+pub unit-bound : (x : ℕ) (p : Bool) → x ≡ pick p 1 0 → x ≤ 1
+unit-bound x true q = omega arith
+unit-bound x false q = omega arith

@@ -1,17 +1,16 @@
 -- `is_small` meets its contract.
 -- Assumes nothing.
-use mathlib.Core.Path.{_≡_, refl, sym, ap, _∙_}
+use mathlib.Core.Path.{_≡_, ap}
 use Prim.Native.Nat.{_+_, _-_, _≤_, ℕ}
 use native.Mathlib.Omega.{arith}
 use borrow.Author.Needs.{needs}
 use borrow.Author.Tests.{lt-leb, le-leb}
 use native.Mathlib.Nat.{zero-add}
 use lib.Dec.{leb}
-use Rattle.syntax.specs.Passed.{unit-bound}
 use denote.Ref.{now}
 use lib.ListN.{length, getD, drop}
 use Rattle.syntax.specs.Bytes.{isMark}
-use Rattle.syntax.specs.Few.{marksIn, marks-past, marks-here}
+use Rattle.syntax.specs.Few.{marksIn, marks-past, marks-here, unit-bound}
 use Rattle.syntax.proofs.ends.is_small.Statement.{statement}
 use Rattle.syntax.proofs.ends.is_small.Tie as tie
 use Rattle.syntax.proofs.ends.is_small.Reads as reads
