@@ -2,6 +2,7 @@
 
 use crate::bytes::permitted;
 use crate::bytes::released_end;
+use crate::bytes::wide;
 ghost use mathlib.Core.Path.{_≡_};
 ghost use Prim.Native.Nat.{_+_, _≤_, _<_};
 ghost use lib.Dec.{leb};
@@ -12,12 +13,6 @@ ghost use Rattle.syntax.specs.Words.{Word};
 ghost use Rattle.syntax.specs.Passed.{stopsOf, eightTimes};
 ghost use Rattle.syntax.specs.Found.{endFrom};
 ghost use Rattle.syntax.specs.Few.{marksIn};
-
-fn wide(b: u8) -> u64
-    ensures { λ r. ⌜ (r ≡ b) × (r < 256) ⌝ }
-{
-    b as u64
-}
 
 // The eight bytes from an index on as one number, the first the lowest: a flat row of `|`, of which the compiler makes one load.
 fn eight_at(s: &[u8], i: usize) -> u64

@@ -4,12 +4,12 @@ use crate::bytes::is_mark;
 use crate::bytes::permitted;
 use crate::bytes::released_end;
 use crate::bytes::text_end;
+use crate::bytes::wide;
 use crate::ends::find_end;
 use crate::ends::is_small;
 use crate::limits::Counts;
 ghost use mathlib.Core.Path.{_≡_};
 ghost use mathlib.Core.Bool.{not};
-ghost use Prim.Native.Nat.{_<_};
 ghost use lib.ListN.{drop};
 ghost use Rattle.laws.specs.Choice.{pick, both};
 ghost use Rattle.syntax.specs.Segment.{capital, segmentAt, scannedAnswer, refusalOf, segmentAnswer, tagNumber};
@@ -202,11 +202,5 @@ pub fn tag_at(s: &[u8], at: usize) -> u32
     if s.len() - 3 < at {
         return 0;
     }
-    wide(s[at]) * 65536 + wide(s[at + 1]) * 256 + wide(s[at + 2])
-}
-
-fn wide(b: u8) -> u32
-    ensures { λ r. ⌜ (r ≡ b) × (r < 256) ⌝ }
-{
-    b as u32
+    (wide(s[at]) * 65536 + wide(s[at + 1]) * 256 + wide(s[at + 2])) as u32
 }

@@ -7,7 +7,7 @@ use Rattle.syntax.proofs.ends.eight_at.Statement.{statement}
 use Rattle.syntax.proofs.ends.eight_at.Tie as tie
 use Rattle.syntax.proofs.ends.eight_at.Reads as reads
 use Rattle.syntax.proofs.ends.eight_at.Lts as lts
-use Rattle.syntax.proofs.ends.wide.Reads as wide-reads
+use Rattle.syntax.proofs.bytes.wide.Reads as wide-reads
 
 shared-slice-read-wide : tie.Need-shared-slice-read-wide
 shared-slice-read-wide c = search needs
