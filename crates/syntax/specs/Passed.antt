@@ -3,19 +3,19 @@
 use mathlib.Core.Path.{_≡_, refl, sym, ap, _∙_}
 use mathlib.Core.Bool.{Bool, true, false, not}
 use mathlib.Core.List.{List, [], _∷_, _++_}
-use Prim.Native.Nat.{ℕ, suc, _+_, _*_, _/_, _≤_, _<_}
+use Prim.Native.Nat.{ℕ, suc, _+_, _*_, _/_, _^_, _≤_, _<_}
 use native.Mathlib.Omega.{arith}
 use native.Mathlib.Decide.{decLt}
-use lib.Dec.{leb, eqb, eqb→eq}
-use lib.Bits.{bitAnd, bitOr, bitXor, and-le-l, and-le-r, or-lt, xor-lt, and-block, or-block, xor-block}
+use lib.Dec.{leb, ltb, eqb, eqb→eq, lit≤}
+use lib.Bits.{bitAnd, bitXor, and-le-r, or-lt, or-disjoint, xor-self, and-block, xor-block}
 use lib.Count.{trailingZeros, trailing-of-zero}
 use lib.ListN.{length, drop, getD}
-use borrow.Author.Tests.{lt-leb, not-true}
+use borrow.Author.Tests.{lt-leb, not-true, ltb-true, eq-eqb}
 use Rattle.laws.specs.Choice.{pick, both, either, choose, both-parts, both-false, false≢true}
 use Rattle.laws.specs.Lists.{drop-here}
 use Rattle.laws.specs.Sweep.{at, agree}
 use Rattle.syntax.specs.Bytes.{permittedOf}
-use Rattle.syntax.specs.Words.{wordBy, wordOf, Bytes, word-same, by-byte, eightAt, Word, digitsOf, zeros-pass, zeros-stop}
+use Rattle.syntax.specs.Words.{wordBy, wordOf, Below, none, one, word-same, by-byte, eightAt, Word, digitsOf, zeros-pass, zeros-stop}
 
 -- the bytes that are passed over: those from `(` to `:`, and the letters
 unfoldable pub goes : ℕ → Bool
@@ -52,79 +52,80 @@ unfolding passRun
 run-more [] m = omega arith
 run-more (b ∷ l) m = choose (goes b) (λ p. let h = run-more l m in rw p (omega arith)) (λ p. rw p (omega arith))
 
--- The highest digit of a byte, set where the scan stops. In each row of 32 bytes those that are passed over stand from 1 to 26, so that with five
--- added the five lowest digits are 6 or more for them alone; a sum with 122 has its highest digit set from 6 on, and one with 88 from 40 on.
--- `each` gives a number as often as there are bytes: this is done with one byte, or with many at once, as no sum reaches from one to the next.
-unfoldable pub stopsOf : (ℕ → ℕ) → ℕ → ℕ
-stopsOf each x =
-    bitAnd (bitOr (bitXor (bitAnd (bitAnd (bitAnd x (each 127) + each 5) (each 31) + each 122) (bitAnd x (each 127) + each 88)) (each 128)) x) (each 128)
+-- The highest digit of a byte below 128, set where it is passed over. In each row of 32 bytes those that are passed over stand from 1 to 26, so that
+-- with five added the five lowest digits are 6 or more for them alone; a sum with 122 has its highest digit set from 6 on, and one with 88 from
+-- 40 on. `each` gives a number as often as there are bytes: this is done with one byte, or with many at once, as no sum reaches from one to the next.
+unfoldable pub passesOf : (ℕ → ℕ) → ℕ → ℕ
+passesOf each x = bitAnd (bitAnd (bitAnd (x + each 5) (each 31) + each 122) (x + each 88)) (each 128)
 
 -- a number eight times
 abbrev pub eightTimes : ℕ → ℕ
 eightTimes n = n * 72340172838076673
 
 same : ℕ → Bool
-same b = eqb (stopsOf (λ n. n) b) (pick (goes b) 0 128)
+same b = eqb (bitXor (passesOf (λ n. n) b) 128) (pick (goes b) 0 128)
 
-stop-byte : (b : ℕ) → b < 256 → stopsOf (λ n. n) b ≡ pick (goes b) 0 128
-unfolding same stopsOf goes
-stop-byte b h = eqb→eq _ _ (at same 256 tt b h)
+stop-byte : (b : ℕ) → b < 128 → bitXor (passesOf (λ n. n) b) 128 ≡ pick (goes b) 0 128
+unfolding same passesOf goes
+stop-byte b h = eqb→eq _ _ (at same 128 tt b h)
 
 -- what each step makes of a byte is one
-low : (b : ℕ) → b < 256 → bitAnd b 127 < 256
-low b h = let k = and-le-r b 127 in omega arith
+row : (b : ℕ) → b < 128 → bitAnd (b + 5) 31 < 256
+row b h = let k = and-le-r (b + 5) 31 in omega arith
 
-five : (b : ℕ) → b < 256 → bitAnd b 127 + 5 < 256
-five b h = let k = and-le-r b 127 in omega arith
+six : (b : ℕ) → b < 128 → bitAnd (b + 5) 31 + 122 < 256
+six b h = let k = and-le-r (b + 5) 31 in omega arith
 
-row : (b : ℕ) → b < 256 → bitAnd (bitAnd b 127 + 5) 31 < 256
-row b h = let k = and-le-r (bitAnd b 127 + 5) 31 in omega arith
+both-below : (b : ℕ) → b < 128 → bitAnd (bitAnd (b + 5) 31 + 122) (b + 88) < 256
+both-below b h = let k = and-le-r (bitAnd (b + 5) 31 + 122) (b + 88) in omega arith
 
-six : (b : ℕ) → b < 256 → bitAnd (bitAnd b 127 + 5) 31 + 122 < 256
-six b h = let k = and-le-r (bitAnd b 127 + 5) 31 in omega arith
-
-forty : (b : ℕ) → b < 256 → bitAnd b 127 + 88 < 256
-forty b h = let k = and-le-r b 127 in omega arith
-
-passed : ℕ → ℕ
-passed b = bitAnd (bitAnd (bitAnd b 127 + 5) 31 + 122) (bitAnd b 127 + 88)
-
-passed-below : (b : ℕ) → b < 256 → passed b < 256
-unfolding passed
-passed-below b h = let k = and-le-l (bitAnd (bitAnd b 127 + 5) 31 + 122) (bitAnd b 127 + 88) in let g = six b h in omega arith
-
-turned-below : (b : ℕ) → b < 256 → bitXor (passed b) 128 < 256
-turned-below b h = xor-lt 8 (passed b) 128 (passed-below b h) (omega arith)
-
-either-below : (b : ℕ) → b < 256 → bitOr (bitXor (passed b) 128) b < 256
-either-below b h = or-lt 8 (bitXor (passed b) 128) b (turned-below b h) h
+passes-below : (b : ℕ) → b < 128 → passesOf (λ n. n) b < 256
+unfolding passesOf
+passes-below b h = let k = and-le-r (bitAnd (bitAnd (b + 5) 31 + 122) (b + 88)) 128 in omega arith
 
 -- each byte of a word by itself
-module _ {l : List ℕ} (r : Bytes l) where
+module _ {n : ℕ} {l : List ℕ} (r : Below n l) where
   abbrev each : ℕ → ℕ
-  each n = wordBy (λ _. n) l
+  each m = wordBy (λ _. m) l
 
-  ands : (f g : ℕ → ℕ) → ((b : ℕ) → b < 256 → f b < 256) → ((b : ℕ) → b < 256 → g b < 256) → bitAnd (wordBy f l) (wordBy g l) ≡ wordBy (λ b. bitAnd (f b) (g b)) l
+  ands : (f g : ℕ → ℕ) → ((b : ℕ) → b < n → f b < 256) → ((b : ℕ) → b < n → g b < 256) → bitAnd (wordBy f l) (wordBy g l) ≡ wordBy (λ b. bitAnd (f b) (g b)) l
   ands f g p q = by-byte bitAnd refl (and-block 8) f g p q r
 
-  plus : (f : ℕ → ℕ) (n : ℕ) → ((b : ℕ) → b < 256 → f b < 256) → n < 256 → wordBy f l + each n ≡ wordBy (λ b. f b + n) l
-  plus f n p h = by-byte (λ x y. x + y) refl (λ a b u v g k. omega arith) f (λ _. n) p (λ _ _. h) r
+  plus : (f : ℕ → ℕ) (m : ℕ) → ((b : ℕ) → b < n → f b < 256) → m < 256 → wordBy f l + each m ≡ wordBy (λ b. f b + m) l
+  plus f m p h = by-byte (λ x y. x + y) refl (λ a b u v g k. omega arith) f (λ _. m) p (λ _ _. h) r
 
-  stops-bytes : stopsOf each (wordOf l) ≡ wordBy (λ b. pick (goes b) 0 128) l
-  unfolding stopsOf passed
-  stops-bytes =
-      rw (
-        ands (λ b. b) (λ _. 127) (λ b h. h) (λ b h. omega arith),
-        plus (λ b. bitAnd b 127) 5 low (omega arith),
-        ands (λ b. bitAnd b 127 + 5) (λ _. 31) five (λ b h. omega arith),
-        plus (λ b. bitAnd (bitAnd b 127 + 5) 31) 122 row (omega arith),
-        plus (λ b. bitAnd b 127) 88 low (omega arith),
-        ands (λ b. bitAnd (bitAnd b 127 + 5) 31 + 122) (λ b. bitAnd b 127 + 88) six forty,
-        by-byte bitXor refl (xor-block 8) passed (λ _. 128) passed-below (λ b h. omega arith) r,
-        by-byte bitOr refl (or-block 8) (λ b. bitXor (passed b) 128) (λ b. b) turned-below (λ b h. h) r,
-        ands (λ b. bitOr (bitXor (passed b) 128) b) (λ _. 128) either-below (λ b h. omega arith),
-      )
-      (word-same (stopsOf (λ n. n)) (λ b. pick (goes b) 0 128) stop-byte r)
+stops-bytes : {l : List ℕ} → Below 128 l → bitXor (passesOf (λ m. wordBy (λ _. m) l) (wordOf l)) (wordBy (λ _. 128) l) ≡ wordBy (λ b. pick (goes b) 0 128) l
+unfolding passesOf
+stops-bytes {l} r =
+    rw (
+      plus r (λ b. b) 5 (λ b h. omega arith) (omega arith),
+      ands r (λ b. b + 5) (λ _. 31) (λ b h. omega arith) (λ b h. omega arith),
+      plus r (λ b. bitAnd (b + 5) 31) 122 row (omega arith),
+      plus r (λ b. b) 88 (λ b h. omega arith) (omega arith),
+      ands r (λ b. bitAnd (b + 5) 31 + 122) (λ b. b + 88) six (λ b h. omega arith),
+      ands r (λ b. bitAnd (bitAnd (b + 5) 31 + 122) (b + 88)) (λ _. 128) both-below (λ b h. omega arith),
+      by-byte bitXor refl (xor-block 8) (passesOf (λ n. n)) (λ _. 128) passes-below (λ b h. omega arith) r,
+    )
+    (word-same (λ b. bitXor (passesOf (λ n. n) b) 128) (λ b. pick (goes b) 0 128) stop-byte r)
+
+-- where no highest digit is set, all bytes are below 128
+low-byte : (b : ℕ) → b < 256 → bitAnd b 128 ≡ 0 → b < 128
+low-byte b h e = ltb-true b 128 (sym (agree (λ b. eqb (bitAnd b 128) 0) (λ b. ltb b 128) 256 tt b h) ∙ eq-eqb (bitAnd b 128) 0 e)
+
+all-low : {l : List ℕ} → Below 256 l → wordBy (λ b. bitAnd b 128) l ≡ 0 → Below 128 l
+unfolding wordBy
+all-low none e = none
+all-low (one {b} {l} k r) e = one (low-byte b k (omega arith)) (all-low r (omega arith))
+
+bytes-low : {l : List ℕ} → Below 256 l → bitAnd (wordOf l) (wordBy (λ _. 128) l) ≡ 0 → Below 128 l
+bytes-low r e = all-low r (sym (ands r (λ b. b) (λ _. 128) (λ b h. h) (λ b h. omega arith)) ∙ e)
+
+-- and the word leaves room for the sums
+pub word-low : (x : ℕ) → x < 2 ^ 64 → bitAnd x 9259542123273814144 ≡ 0 → x ≤ 9187201950435737471
+word-low x h e =
+    let a = or-disjoint x 9259542123273814144 e in
+    let b = or-lt 64 x 9259542123273814144 h (lit≤ tt) in
+    omega arith
 
 -- the zeros below the first stop tell of a run that it has at least
 lead : (l : List ℕ) → trailingZeros (digitsOf l) (wordBy (λ b. pick (goes b) 0 128) l) ≤ 8 * passRun l + 7
@@ -136,7 +137,7 @@ lead (b ∷ l) =
     (λ p. let z = zeros-pass (digitsOf l) w in let h = lead l in rw p (omega arith))
     (λ p. let z = zeros-stop (digitsOf l) w in rw p (omega arith))
 
-module _ (s : List ℕ) (i x : ℕ) (h : i + 8 ≤ length s) (w : Word s i x) where
+module _ (s : List ℕ) (i x : ℕ) (h : i + 8 ≤ length s) (w : Word s i x) (g : bitAnd x 9259542123273814144 ≡ 0) where
   next : (k : ℕ) → k < 8 → drop (i + k) s ≡ getD s (i + k) 0 ∷ drop (i + suc k) s
   next k g =
       let e : i + k + 1 ≡ i + suc k = omega arith in
@@ -149,21 +150,23 @@ module _ (s : List ℕ) (i x : ℕ) (h : i + 8 ≤ length s) (w : Word s i x) wh
       (rw e at z)
       ∙ rw (next 1 (omega arith), next 2 (omega arith), next 3 (omega arith), next 4 (omega arith), next 5 (omega arith), next 6 (omega arith), next 7 (omega arith))
 
-  stops-word : stopsOf eightTimes x ≡ wordBy (λ b. pick (goes b) 0 128) (eightAt s i)
-  unfolding wordBy stopsOf
-  stops-word = ap (stopsOf eightTimes) (w .is) ∙ stops-bytes (w .bytes)
+  stops-word : bitXor (passesOf eightTimes x) 9259542123273814144 ≡ wordBy (λ b. pick (goes b) 0 128) (eightAt s i)
+  unfolding wordBy passesOf
+  stops-word =
+      ap (λ (x : ℕ). bitXor (passesOf eightTimes x) 9259542123273814144) (w .is)
+      ∙ stops-bytes (bytes-low (w .bytes) (ap (λ (x : ℕ). bitAnd x 9259542123273814144) (sym (w .is)) ∙ g))
 
-  module _ (y : ℕ) (e : y ≡ stopsOf eightTimes x) where
-    pub eight-lead : trailingZeros 64 y / 8 ≤ passRun (drop i s)
+  module _ (y : ℕ) (e : y ≡ passesOf eightTimes x) where
+    pub eight-lead : trailingZeros 64 (bitXor y 9259542123273814144) / 8 ≤ passRun (drop i s)
     eight-lead =
         let a = lead (eightAt s i) in
         let b = run-more (eightAt s i) (drop (i + 8) s) in
         let c = ap passRun eight in
-        let d = ap (trailingZeros 64) (e ∙ stops-word) in
+        let d = ap (λ (y : ℕ). trailingZeros 64 (bitXor y 9259542123273814144)) e ∙ ap (trailingZeros 64) stops-word in
         omega arith
 
-    pub eight-clear : y ≡ 0 → 8 ≤ passRun (drop i s)
+    pub eight-clear : y ≡ 9259542123273814144 → 8 ≤ passRun (drop i s)
     eight-clear z =
         let a = eight-lead in
-        let b = ap (trailingZeros 64) z ∙ trailing-of-zero 64 in
+        let b = ap (λ (y : ℕ). trailingZeros 64 (bitXor y 9259542123273814144)) z ∙ ap (trailingZeros 64) (xor-self 9259542123273814144) ∙ trailing-of-zero 64 in
         omega arith

@@ -16,21 +16,21 @@ wordBy f (b ∷ l) = wordBy f l * 256 + f b
 abbrev pub wordOf : List ℕ → ℕ
 wordOf l = wordBy (λ b. b) l
 
--- a list of bytes
-pub data Bytes : List ℕ → Type 0 where
-  none : Bytes []
-  one : {b : ℕ} {l : List ℕ} → b < 256 → Bytes l → Bytes (b ∷ l)
+-- a list of numbers below a bound: 256 for bytes
+pub data Below (n : ℕ) : List ℕ → Type 0 where
+  none : Below n []
+  one : {b : ℕ} {l : List ℕ} → b < n → Below n l → Below n (b ∷ l)
 
 -- two functions that make the same of each byte
-pub word-same : (f g : ℕ → ℕ) → ((b : ℕ) → b < 256 → f b ≡ g b) → {l : List ℕ} → Bytes l → wordBy f l ≡ wordBy g l
+pub word-same : {n : ℕ} (f g : ℕ → ℕ) → ((b : ℕ) → b < n → f b ≡ g b) → {l : List ℕ} → Below n l → wordBy f l ≡ wordBy g l
 unfolding wordBy
 word-same f g h none = refl
 word-same f g h (one {b} {l} k r) = ap (λ (x : ℕ). x * 256 + f b) (word-same f g h r) ∙ ap (λ (x : ℕ). wordBy g l * 256 + x) (h b k)
 
 -- what an operation makes of two words where it takes them apart at a byte
 module _ (op : ℕ → ℕ → ℕ) (nothing : op 0 0 ≡ 0) (block : (a b r s : ℕ) → r < 256 → s < 256 → op (a * 256 + r) (b * 256 + s) ≡ op a b * 256 + op r s) where
-  pub by-byte : (f g : ℕ → ℕ) → ((b : ℕ) → b < 256 → f b < 256) → ((b : ℕ) → b < 256 → g b < 256)
-      → {l : List ℕ} → Bytes l → op (wordBy f l) (wordBy g l) ≡ wordBy (λ b. op (f b) (g b)) l
+  pub by-byte : {n : ℕ} (f g : ℕ → ℕ) → ((b : ℕ) → b < n → f b < 256) → ((b : ℕ) → b < n → g b < 256)
+      → {l : List ℕ} → Below n l → op (wordBy f l) (wordBy g l) ≡ wordBy (λ b. op (f b) (g b)) l
   unfolding wordBy
   by-byte f g p q none = nothing
   by-byte f g p q (one {b} {l} k r) =
@@ -44,7 +44,7 @@ eightAt s i =
 -- a number that is these eight bytes
 pub record Word (s : List ℕ) (i x : ℕ) : Type 0 where
   pub is : x ≡ wordOf (eightAt s i)
-  pub bytes : Bytes (eightAt s i)
+  pub bytes : Below 256 (eightAt s i)
 
 -- put together by `|`: each byte stands above the ones before it
 above : (a k b s : ℕ) → s ≡ a * 2 ^ k → b < 2 ^ k → bitOr b s ≡ b + s

@@ -10,7 +10,7 @@ ghost use lib.ListN.{length, getD};
 ghost use Rattle.laws.specs.Choice.{pick, both};
 ghost use Rattle.syntax.specs.Bytes.{isMark};
 ghost use Rattle.syntax.specs.Words.{Word};
-ghost use Rattle.syntax.specs.Passed.{stopsOf, eightTimes};
+ghost use Rattle.syntax.specs.Passed.{passesOf, eightTimes};
 ghost use Rattle.syntax.specs.Found.{endFrom};
 ghost use Rattle.syntax.specs.Few.{marksIn};
 
@@ -29,9 +29,7 @@ fn eight_at(s: &[u8], i: usize) -> u64
         | wide(s[i + 7]) * 72057594037927936
 }
 
-// 127, 5, 31, 122, 88 and 128, each eight times.
-const LOW_DIGITS: u64 = 9187201950435737471;
-
+// 5, 31, 122, 88 and 128, each eight times.
 const FIVE: u64 = 361700864190383365;
 
 const ROW: u64 = 2242545357980376863;
@@ -42,18 +40,16 @@ const FROM_FORTY: u64 = 6365935209750747224;
 
 const HIGHEST: u64 = 9259542123273814144;
 
-// The highest digit of each of eight bytes, set where the byte is not passed over: it is none from `(` to `:`, and no letter. The other
+// The highest digit of each of eight bytes below 128, set where the byte is passed over: it is one from `(` to `:`, or a letter. The other
 // permitted bytes, as the space, are too few to be worth telling apart here, and are passed one by one.
-fn stops_in(x: u64) -> u64
-    ensures { λ r. ⌜ r ≡ stopsOf eightTimes x ⌝ }
+fn passes_in(x: u64) -> u64
+    requires { ⌜ x ≤ 9187201950435737471 ⌝ }
+    ensures { λ r. ⌜ r ≡ passesOf eightTimes x ⌝ }
 {
-    let low = x & LOW_DIGITS;
-    let row = ((low + FIVE) & ROW) + FROM_SIX;
-    let from = low + FROM_FORTY;
-    (((row & from) ^ HIGHEST) | x) & HIGHEST
+    (((x + FIVE) & ROW) + FROM_SIX) & (x + FROM_FORTY) & HIGHEST
 }
 
-// Past bytes that are passed over, eight at a time, to the first that is not, or to where fewer than eight are left.
+// Past bytes that are passed over, eight at a time, to the first that is not, to eight of which one is not below 128, or to where fewer are left.
 fn run_end(s: &[u8], from: usize) -> usize
     ensures { λ r. ⌜ (from ≤ r) × (endFrom (now (s .entry)) r ≡ endFrom (now (s .entry)) from) ⌝ }
 {
@@ -63,9 +59,13 @@ fn run_end(s: &[u8], from: usize) -> usize
     let last = s.len() - 8;
     let mut i = from;
     while i <= last {
-        let stops = stops_in(eight_at(s, i));
-        if stops != 0 {
-            return i + (u64::trailing_zeros(stops) / 8) as usize;
+        let x = eight_at(s, i);
+        if x & HIGHEST != 0 {
+            return i;
+        }
+        let passes = passes_in(x);
+        if passes != HIGHEST {
+            return i + (u64::trailing_zeros(passes ^ HIGHEST) / 8) as usize;
         }
         i += 8;
     }

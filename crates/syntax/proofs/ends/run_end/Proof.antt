@@ -6,16 +6,17 @@ use Prim.Native.Nat.{ℕ, _+_, _-_, _/_, _≤_}
 use native.Mathlib.Omega.{arith}
 use borrow.Author.Needs.{needs}
 use denote.Ref.{now}
+use lib.Bits.{bitXor}
 use lib.Count.{trailingZeros, trailing-le}
-use lib.ListN.{length}
-use Rattle.syntax.specs.Passed.{eight-lead, eight-clear}
+use lib.ListN.{length, drop}
+use Rattle.syntax.specs.Passed.{passRun, word-low, eight-lead, eight-clear}
 use Rattle.syntax.specs.Found.{endFrom, end-run}
 use Rattle.syntax.proofs.ends.run_end.Statement.{statement}
 use Rattle.syntax.proofs.ends.run_end.Tie as tie
 use Rattle.syntax.proofs.ends.run_end.Reads as reads
 use Rattle.syntax.proofs.ends.run_end.Lts as lts
 use Rattle.syntax.proofs.ends.eight_at.Reads as eight-at-reads
-use Rattle.syntax.proofs.ends.stops_in.Reads as stops-in-reads
+use Rattle.syntax.proofs.ends.passes_in.Reads as passes-in-reads
 
 abbrev Inv-loop : tie.InvT-loop
 Inv-loop s from last i₀ i = (last + 8 ≡ length s) × (from ≤ i) × (endFrom s i ≡ endFrom s from)
@@ -35,25 +36,28 @@ loop-holds c = (omega arith, omega arith, refl)
 eight-at-requires : tie.Need-eight-at-requires Inv-loop μ-loop
 eight-at-requires c κs = search needs
 
-stops-in-requires : tie.Need-stops-in-requires Inv-loop μ-loop
-stops-in-requires c κs = search needs
+returns-2 : tie.Need-returns-2 Inv-loop μ-loop
+returns-2 c = let o = c .before .before .before in (o .loop .inv .1, o .loop .inv .2)
 
--- after the stops of eight bytes are known
-module _ (t : tie.After-stops-in Inv-loop μ-loop) where
+passes-in-requires : tie.Need-passes-in-requires Inv-loop μ-loop
+passes-in-requires c κs = word-low (c .before .eight-at .result) (c .before .eight-at .ok) (c .if2 .left)
+
+-- after it is known which of eight bytes are passed over
+module _ (t : tie.After-passes-in Inv-loop μ-loop) where
   abbrev own : tie.At-loop Inv-loop μ-loop
-  own = t .before .before .before
+  own = t .before .before .before .before
 
   abbrev list : List ℕ
   list = now (own .before .before .before .args .s)
 
   abbrev zeros : ℕ
-  zeros = trailingZeros 64 (t .stops-in .result)
+  zeros = trailingZeros 64 (bitXor (t .passes-in .result) 9259542123273814144)
 
   few : zeros ≤ 64
-  few = trailing-le 64 (t .stops-in .result)
+  few = trailing-le 64 (bitXor (t .passes-in .result) 9259542123273814144)
 
-  goes-by : (k : ℕ) → endFrom list (own .loop .i) ≡ endFrom list (own .loop .i + k) → endFrom list (own .loop .i + k) ≡ endFrom list (own .before .before .before .args .from)
-  goes-by k e = sym e ∙ own .loop .inv .2
+  goes-by : (k : ℕ) → k ≤ passRun (drop (own .loop .i) list) → endFrom list (own .loop .i + k) ≡ endFrom list (own .before .before .before .args .from)
+  goes-by k h = sym (end-run list (own .loop .i) k h) ∙ own .loop .inv .2
 
 cast-result : tie.Need-cast-result Inv-loop μ-loop
 cast-result c = let h = few (c .before) in omega arith
@@ -61,13 +65,12 @@ cast-result c = let h = few (c .before) in omega arith
 add-result : tie.Need-add-result Inv-loop μ-loop
 add-result c = let h = few (c .before) in omega arith
 
-returns-2 : tie.Need-returns-2 Inv-loop μ-loop
-returns-2 c =
+returns-3 : tie.Need-returns-3 Inv-loop μ-loop
+returns-3 c =
     let t = c .before in
-    let o = own t in
-    let w = t .before .eight-at .ensures in (
+    let e = t .before .before in (
       omega arith,
-      goes-by t (zeros t / 8) (end-run (list t) (o .loop .i) (zeros t / 8) (eight-lead (list t) (o .loop .i) (t .before .eight-at .result) (omega arith) w (t .stops-in .result) (t .stops-in .ensures))),
+      goes-by t (zeros t / 8) (eight-lead (list t) (own t .loop .i) (e .eight-at .result) (omega arith) (e .eight-at .ensures) (t .before .if2 .left) (t .passes-in .result) (t .passes-in .ensures)),
     )
 
 add-i : tie.Need-add-i Inv-loop μ-loop
@@ -79,15 +82,14 @@ loop-less c = omega arith
 loop-again : tie.Need-loop-again Inv-loop μ-loop
 loop-again c =
     let t = c .before in
-    let o = own t in
-    let w = t .before .eight-at .ensures in (
-      o .loop .inv .0,
+    let e = t .before .before in (
+      own t .loop .inv .0,
       omega arith,
-      goes-by t 8 (end-run (list t) (o .loop .i) 8 (eight-clear (list t) (o .loop .i) (t .before .eight-at .result) (omega arith) w (t .stops-in .result) (t .stops-in .ensures) (c .if2 .left))),
+      goes-by t 8 (eight-clear (list t) (own t .loop .i) (e .eight-at .result) (omega arith) (e .eight-at .ensures) (t .before .if2 .left) (t .passes-in .result) (t .passes-in .ensures) (c .if3 .left)),
     )
 
-returns-3 : tie.Need-returns-3 Inv-loop μ-loop
-returns-3 c = (c .before .loop .inv .1, c .before .loop .inv .2)
+returns-4 : tie.Need-returns-4 Inv-loop μ-loop
+returns-4 c = (c .before .loop .inv .1, c .before .loop .inv .2)
 
 pub run-end-spec : {M : Type 1} → statement M
 run-end-spec =
@@ -99,11 +101,12 @@ run-end-spec =
     sub-last
     loop-holds
     eight-at-requires
-    stops-in-requires
+    returns-2
+    passes-in-requires
     cast-result
     add-result
-    returns-2
+    returns-3
     add-i
     loop-less
     loop-again
-    returns-3)
+    returns-4)
