@@ -3,7 +3,7 @@
 use mathlib.Core.Path.{_≡_, refl, sym, ap, _∙_}
 use mathlib.Core.Bool.{Bool, true, false}
 use mathlib.Core.List.{List, [], _∷_}
-use Prim.Native.Nat.{ℕ, zero, suc, _+_, _-_, _*_, _/_, _≤_, _<_}
+use Prim.Native.Nat.{ℕ, suc, _+_, _-_, _*_, _/_, _≤_, _<_}
 use native.Mathlib.Omega.{arith}
 use native.Mathlib.Nat.{add-zero, zero-add}
 use lib.Dec.{eqb}
@@ -11,7 +11,7 @@ use borrow.Author.Tests.{eq-eqb, eqb-true}
 use lib.ListN.{length, getD, drop, length-drop}
 use lib.Seq.{drop-drop}
 use Rattle.laws.specs.Choice.{pick, both, choose, both-parts, both-false}
-use Rattle.laws.specs.Lists.{drop-here, drop-past}
+use Rattle.laws.specs.Lists.{drop-here}
 use Rattle.syntax.specs.declared.limits.Counts.{Counts}
 use Rattle.syntax.specs.Bytes.{permittedOf}
 use Rattle.syntax.specs.Pieces.{firstPiece}

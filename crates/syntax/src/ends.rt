@@ -5,14 +5,10 @@ use crate::bytes::released_end;
 use crate::bytes::wide;
 ghost use mathlib.Core.Path.{_≡_};
 ghost use Prim.Native.Nat.{_+_, _≤_, _<_};
-ghost use lib.Dec.{leb};
 ghost use lib.ListN.{length, getD};
-ghost use Rattle.laws.specs.Choice.{pick, both};
-ghost use Rattle.syntax.specs.Bytes.{isMark};
 ghost use Rattle.syntax.specs.Words.{Word};
 ghost use Rattle.syntax.specs.Passed.{passesOf, eightTimes};
 ghost use Rattle.syntax.specs.Found.{endFrom};
-ghost use Rattle.syntax.specs.Few.{marksIn};
 
 // The eight bytes from an index on as one number, the first the lowest: a flat row of `|`, of which the compiler makes one load.
 fn eight_at(s: &[u8], i: usize) -> u64
@@ -108,27 +104,4 @@ pub(crate) fn find_end(s: &[u8], from: usize) -> usize
         }
         i = past_byte(s, j);
     }
-}
-
-// 1 for `+`, `*` or `:`, 0 for any other byte.
-fn mark_of(b: u8) -> u8
-    ensures { λ r. ⌜ r ≡ pick (isMark b) 1 0 ⌝ }
-{
-    (b == b'+') as u8 + (b == b'*') as u8 + (b == b':') as u8
-}
-
-/// Whether a segment has too few characters and marks to pass a limit.
-pub(crate) fn is_small(p: &[u8]) -> bool
-    ensures { λ r. ⌜ r ≡ both (leb (length (now (p .entry))) 512) (leb (marksIn (now (p .entry))) 31) ⌝ }
-{
-    if 512 < p.len() {
-        return false;
-    }
-    let mut marks: u16 = 0;
-    let mut i = 0;
-    while i < p.len() {
-        marks += mark_of(p[i]) as u16;
-        i += 1;
-    }
-    marks <= 31
 }

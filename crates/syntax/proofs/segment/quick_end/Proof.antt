@@ -16,7 +16,7 @@ use Rattle.syntax.proofs.segment.quick_end.Tie as tie
 use Rattle.syntax.proofs.segment.quick_end.Reads as reads
 use Rattle.syntax.proofs.segment.quick_end.Lts as lts
 use Rattle.syntax.proofs.ends.find_end.Reads as find-end-reads
-use Rattle.syntax.proofs.ends.is_small.Reads as is-small-reads
+use Rattle.syntax.proofs.marks.is_small.Reads as is-small-reads
 
 returns : tie.Need-returns
 returns c =
