@@ -1,18 +1,21 @@
 -- A segment with few marks and few characters passes no limit.
 -- Assumes nothing.
-use mathlib.Core.Path.{_≡_, refl, sym, ap, _∙_}
+use mathlib.Core.Path.{_≡_, refl, ap, _∙_}
 use mathlib.Core.Bool.{Bool, true, false}
 use mathlib.Core.List.{List, [], _∷_}
-use Prim.Native.Nat.{ℕ, zero, suc, _+_, _≤_, _<_}
+use Prim.Native.Nat.{ℕ, zero, suc, _+_, _-_, _≤_, _<_}
 use native.Mathlib.Omega.{arith}
 use mir.Val.{boolByte}
-use lib.Dec.{leb, eqb}
+use lib.Bits.{bitOr}
+use lib.Dec.{eqb, eqb→eq}
 use borrow.Author.Tests.{le-leb, eqb-true}
-use lib.ListN.{length, getD, drop}
-use Rattle.laws.specs.Choice.{pick, both, either, all, choose, either-true}
-use Rattle.laws.specs.Lists.{drop-here, drop-past}
-use Rattle.syntax.specs.Bytes.{componentMark, elementMark, repetitionMark, stands, releases, plainOn, plain, unless, isMark}
-use Rattle.syntax.specs.Pieces.{firstPiece, laterPieces, joinPiece}
+use lib.ListN.{length, getD, take, drop}
+use lib.Seq.{drop-drop}
+use Rattle.laws.specs.Choice.{pick, all, choose}
+use Rattle.laws.specs.Lists.{between, drop-here, drop-past}
+use Rattle.laws.specs.Sweep.{at}
+use Rattle.syntax.specs.Bytes.{stands, releases, plainOn, plain, isMark}
+use Rattle.syntax.specs.Pieces.{firstPiece, laterPieces}
 use Rattle.syntax.specs.Firsts.{first-length}
 use Rattle.syntax.specs.Segment.{componentFits, occurrenceFits, elementFits, withinLimits}
 
@@ -129,15 +132,30 @@ limits-few g h k =
     let n = later-marks 43 false g mark-plus in
     rw (le-leb (length (laterPieces 43 false g)) 64 (omega arith), every elementFits 31 512 element-few 43 false g h k)
 
--- a mark as the sum of three tests
+-- a mark as the sum of two tests
 pub byte-unit : (p : Bool) → boolByte p ≤ 1
 byte-unit true = omega arith
 byte-unit false = omega arith
 
-pub mark-sum : (b : ℕ) → boolByte (eqb b 43) + boolByte (eqb b 42) + boolByte (eqb b 58) ≡ pick (isMark b) 1 0
-unfolding isMark
-mark-sum b =
-    choose (eqb b 43) (λ p. let e = eqb-true b 43 p in rw e)
-    (λ p.
-    choose (eqb b 42) (λ q. let e = eqb-true b 42 q in rw e)
-    (λ q. rw (p, q) (choose (eqb b 58) (λ r. rw r) (λ r. rw r))))
+same : ℕ → Bool
+same b = eqb (boolByte (eqb (bitOr b 1) 43) + boolByte (eqb b 58)) (pick (isMark b) 1 0)
+
+pub mark-sum : (b : ℕ) → b < 256 → boolByte (eqb (bitOr b 1) 43) + boolByte (eqb b 58) ≡ pick (isMark b) 1 0
+unfolding same isMark
+mark-sum b h = eqb→eq _ _ (at same 256 tt b h)
+
+pub unit-bound : (x : ℕ) (p : Bool) → x ≡ pick p 1 0 → x ≤ 1
+unit-bound x p q = let h = unit p in omega arith
+
+-- the marks of a part, and of what stands behind it
+marks-take : (n : ℕ) (l : List ℕ) → marksIn l ≡ marksIn (take n l) + marksIn (drop n l)
+unfolding marksIn
+marks-take zero l = omega arith
+marks-take (suc n) [] = refl
+marks-take (suc n) (b ∷ l) = let h = marks-take n l in omega arith
+
+pub marks-part : (s : List ℕ) (i e : ℕ) → i ≤ e → marksIn (drop i s) ≡ marksIn (between s i e) + marksIn (drop e s)
+marks-part s i e h =
+    let q : i + (e - i) ≡ e = omega arith in
+    let d : drop (e - i) (drop i s) ≡ drop e s = rw (drop-drop, q) in
+    marks-take (e - i) (drop i s) ∙ rw d

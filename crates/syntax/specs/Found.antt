@@ -1,20 +1,20 @@
 -- The end of a segment by a scan that counts no parts.
 -- Assumes nothing.
-use mathlib.Core.Path.{_≡_, refl, sym, ap, _∙_}
-use mathlib.Core.Bool.{Bool, true, false, not}
+use mathlib.Core.Path.{_≡_, refl, _∙_}
+use mathlib.Core.Bool.{true, false}
 use mathlib.Core.List.{List, [], _∷_}
 use Prim.Native.Nat.{ℕ, zero, suc, _+_, _-_, _≤_, _<_}
 use native.Mathlib.Omega.{arith}
 use native.Mathlib.Nat.{add-zero}
 use lib.Dec.{ltb, eqb}
-use borrow.Author.Tests.{le-ltb, lt-ltb, not-true}
-use lib.ListN.{length, drop, getD, length-drop}
-use lib.Seq.{drop-drop, getD-drop}
-use Rattle.laws.specs.Choice.{pick, both, all, choose, both-parts, both-true}
+use borrow.Author.Tests.{le-ltb, lt-ltb}
+use lib.ListN.{length, drop, getD}
+use lib.Seq.{drop-drop}
+use Rattle.laws.specs.Choice.{pick, both, all, choose}
 use Rattle.laws.specs.Lists.{drop-here, drop-past}
 use Rattle.syntax.specs.Bytes.{permittedOf}
 use Rattle.syntax.specs.Pieces.{firstPiece}
-use Rattle.syntax.specs.Passed.{goes, passRun}
+use Rattle.syntax.specs.Passed.{goes, goes-fine, passRun}
 
 -- the index past the body g that begins at index i, where g is ended in an input of n bytes and all its bytes are permitted; else n
 unfoldable pub foundEnd : ℕ → ℕ → List ℕ → ℕ
@@ -23,20 +23,6 @@ foundEnd n i g = pick (both (all permittedOf g) (ltb (i + length g) n)) (i + len
 -- the same for what is left of a segment from an index of the input on
 abbrev pub endFrom : List ℕ → ℕ → ℕ
 endFrom s i = foundEnd (length s) i (firstPiece 39 false (drop i s))
-
--- a byte that is passed over is permitted and stands neither as terminator nor as release
-pub goes-quote : (b : ℕ) → goes b ≡ true → eqb b 39 ≡ false
-goes-quote b q =
-    let w = both-parts (permittedOf b) (both (not (eqb b 39)) (not (eqb b 63))) q in
-    not-true _ (both-parts (not (eqb b 39)) (not (eqb b 63)) (w .1) .0)
-
-pub goes-question : (b : ℕ) → goes b ≡ true → eqb b 63 ≡ false
-goes-question b q =
-    let w = both-parts (permittedOf b) (both (not (eqb b 39)) (not (eqb b 63))) q in
-    not-true _ (both-parts (not (eqb b 39)) (not (eqb b 63)) (w .1) .1)
-
-pub goes-fine : (b : ℕ) → eqb b 39 ≡ false → eqb b 63 ≡ false → goes b ≡ permittedOf b
-goes-fine b p q = rw (p, q) (both-true (permittedOf b))
 
 pub fine-question : permittedOf 63 ≡ true
 unfolding permittedOf
@@ -61,38 +47,31 @@ module _ (n i : ℕ) where
   unfolding foundEnd
   end-here h = simp (add-zero, lt-ltb i n h)
 
-first-goes : (b : ℕ) (l : List ℕ) → goes b ≡ true → firstPiece 39 false (b ∷ l) ≡ b ∷ firstPiece 39 false l
+first-other : (b : ℕ) (l : List ℕ) → eqb b 39 ≡ false → eqb b 63 ≡ false → firstPiece 39 false (b ∷ l) ≡ b ∷ firstPiece 39 false l
 unfolding firstPiece
-first-goes b l q = rw (goes-quote b q, goes-question b q)
+first-other b l p q = rw (p, q)
 
--- a byte, and a run of them, that is passed over
+-- a byte that is permitted and stands neither as terminator nor as release, and a run of those that are passed over
+pub end-on : (n i b : ℕ) (l : List ℕ) → permittedOf b ≡ true → eqb b 39 ≡ false → eqb b 63 ≡ false → foundEnd n i (firstPiece 39 false (b ∷ l)) ≡ foundEnd n (i + 1) (firstPiece 39 false l)
+end-on n i b l f p q = rw (first-other b l p q) (end-byte n i b (firstPiece 39 false l) f)
+
 pub goes-on : (n i b : ℕ) (l : List ℕ) → goes b ≡ true → foundEnd n i (firstPiece 39 false (b ∷ l)) ≡ foundEnd n (i + 1) (firstPiece 39 false l)
-goes-on n i b l q =
-    rw (first-goes b l q) (end-byte n i b (firstPiece 39 false l) (sym (goes-fine b (goes-quote b q) (goes-question b q)) ∙ q))
+goes-on n i b l q = let g = goes-fine b q in end-on n i b l (g .permitted) (g .quote) (g .question)
 
-run : (n : ℕ) (l : List ℕ) (i : ℕ) → foundEnd n i (firstPiece 39 false l) ≡ foundEnd n (i + passRun l) (firstPiece 39 false (drop (passRun l) l))
+run : (n k : ℕ) (l : List ℕ) (i : ℕ) → k ≤ passRun l → foundEnd n i (firstPiece 39 false l) ≡ foundEnd n (i + k) (firstPiece 39 false (drop k l))
 unfolding passRun
-run n [] i = simp add-zero
-run n (b ∷ l) i =
+run n zero l i h = simp add-zero
+run n (suc k) [] i h = absurd (omega arith)
+run n (suc k) (b ∷ l) i h =
     choose (goes b)
     (λ q.
-    let e : i + suc (passRun l) ≡ i + 1 + passRun l = omega arith in
-    goes-on n i b l q ∙ run n l (i + 1) ∙ rw (q, e))
-    (λ q. rw q (simp add-zero))
+    let e : i + suc k ≡ i + 1 + k = omega arith in
+    let g = rw q at h in
+    goes-on n i b l q ∙ run n k l (i + 1) (omega arith) ∙ rw e)
+    (λ q. let g = rw q at h in absurd (omega arith))
 
-pub end-run : (s : List ℕ) (i j : ℕ) → j ≡ i + passRun (drop i s) → endFrom s i ≡ endFrom s j
-end-run s i j h = run (length s) (drop i s) i ∙ rw (drop-drop, h)
-
--- where a run ends, the byte is not passed over
-stop : (l : List ℕ) → passRun l < length l → goes (getD l (passRun l) 0) ≡ false
-unfolding passRun
-stop [] h = absurd (omega arith)
-stop (b ∷ l) h = choose (goes b) (λ q. rw q (stop l (let g = rw q at h in omega arith))) (λ q. rw q q)
-
-pub end-stop : (s : List ℕ) (i j : ℕ) → j ≡ i + passRun (drop i s) → j < length s → goes (getD s j 0) ≡ false
-end-stop s i j h g =
-    let d = length-drop i s in
-    ap (λ (x : ℕ). goes (getD s x 0)) h ∙ ap goes (sym (getD-drop i s (passRun (drop i s)) 0)) ∙ stop (drop i s) (omega arith)
+pub end-run : (s : List ℕ) (i k : ℕ) → k ≤ passRun (drop i s) → endFrom s i ≡ endFrom s (i + k)
+end-run s i k h = run (length s) k (drop i s) i h ∙ rw drop-drop
 
 -- the steps at an index of the input
 pub end-past : (s : List ℕ) (j : ℕ) → length s ≤ j → endFrom s j ≡ length s
@@ -104,10 +83,13 @@ module _ (s : List ℕ) (j : ℕ) (h : j < length s) where
   unfolding firstPiece
   end-quote e = rw (drop-here s j h, e) (end-here (length s) j h)
 
-  pub end-other : goes (getD s j 0) ≡ false → eqb (getD s j 0) 39 ≡ false → eqb (getD s j 0) 63 ≡ false → endFrom s j ≡ length s
+  pub end-plain : permittedOf (getD s j 0) ≡ true → eqb (getD s j 0) 39 ≡ false → eqb (getD s j 0) 63 ≡ false → endFrom s j ≡ endFrom s (j + 1)
+  end-plain f p q = rw (drop-here s j h) (end-on (length s) j (getD s j 0) (drop (j + 1) s) f p q)
+
+  pub end-other : permittedOf (getD s j 0) ≡ false → eqb (getD s j 0) 39 ≡ false → endFrom s j ≡ length s
   unfolding firstPiece
-  end-other g p q =
-      rw (drop-here s j h, p) (end-bad (length s) j (getD s j 0) (firstPiece 39 (eqb (getD s j 0) 63) (drop (j + 1) s)) (sym (goes-fine (getD s j 0) p q) ∙ g))
+  end-other f p =
+      rw (drop-here s j h, p) (end-bad (length s) j (getD s j 0) (firstPiece 39 (eqb (getD s j 0) 63) (drop (j + 1) s)) f)
 
   pub end-question : getD s j 0 ≡ 63 → length s ≤ j + 1 → endFrom s j ≡ length s
   unfolding firstPiece

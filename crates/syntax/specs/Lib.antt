@@ -11,8 +11,10 @@ pub mod Onward
 pub mod Scan
 pub mod Firsts
 pub mod Ends
+pub mod Words
 pub mod Passed
 pub mod Found
 pub mod Released
 pub mod Few
 pub mod Whole
+pub mod Quick

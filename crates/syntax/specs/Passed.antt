@@ -1,87 +1,143 @@
--- Runs of bytes that a scan for a segment's end passes over: permitted, and neither the terminator nor the release character.
+-- Runs of bytes that a scan for a segment's end passes over, eight at a time.
 -- Assumes nothing.
 use mathlib.Core.Path.{_≡_, refl, sym, ap, _∙_}
 use mathlib.Core.Bool.{Bool, true, false, not}
 use mathlib.Core.List.{List, [], _∷_, _++_}
-use Prim.Native.Nat.{ℕ, zero, suc, _+_, _/_, _%_, _^_, _≤_, _<_}
-use native.Mathlib.Numerals.{add-one}
+use Prim.Native.Nat.{ℕ, suc, _+_, _*_, _/_, _^_, _≤_, _<_}
 use native.Mathlib.Omega.{arith}
-use native.Mathlib.Nat.{zero-add}
-use lib.Dec.{eqb, eqb→eq}
-use lib.Bits.{bitAnd, and-le-l}
-use lib.ListN.{length, getD, drop, drop-of-length-le}
-use lib.Seq.{drop-cons}
-use borrow.Author.Tests.{eqb-true}
-use Rattle.laws.specs.Choice.{pick, both, all, choose, false≢true}
+use native.Mathlib.Decide.{decLt}
+use lib.Dec.{leb, ltb, eqb, eqb→eq, lit≤}
+use lib.Bits.{bitAnd, bitXor, and-le-r, or-lt, or-disjoint, xor-self, and-block, xor-block}
+use lib.Count.{trailingZeros, trailing-of-zero}
+use lib.ListN.{length, drop, getD}
+use borrow.Author.Tests.{lt-leb, not-true, ltb-true, eq-eqb}
+use Rattle.laws.specs.Choice.{pick, both, either, choose, both-parts, both-false, false≢true}
 use Rattle.laws.specs.Lists.{drop-here}
-use Rattle.laws.specs.Sweep.{at}
+use Rattle.laws.specs.Sweep.{at, agree}
 use Rattle.syntax.specs.Bytes.{permittedOf}
+use Rattle.syntax.specs.Words.{wordBy, wordOf, Below, none, one, word-same, by-byte, eightAt, Word, digitsOf, zeros-pass, zeros-stop}
 
-abbrev pub goes : ℕ → Bool
-goes b = both (permittedOf b) (both (not (eqb b 39)) (not (eqb b 63)))
+-- the bytes that are passed over: those from `(` to `:`, and the letters
+unfoldable pub goes : ℕ → Bool
+goes b = either (both (leb 40 b) (leb b 58)) (either (both (leb 65 b) (leb b 90)) (both (leb 97 b) (leb b 122)))
 
--- their bits, of each quarter of the 256 bytes
-unfoldable pub quarterMask : ℕ → ℕ
-quarterMask q = pick (eqb q 0) 9223371379724779520 (pick (eqb q 1) 576460745995190270 (pick (eqb q 2) 0 (pick (eqb q 3) 0 1)))
+-- all of them are permitted, and none is the terminator or the release character
+fine : ℕ → Bool
+fine b = both (permittedOf b) (both (not (eqb b 39)) (not (eqb b 63)))
 
-same : ℕ → Bool
-same b = eqb (quarterMask (b / 64) / 2 ^ (b % 64) % 2) (pick (goes b) 1 0)
+pub record Goes (b : ℕ) : Type 0 where
+  pub permitted : permittedOf b ≡ true
+  pub quote : eqb b 39 ≡ false
+  pub question : eqb b 63 ≡ false
 
-pub passed-bit : (b : ℕ) → b < 256 → quarterMask (b / 64) / 2 ^ (b % 64) % 2 ≡ pick (goes b) 1 0
-unfolding same quarterMask permittedOf
-passed-bit b h = eqb→eq _ _ (at same 256 tt b h)
+pub goes-fine : (b : ℕ) → goes b ≡ true → Goes b
+unfolding goes fine permittedOf
+goes-fine b q =
+    elim (decLt b 123) [
+      | yes h ↦
+          let w = both-parts (goes b) (fine b) (agree (λ b. both (goes b) (fine b)) goes 123 tt b h ∙ q) .1 in
+          let x = both-parts (permittedOf b) (both (not (eqb b 39)) (not (eqb b 63))) w in
+          let y = both-parts (not (eqb b 39)) (not (eqb b 63)) (x .1) in
+          record { permitted = x .0; quote = not-true _ (y .0); question = not-true _ (y .1) }
+      | no h ↦ absurd (false≢true (sym (simp (lt-leb b 58 (omega arith), lt-leb b 90 (omega arith), lt-leb b 122 (omega arith), both-false)) ∙ q))
+    ]
 
 -- how many such bytes a list begins with
 unfoldable pub passRun : List ℕ → ℕ
 passRun [] = 0
 passRun (b ∷ l) = pick (goes b) (suc (passRun l)) 0
 
-pub pass-past : (s : List ℕ) (i : ℕ) → length s ≤ i → passRun (drop i s) ≡ 0
+run-more : (l m : List ℕ) → passRun l ≤ passRun (l ++ m)
 unfolding passRun
-pass-past s i h = rw (drop-of-length-le s)
+run-more [] m = omega arith
+run-more (b ∷ l) m = choose (goes b) (λ p. let h = run-more l m in rw p (omega arith)) (λ p. rw p (omega arith))
 
-module _ (s : List ℕ) (i : ℕ) (h : i < length s) where
-  pub pass-on : goes (getD s i 0) ≡ true → i + passRun (drop i s) ≡ i + 1 + passRun (drop (i + 1) s)
-  unfolding passRun
-  pass-on p = rw (add-one, drop-cons s i 0, p) (omega arith)
+-- The highest digit of a byte below 128, set where it is passed over. In each row of 32 bytes those that are passed over stand from 1 to 26, so that
+-- with five added the five lowest digits are 6 or more for them alone; a sum with 122 has its highest digit set from 6 on, and one with 88 from
+-- 40 on. `each` gives a number as often as there are bytes: this is done with one byte, or with many at once, as no sum reaches from one to the next.
+unfoldable pub passesOf : (ℕ → ℕ) → ℕ → ℕ
+passesOf each x = bitAnd (bitAnd (bitAnd (x + each 5) (each 31) + each 122) (x + each 88)) (each 128)
 
-  pub pass-ends : goes (getD s i 0) ≡ false → passRun (drop i s) ≡ 0
-  unfolding passRun
-  pass-ends p = rw (drop-cons s i 0, p)
+-- a number eight times
+abbrev pub eightTimes : ℕ → ℕ
+eightTimes n = n * 72340172838076673
 
--- a group that is passed over whole, or in part
-pass-whole : (l m : List ℕ) → all goes l ≡ true → passRun (l ++ m) ≡ length l + passRun m
-unfolding passRun
-pass-whole [] m q = sym (zero-add (passRun m))
-pass-whole (b ∷ l) m q =
+same : ℕ → Bool
+same b = eqb (bitXor (passesOf (λ n. n) b) 128) (pick (goes b) 0 128)
+
+stop-byte : (b : ℕ) → b < 128 → bitXor (passesOf (λ n. n) b) 128 ≡ pick (goes b) 0 128
+unfolding same passesOf goes
+stop-byte b h = eqb→eq _ _ (at same 128 tt b h)
+
+-- what each step makes of a byte is one
+row : (b : ℕ) → b < 128 → bitAnd (b + 5) 31 < 256
+row b h = let k = and-le-r (b + 5) 31 in omega arith
+
+six : (b : ℕ) → b < 128 → bitAnd (b + 5) 31 + 122 < 256
+six b h = let k = and-le-r (b + 5) 31 in omega arith
+
+both-below : (b : ℕ) → b < 128 → bitAnd (bitAnd (b + 5) 31 + 122) (b + 88) < 256
+both-below b h = let k = and-le-r (bitAnd (b + 5) 31 + 122) (b + 88) in omega arith
+
+passes-below : (b : ℕ) → b < 128 → passesOf (λ n. n) b < 256
+unfolding passesOf
+passes-below b h = let k = and-le-r (bitAnd (bitAnd (b + 5) 31 + 122) (b + 88)) 128 in omega arith
+
+-- each byte of a word by itself
+module _ {n : ℕ} {l : List ℕ} (r : Below n l) where
+  abbrev each : ℕ → ℕ
+  each m = wordBy (λ _. m) l
+
+  ands : (f g : ℕ → ℕ) → ((b : ℕ) → b < n → f b < 256) → ((b : ℕ) → b < n → g b < 256) → bitAnd (wordBy f l) (wordBy g l) ≡ wordBy (λ b. bitAnd (f b) (g b)) l
+  ands f g p q = by-byte bitAnd refl (and-block 8) f g p q r
+
+  plus : (f : ℕ → ℕ) (m : ℕ) → ((b : ℕ) → b < n → f b < 256) → m < 256 → wordBy f l + each m ≡ wordBy (λ b. f b + m) l
+  plus f m p h = by-byte (λ x y. x + y) refl (λ a b u v g k. omega arith) f (λ _. m) p (λ _ _. h) r
+
+stops-bytes : {l : List ℕ} → Below 128 l → bitXor (passesOf (λ m. wordBy (λ _. m) l) (wordOf l)) (wordBy (λ _. 128) l) ≡ wordBy (λ b. pick (goes b) 0 128) l
+unfolding passesOf
+stops-bytes {l} r =
+    rw (
+      plus r (λ b. b) 5 (λ b h. omega arith) (omega arith),
+      ands r (λ b. b + 5) (λ _. 31) (λ b h. omega arith) (λ b h. omega arith),
+      plus r (λ b. bitAnd (b + 5) 31) 122 row (omega arith),
+      plus r (λ b. b) 88 (λ b h. omega arith) (omega arith),
+      ands r (λ b. bitAnd (b + 5) 31 + 122) (λ b. b + 88) six (λ b h. omega arith),
+      ands r (λ b. bitAnd (bitAnd (b + 5) 31 + 122) (b + 88)) (λ _. 128) both-below (λ b h. omega arith),
+      by-byte bitXor refl (xor-block 8) (passesOf (λ n. n)) (λ _. 128) passes-below (λ b h. omega arith) r,
+    )
+    (word-same (λ b. bitXor (passesOf (λ n. n) b) 128) (λ b. pick (goes b) 0 128) stop-byte r)
+
+-- where no highest digit is set, all bytes are below 128
+low-byte : (b : ℕ) → b < 256 → bitAnd b 128 ≡ 0 → b < 128
+low-byte b h e = ltb-true b 128 (sym (agree (λ b. eqb (bitAnd b 128) 0) (λ b. ltb b 128) 256 tt b h) ∙ eq-eqb (bitAnd b 128) 0 e)
+
+all-low : {l : List ℕ} → Below 256 l → wordBy (λ b. bitAnd b 128) l ≡ 0 → Below 128 l
+unfolding wordBy
+all-low none e = none
+all-low (one {b} {l} k r) e = one (low-byte b k (omega arith)) (all-low r (omega arith))
+
+bytes-low : {l : List ℕ} → Below 256 l → bitAnd (wordOf l) (wordBy (λ _. 128) l) ≡ 0 → Below 128 l
+bytes-low r e = all-low r (sym (ands r (λ b. b) (λ _. 128) (λ b h. h) (λ b h. omega arith)) ∙ e)
+
+-- and the word leaves room for the sums
+pub word-low : (x : ℕ) → x < 2 ^ 64 → bitAnd x 9259542123273814144 ≡ 0 → x ≤ 9187201950435737471
+word-low x h e =
+    let a = or-disjoint x 9259542123273814144 e in
+    let b = or-lt 64 x 9259542123273814144 h (lit≤ tt) in
+    omega arith
+
+-- the zeros below the first stop tell of a run that it has at least
+lead : (l : List ℕ) → trailingZeros (digitsOf l) (wordBy (λ b. pick (goes b) 0 128) l) ≤ 8 * passRun l + 7
+unfolding passRun wordBy trailingZeros
+lead [] = omega arith
+lead (b ∷ l) =
+    let w = wordBy (λ b. pick (goes b) 0 128) l in
     choose (goes b)
-    (λ p. let e = pass-whole l m (rw p at q) in rw p (omega arith))
-    (λ p. absurd (false≢true (rw p at q)))
+    (λ p. let z = zeros-pass (digitsOf l) w in let h = lead l in rw p (omega arith))
+    (λ p. let z = zeros-stop (digitsOf l) w in rw p (omega arith))
 
-pass-part : (l m : List ℕ) → all goes l ≡ false → passRun (l ++ m) ≡ passRun l
-unfolding passRun
-pass-part [] m q = absurd (false≢true (sym q))
-pass-part (b ∷ l) m q =
-    choose (goes b) (λ p. rw p (ap suc (pass-part l m (rw p at q)))) (λ p. rw p)
-
-run-whole : (l : List ℕ) → length l ≤ passRun l → all goes l ≡ true
-unfolding passRun
-run-whole [] h = refl
-run-whole (b ∷ l) h =
-    choose (goes b) (λ p. rw p (run-whole l (let g = rw p at h in omega arith))) (λ p. let g = rw p at h in absurd (omega arith))
-
-run-part : (l : List ℕ) → passRun l < length l → all goes l ≡ false
-unfolding passRun
-run-part [] h = absurd (omega arith)
-run-part (b ∷ l) h =
-    choose (goes b) (λ p. rw p (run-part l (let g = rw p at h in omega arith))) (λ p. rw p)
-
--- the eight bytes from an index on
-abbrev pub eightAt : List ℕ → ℕ → List ℕ
-eightAt s i =
-    getD s i 0 ∷ getD s (i + 1) 0 ∷ getD s (i + 2) 0 ∷ getD s (i + 3) 0 ∷ getD s (i + 4) 0 ∷ getD s (i + 5) 0 ∷ getD s (i + 6) 0 ∷ getD s (i + 7) 0 ∷ []
-
-module _ (s : List ℕ) (i : ℕ) (h : i + 8 ≤ length s) where
+module _ (s : List ℕ) (i x : ℕ) (h : i + 8 ≤ length s) (w : Word s i x) (g : bitAnd x 9259542123273814144 ≡ 0) where
   next : (k : ℕ) → k < 8 → drop (i + k) s ≡ getD s (i + k) 0 ∷ drop (i + suc k) s
   next k g =
       let e : i + k + 1 ≡ i + suc k = omega arith in
@@ -94,90 +150,23 @@ module _ (s : List ℕ) (i : ℕ) (h : i + 8 ≤ length s) where
       (rw e at z)
       ∙ rw (next 1 (omega arith), next 2 (omega arith), next 3 (omega arith), next 4 (omega arith), next 5 (omega arith), next 6 (omega arith), next 7 (omega arith))
 
-  pub eight-on : (n : ℕ) → n ≡ passRun (eightAt s i) → 8 ≤ n → i + passRun (drop i s) ≡ i + 8 + passRun (drop (i + 8) s)
-  eight-on n q g =
-      let e = ap passRun eight ∙ pass-whole (eightAt s i) (drop (i + 8) s) (run-whole (eightAt s i) (omega arith)) in
-      omega arith
+  stops-word : bitXor (passesOf eightTimes x) 9259542123273814144 ≡ wordBy (λ b. pick (goes b) 0 128) (eightAt s i)
+  unfolding wordBy passesOf
+  stops-word =
+      ap (λ (x : ℕ). bitXor (passesOf eightTimes x) 9259542123273814144) (w .is)
+      ∙ stops-bytes (bytes-low (w .bytes) (ap (λ (x : ℕ). bitAnd x 9259542123273814144) (sym (w .is)) ∙ g))
 
-  pub eight-ends : (n : ℕ) → n ≡ passRun (eightAt s i) → n < 8 → passRun (drop i s) ≡ n
-  eight-ends n q g = ap passRun eight ∙ pass-part (eightAt s i) (drop (i + 8) s) (run-part (eightAt s i) (omega arith)) ∙ sym q
+  module _ (y : ℕ) (e : y ≡ passesOf eightTimes x) where
+    pub eight-lead : trailingZeros 64 (bitXor y 9259542123273814144) / 8 ≤ passRun (drop i s)
+    eight-lead =
+        let a = lead (eightAt s i) in
+        let b = run-more (eightAt s i) (drop (i + 8) s) in
+        let c = ap passRun eight in
+        let d = ap (λ (y : ℕ). trailingZeros 64 (bitXor y 9259542123273814144)) e ∙ ap (trailingZeros 64) stops-word in
+        omega arith
 
--- tests as numbers
-pub unit-at-most : (p : Bool) → pick p 1 0 ≤ 1
-unit-at-most true = omega arith
-unit-at-most false = omega arith
-
-pub unit-no : (p : Bool) → _≡_ {A = ℕ} (pick p 1 0) 0 → p ≡ false
-unit-no true q = absurd (omega arith)
-unit-no false q = refl
-
-pub unit-yes : (p : Bool) → (_≡_ {A = ℕ} (pick p 1 0) 0 → ⊥) → p ≡ true
-unit-yes true q = refl
-unit-yes false q = absurd (q refl)
-
-pub unit-and : (p q : Bool) → bitAnd (pick p 1 0) (pick q 1 0) ≡ pick (both p q) 1 0
-unit-and true true = refl
-unit-and true false = refl
-unit-and false true = refl
-unit-and false false = refl
-
--- the sum of what each of eight tests leaves of those before it
-abbrev pub eightTests : Bool → Bool → Bool → Bool → Bool → Bool → Bool → Bool → ℕ
-eightTests a b c d e f g h =
-    pick a (suc (pick b (suc (pick c (suc (pick d (suc (pick e (suc (pick f (suc (pick g (suc (pick h 1 0)) 0)) 0)) 0)) 0)) 0)) 0)) 0
-
-abbrev and : Bool → ℕ
-and p = pick p 1 0
-
-pub eight-sum : (a b c d e f g h : Bool)
-    → and a + and (both a b) + and (both (both a b) c) + and (both (both (both a b) c) d) + and (both (both (both (both a b) c) d) e) + and (both (both (both (both (both a b) c) d) e) f)
-    + and (both (both (both (both (both (both a b) c) d) e) f) g) + and (both (both (both (both (both (both (both a b) c) d) e) f) g) h)
-    ≡ eightTests a b c d e f g h
-eight-sum false b c d e f g h = refl
-eight-sum true false c d e f g h = refl
-eight-sum true true false d e f g h = refl
-eight-sum true true true false e f g h = refl
-eight-sum true true true true false f g h = refl
-eight-sum true true true true true false g h = refl
-eight-sum true true true true true true false h = refl
-eight-sum true true true true true true true false = refl
-eight-sum true true true true true true true true = refl
-
-pub unit-bound : (x : ℕ) (p : Bool) → x ≡ pick p 1 0 → x ≤ 1
-unit-bound x p q = let h = unit-at-most p in omega arith
-
-pub and-bound : (x y : ℕ) → x ≤ 1 → bitAnd x y ≤ 1
-and-bound x y h = let k = and-le-l x y in omega arith
-
--- eight numbers that are tests
-module _ (x₁ x₂ x₃ x₄ x₅ x₆ x₇ x₈ : ℕ) (a b c d e f g h : Bool)
-    (e₁ : x₁ ≡ pick a 1 0) (e₂ : x₂ ≡ pick b 1 0) (e₃ : x₃ ≡ pick c 1 0) (e₄ : x₄ ≡ pick d 1 0) (e₅ : x₅ ≡ pick e 1 0) (e₆ : x₆ ≡ pick f 1 0) (e₇ : x₇ ≡ pick g 1 0) (e₈ : x₈ ≡ pick h 1 0) where
-  eight-leading : x₁ + bitAnd x₁ x₂ + bitAnd (bitAnd x₁ x₂) x₃ + bitAnd (bitAnd (bitAnd x₁ x₂) x₃) x₄ + bitAnd (bitAnd (bitAnd (bitAnd x₁ x₂) x₃) x₄) x₅ + bitAnd (bitAnd (bitAnd (bitAnd (bitAnd x₁ x₂) x₃) x₄) x₅) x₆ + bitAnd (bitAnd (bitAnd (bitAnd (bitAnd (bitAnd x₁ x₂) x₃) x₄) x₅) x₆) x₇ + bitAnd (bitAnd (bitAnd (bitAnd (bitAnd (bitAnd (bitAnd x₁ x₂) x₃) x₄) x₅) x₆) x₇) x₈
-      ≡ eightTests a b c d e f g h
-  eight-leading = rw (e₁, e₂, e₃, e₄, e₅, e₆, e₇, e₈, unit-and a b, unit-and (both a b) c, unit-and (both (both a b) c) d, unit-and (both (both (both a b) c) d) e, unit-and (both (both (both (both a b) c) d) e) f, unit-and (both (both (both (both (both a b) c) d) e) f) g, unit-and (both (both (both (both (both (both a b) c) d) e) f) g) h) (eight-sum a b c d e f g h)
-
-  pub eight-whole : bitAnd (bitAnd (bitAnd (bitAnd (bitAnd (bitAnd (bitAnd x₁ x₂) x₃) x₄) x₅) x₆) x₇) x₈ ≡ 1 → 8 ≡ eightTests a b c d e f g h
-  eight-whole q =
-      let s = eight-leading in
-      let l1 = unit-bound x₁ a e₁ in
-      let l2 = and-le-l x₁ x₂ in
-      let l3 = and-le-l (bitAnd x₁ x₂) x₃ in
-      let l4 = and-le-l (bitAnd (bitAnd x₁ x₂) x₃) x₄ in
-      let l5 = and-le-l (bitAnd (bitAnd (bitAnd x₁ x₂) x₃) x₄) x₅ in
-      let l6 = and-le-l (bitAnd (bitAnd (bitAnd (bitAnd x₁ x₂) x₃) x₄) x₅) x₆ in
-      let l7 = and-le-l (bitAnd (bitAnd (bitAnd (bitAnd (bitAnd x₁ x₂) x₃) x₄) x₅) x₆) x₇ in
-      let l8 = and-le-l (bitAnd (bitAnd (bitAnd (bitAnd (bitAnd (bitAnd x₁ x₂) x₃) x₄) x₅) x₆) x₇) x₈ in
-      omega arith
-
-  pub eight-part : (bitAnd (bitAnd (bitAnd (bitAnd (bitAnd (bitAnd (bitAnd x₁ x₂) x₃) x₄) x₅) x₆) x₇) x₈ ≡ 1 → ⊥) → x₁ + bitAnd x₁ x₂ + bitAnd (bitAnd x₁ x₂) x₃ + bitAnd (bitAnd (bitAnd x₁ x₂) x₃) x₄ + bitAnd (bitAnd (bitAnd (bitAnd x₁ x₂) x₃) x₄) x₅ + bitAnd (bitAnd (bitAnd (bitAnd (bitAnd x₁ x₂) x₃) x₄) x₅) x₆ + bitAnd (bitAnd (bitAnd (bitAnd (bitAnd (bitAnd x₁ x₂) x₃) x₄) x₅) x₆) x₇ ≡ eightTests a b c d e f g h
-  eight-part q =
-      let s = eight-leading in
-      let l1 = unit-bound x₁ a e₁ in
-      let l2 = and-le-l x₁ x₂ in
-      let l3 = and-le-l (bitAnd x₁ x₂) x₃ in
-      let l4 = and-le-l (bitAnd (bitAnd x₁ x₂) x₃) x₄ in
-      let l5 = and-le-l (bitAnd (bitAnd (bitAnd x₁ x₂) x₃) x₄) x₅ in
-      let l6 = and-le-l (bitAnd (bitAnd (bitAnd (bitAnd x₁ x₂) x₃) x₄) x₅) x₆ in
-      let l7 = and-le-l (bitAnd (bitAnd (bitAnd (bitAnd (bitAnd x₁ x₂) x₃) x₄) x₅) x₆) x₇ in
-      let l8 = and-le-l (bitAnd (bitAnd (bitAnd (bitAnd (bitAnd (bitAnd x₁ x₂) x₃) x₄) x₅) x₆) x₇) x₈ in
-      omega arith
+    pub eight-clear : y ≡ 9259542123273814144 → 8 ≤ passRun (drop i s)
+    eight-clear z =
+        let a = eight-lead in
+        let b = ap (λ (y : ℕ). trailingZeros 64 (bitXor y 9259542123273814144)) z ∙ ap (trailingZeros 64) (xor-self 9259542123273814144) ∙ trailing-of-zero 64 in
+        omega arith

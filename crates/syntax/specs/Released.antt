@@ -3,15 +3,15 @@
 use mathlib.Core.Path.{_≡_, refl, sym, ap, _∙_}
 use mathlib.Core.Bool.{Bool, true, false}
 use mathlib.Core.List.{List, [], _∷_}
-use Prim.Native.Nat.{ℕ, zero, suc, _+_, _-_, _*_, _/_, _≤_, _<_}
+use Prim.Native.Nat.{ℕ, suc, _+_, _-_, _*_, _/_, _≤_, _<_}
 use native.Mathlib.Omega.{arith}
-use native.Mathlib.Nat.{add-zero}
+use native.Mathlib.Nat.{add-zero, zero-add}
 use lib.Dec.{eqb}
 use borrow.Author.Tests.{eq-eqb, eqb-true}
 use lib.ListN.{length, getD, drop, length-drop}
 use lib.Seq.{drop-drop}
 use Rattle.laws.specs.Choice.{pick, both, choose, both-parts, both-false}
-use Rattle.laws.specs.Lists.{drop-here, drop-past}
+use Rattle.laws.specs.Lists.{drop-here}
 use Rattle.syntax.specs.declared.limits.Counts.{Counts}
 use Rattle.syntax.specs.Bytes.{permittedOf}
 use Rattle.syntax.specs.Pieces.{firstPiece}
@@ -63,47 +63,39 @@ pub release-from : (s : List ℕ) (i j : ℕ) → i + 1 < length s → getD s i 
     → j ≡ i + 1 + 1 + 2 * releaseRun (drop (i + 1 + 1) s) → j ≡ i + 2 * releaseRun (drop i s)
 release-from s i j h e p g = let r = release-on s i h e p in omega arith
 
--- a run is passed at once: by a scan that counts
-releases : (n : ℕ) (tag : Bool) (l : List ℕ) (i : ℕ) (k : Counts)
-    → onward n tag i k (firstPiece 39 false l) ≡ onward n tag (i + 2 * releaseRun l) (more k (releaseRun l)) (firstPiece 39 false (drop (2 * releaseRun l) l))
-unfolding releaseRun firstPiece
-releases n tag [] i k = simp add-zero
-releases n tag (b ∷ []) i k = simp add-zero
-releases n tag (b ∷ c ∷ l) i k =
-    choose (both (eqb b 63) (permittedOf c))
-    (λ q.
-    let w = both-parts (eqb b 63) (permittedOf c) q in
-    let e = eqb-true b 63 (w .0) in
-    let r = releaseRun l in
-    let x : i + 2 * suc r ≡ i + 1 + 1 + 2 * r = omega arith in
-    let y : k .characters + suc r ≡ k .characters + 1 + r = omega arith in
-    let z : 2 * suc r ≡ suc (suc (2 * r)) = omega arith in
-    rw (q, e, x, y, z) (onward-released n tag i k c (firstPiece 39 false l) (w .1) ∙ releases n tag l (i + 1 + 1) (more k 1)))
-    (λ q. rw q (simp add-zero))
+-- a run is passed at once by any scan that passes a release and counts it
+module _ {X : Type 0} (scan : ℕ → ℕ → List ℕ → X)
+    (step : (i m c : ℕ) (g : List ℕ) → permittedOf c ≡ true → scan i m (63 ∷ c ∷ g) ≡ scan (i + 1 + 1) (m + 1) g) where
+  at-once : (l : List ℕ) (i m : ℕ) → scan i m (firstPiece 39 false l) ≡ scan (i + 2 * releaseRun l) (m + releaseRun l) (firstPiece 39 false (drop (2 * releaseRun l) l))
+  unfolding releaseRun firstPiece
+  at-once [] i m = simp add-zero
+  at-once (b ∷ []) i m = simp add-zero
+  at-once (b ∷ c ∷ l) i m =
+      choose (both (eqb b 63) (permittedOf c))
+      (λ q.
+      let w = both-parts (eqb b 63) (permittedOf c) q in
+      let e = eqb-true b 63 (w .0) in
+      let r = releaseRun l in
+      let x : i + 2 * suc r ≡ i + 1 + 1 + 2 * r = omega arith in
+      let y : m + suc r ≡ m + 1 + r = omega arith in
+      let z : 2 * suc r ≡ suc (suc (2 * r)) = omega arith in
+      rw (q, e, x, y, z) (step i m c (firstPiece 39 false l) (w .1) ∙ at-once l (i + 1 + 1) (m + 1)))
+      (λ q. rw q (simp add-zero))
 
+-- by one that counts the parts
 pub scan-releases : (s : List ℕ) (tag : Bool) (i j : ℕ) (k : Counts) → j ≡ i + 2 * releaseRun (drop i s)
     → onward (length s) tag i k (firstPiece 39 false (drop i s)) ≡ onward (length s) tag j (textOf k ((j - i) / 2)) (firstPiece 39 false (drop j s))
 scan-releases s tag i j k h =
+    let n = length s in
     let r = releaseRun (drop i s) in
     let e : (j - i) / 2 ≡ r = omega arith in
-    releases (length s) tag (drop i s) i k
-    ∙ rw (drop-drop, e, h) (sym (onward-counted (length s) tag (i + 2 * r) k r (firstPiece 39 false (drop (i + 2 * r) s))))
+    let more-one : (m : ℕ) → k .characters + m + 1 ≡ k .characters + (m + 1) = λ m. omega arith in
+    let passed = at-once (λ i m g. onward n tag i (more k m) g) (λ i m c g p. onward-released n tag i (more k m) c g p ∙ rw more-one) (drop i s) i 0 in
+    (simp (add-zero, zero-add) at passed)
+    ∙ rw (drop-drop, e, h) (sym (onward-counted n tag (i + 2 * r) k r (firstPiece 39 false (drop (i + 2 * r) s))))
 
 -- and by one that looks for the end
-ends : (n : ℕ) (l : List ℕ) (i : ℕ) → foundEnd n i (firstPiece 39 false l) ≡ foundEnd n (i + 2 * releaseRun l) (firstPiece 39 false (drop (2 * releaseRun l) l))
-unfolding releaseRun firstPiece
-ends n [] i = simp add-zero
-ends n (b ∷ []) i = simp add-zero
-ends n (b ∷ c ∷ l) i =
-    choose (both (eqb b 63) (permittedOf c))
-    (λ q.
-    let w = both-parts (eqb b 63) (permittedOf c) q in
-    let e = eqb-true b 63 (w .0) in
-    let r = releaseRun l in
-    let x : i + 2 * suc r ≡ i + 1 + 1 + 2 * r = omega arith in
-    let z : 2 * suc r ≡ suc (suc (2 * r)) = omega arith in
-    rw (q, e, x, z) (end-byte n i 63 (c ∷ firstPiece 39 false l) fine-question ∙ end-byte n (i + 1) c (firstPiece 39 false l) (w .1) ∙ ends n l (i + 1 + 1)))
-    (λ q. rw q (simp add-zero))
-
 pub end-releases : (s : List ℕ) (i j : ℕ) → j ≡ i + 2 * releaseRun (drop i s) → endFrom s i ≡ endFrom s j
-end-releases s i j h = ends (length s) (drop i s) i ∙ rw (drop-drop, h)
+end-releases s i j h =
+    at-once (λ i m g. foundEnd (length s) i g) (λ i m c g p. end-byte (length s) i 63 (c ∷ g) fine-question ∙ end-byte (length s) (i + 1) c g p) (drop i s) i 0
+    ∙ rw (drop-drop, h)

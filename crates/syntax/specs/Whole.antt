@@ -1,30 +1,29 @@
 -- A tagged segment whose end is found and that is small, is whole.
 -- Assumes nothing.
 use mathlib.Core.Path.{_≡_, refl, sym, ap, _∙_}
-use mathlib.Core.Bool.{Bool, true, false}
-use mathlib.Core.List.{List, [], _∷_}
-use Prim.Native.Nat.{ℕ, zero, suc, _+_, _-_, _≤_, _<_}
+use mathlib.Core.Bool.{true, false}
+use mathlib.Core.List.{List, _∷_}
+use Prim.Native.Nat.{ℕ, _+_, _-_, _≤_, _<_}
 use native.Mathlib.Omega.{arith}
 use lib.Dec.{leb, ltb, eqb}
 use borrow.Author.Tests.{leb-true, leb-false, lt-ltb, ltb-true, eqb-true, ne-eqb}
-use lib.ListN.{length, take, drop, getD, length-drop}
-use Rattle.laws.specs.Choice.{pick, both, all, choose, both-parts, false≢true}
+use lib.ListN.{length, drop, getD, length-drop}
+use Rattle.laws.specs.Choice.{both, all, choose, both-parts, false≢true}
 use Rattle.laws.specs.Sweep.{agree}
 use Rattle.laws.specs.Lists.{between, drop-here}
 use Rattle.syntax.specs.Passed.{goes}
-use Rattle.syntax.specs.declared.segment.Scanned.{Scanned}
 use Rattle.syntax.specs.declared.segment.Scanned.the-variants.{End}
 use Rattle.syntax.specs.Bytes.{permittedOf, isMark}
 use Rattle.syntax.specs.Pieces.{firstPiece}
-use Rattle.syntax.specs.Firsts.{first-take, first-length}
-use Rattle.syntax.specs.Segment.{bodyAt, capital, tagged, withinLimits, wellFormed, scanOf, segmentAt}
+use Rattle.syntax.specs.Firsts.{first-take}
+use Rattle.syntax.specs.Segment.{bodyAt, capital, wellFormed, scanOf, segmentAt}
 use Rattle.syntax.specs.Tags.{tagCloses, tagAhead, tag-ahead, tag-four, tag-few, capital-other, first-capital, three}
 use Rattle.syntax.specs.Found.{foundEnd, endFrom, goes-on, end-quote}
 use Rattle.syntax.specs.Few.{marksIn, marks-length, limits-few}
 
 -- a capital letter is passed over
 capital-goes : (b : ℕ) → capital b ≡ true → goes b ≡ true
-unfolding permittedOf
+unfolding goes
 capital-goes b q =
     let h = leb-true b 90 (both-parts (leb 65 b) (leb b 90) q .1) in
     let e = agree (λ b. both (capital b) (goes b)) capital 91 tt b (omega arith) in
@@ -56,6 +55,15 @@ end-past-start s i h =
     choose (both (all permittedOf (firstPiece 39 false (drop i s))) (ltb (i + length (firstPiece 39 false (drop i s))) (length s)))
     (λ p. rw p (omega arith)) (λ p. rw p h)
 
+-- and not past the input
+pub end-most : (s : List ℕ) (i : ℕ) → endFrom s i ≤ length s
+unfolding foundEnd
+end-most s i =
+    let n = length (bodyAt s i) in
+    choose (both (all permittedOf (bodyAt s i)) (ltb (i + n) (length s)))
+    (λ p. let h = ltb-true (i + n) (length s) (both-parts (all permittedOf (bodyAt s i)) (ltb (i + n) (length s)) p .1) in rw p (omega arith))
+    (λ p. rw p (omega arith))
+
 -- and the body stands before it
 body-found : (s : List ℕ) (i : ℕ) → endFrom s i < length s → (all permittedOf (bodyAt s i) ≡ true) × (endFrom s i ≡ i + length (bodyAt s i))
 unfolding foundEnd
@@ -82,16 +90,20 @@ module _ (s : List ℕ) (at : ℕ) (q : tagAhead (drop at s) ≡ true) where
       ∙ goes-on n (at + 1 + 1) z (drop (at + 3) s) (capital-goes z (t .c))
       ∙ ap (λ (k : ℕ). foundEnd n k (firstPiece 39 false (drop (at + 3) s))) e
 
-  -- and so is the `+` after it
-  pub end-after-plus : (getD s (at + 3) 0 ≡ 39 → ⊥) → endFrom s (at + 4) ≡ endFrom s (at + 3)
-  unfolding permittedOf
-  end-after-plus o =
-      let h = t .long in
+  -- what follows a tag and is no terminator is `+`
+  pub plus-after : (getD s (at + 3) 0 ≡ 39 → ⊥) → getD s (at + 3) 0 ≡ 43
+  plus-after o =
       let b = getD s (at + 3) 0 in
       let p = t .d in
-      let r : eqb b 43 ≡ true = choose (eqb b 43) (λ y. y) (λ y. absurd (false≢true (rw (y, ne-eqb b 39 o) at p))) in
+      eqb-true b 43 (choose (eqb b 43) (λ y. y) (λ y. absurd (false≢true (rw (y, ne-eqb b 39 o) at p))))
+
+  -- which is passed over as well
+  pub end-after-plus : getD s (at + 3) 0 ≡ 43 → endFrom s (at + 4) ≡ endFrom s (at + 3)
+  unfolding goes
+  end-after-plus r =
+      let h = t .long in
       let e : at + 3 + 1 ≡ at + 4 = omega arith in
-      sym (rw (drop-here s (at + 3) (omega arith), eqb-true b 43 r, e) (goes-on (length s) (at + 3) 43 (drop (at + 4) s) refl ∙ rw e))
+      sym (rw (drop-here s (at + 3) (omega arith), r, e) (goes-on (length s) (at + 3) 43 (drop (at + 4) s) refl ∙ rw e))
 
   no-mark : (b : ℕ) → capital b ≡ true → isMark b ≡ false
   unfolding isMark

@@ -1,7 +1,7 @@
 //! Which bytes may stand in an interchange.
 
 ghost use mathlib.Core.Path.{_≡_};
-ghost use Prim.Native.Nat.{_+_, _*_};
+ghost use Prim.Native.Nat.{_+_, _*_, _<_};
 ghost use lib.ListN.{drop};
 ghost use Rattle.syntax.specs.Bytes.{permittedOf, plainText, isMark};
 ghost use Rattle.syntax.specs.Runs.{textRun};
@@ -89,4 +89,11 @@ pub(crate) fn is_mark(b: u8) -> bool
         return true;
     }
     b == b':'
+}
+
+/// A byte as a number of 64 bits.
+pub(crate) fn wide(b: u8) -> u64
+    ensures { λ r. ⌜ (r ≡ b) × (r < 256) ⌝ }
+{
+    b as u64
 }

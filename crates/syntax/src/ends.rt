@@ -2,91 +2,91 @@
 
 use crate::bytes::permitted;
 use crate::bytes::released_end;
+use crate::bytes::wide;
 ghost use mathlib.Core.Path.{_≡_};
-ghost use Prim.Native.Nat.{_+_, _≤_};
-ghost use lib.Dec.{leb};
-ghost use lib.ListN.{length, drop};
-ghost use Rattle.laws.specs.Choice.{pick, both};
-ghost use Rattle.syntax.specs.Bytes.{isMark};
-ghost use Rattle.syntax.specs.Passed.{goes, quarterMask, passRun, eightAt};
+ghost use Prim.Native.Nat.{_+_, _≤_, _<_};
+ghost use lib.ListN.{length, getD};
+ghost use Rattle.syntax.specs.Words.{Word};
+ghost use Rattle.syntax.specs.Passed.{passesOf, eightTimes};
 ghost use Rattle.syntax.specs.Found.{endFrom};
-ghost use Rattle.syntax.specs.Few.{marksIn};
 
-// The bits of the bytes that the scan passes over: permitted, and neither `'` nor `?`.
-const PASSED_LOW: u64 = 9223371379724779520;
-
-const PASSED_HIGH: u64 = 576460745995190270;
-
-// Those of a quarter of the 256 bytes, 0 to 3. All four have an arm, so that they are looked up with no test.
-fn passed_mask(quarter: u8) -> u64
-    ensures { λ r. ⌜ r ≡ quarterMask quarter ⌝ }
-{
-    match quarter {
-        0 => PASSED_LOW,
-        1 => PASSED_HIGH,
-        2 => 0,
-        3 => 0,
-        _ => 1,
-    }
-}
-
-// 1 for a byte that is passed over, 0 for any other.
-fn passes(b: u8) -> u8
-    ensures { λ r. ⌜ r ≡ pick (goes b) 1 0 ⌝ }
-{
-    ((passed_mask(b / 64) >> (b % 64)) & 1) as u8
-}
-
-// How many of the eight bytes from an index on are passed over before the first that is not.
-fn leading(s: &[u8], i: usize) -> u8
+// The eight bytes from an index on as one number, the first the lowest: a flat row of `|`, of which the compiler makes one load.
+fn eight_at(s: &[u8], i: usize) -> u64
     requires { ⌜ i + 8 ≤ length (now s) ⌝ }
-    ensures { λ r. ⌜ r ≡ passRun (eightAt (now (s .entry)) i) ⌝ }
+    ensures { λ r. ⌜ Word (now (s .entry)) i r ⌝ }
 {
-    let one = passes(s[i]);
-    let two = one & passes(s[i + 1]);
-    let three = two & passes(s[i + 2]);
-    let four = three & passes(s[i + 3]);
-    let five = four & passes(s[i + 4]);
-    let six = five & passes(s[i + 5]);
-    let seven = six & passes(s[i + 6]);
-    let eight = seven & passes(s[i + 7]);
-    if eight == 1 {
-        return 8;
-    }
-    one + two + three + four + five + six + seven
+    wide(s[i])
+        | wide(s[i + 1]) * 256
+        | wide(s[i + 2]) * 65536
+        | wide(s[i + 3]) * 16777216
+        | wide(s[i + 4]) * 4294967296
+        | wide(s[i + 5]) * 1099511627776
+        | wide(s[i + 6]) * 281474976710656
+        | wide(s[i + 7]) * 72057594037927936
 }
 
-// The index of the first byte from `from` on that is not passed over, or the input's length: byte by byte.
-fn last_run(s: &[u8], from: usize) -> usize
-    ensures { λ r. ⌜ r ≡ from + passRun (drop from (now (s .entry))) ⌝ }
+// 5, 31, 122, 88 and 128, each eight times.
+const FIVE: u64 = 361700864190383365;
+
+const ROW: u64 = 2242545357980376863;
+
+const FROM_SIX: u64 = 8825501086245354106;
+
+const FROM_FORTY: u64 = 6365935209750747224;
+
+const HIGHEST: u64 = 9259542123273814144;
+
+// The highest digit of each of eight bytes below 128, set where the byte is passed over: it is one from `(` to `:`, or a letter. The other
+// permitted bytes, as the space, are too few to be worth telling apart here, and are passed one by one.
+fn passes_in(x: u64) -> u64
+    requires { ⌜ x ≤ 9187201950435737471 ⌝ }
+    ensures { λ r. ⌜ r ≡ passesOf eightTimes x ⌝ }
 {
-    let mut i = from;
-    while i < s.len() {
-        if passes(s[i]) == 0 {
-            return i;
-        }
-        i += 1;
-    }
-    i
+    (((x + FIVE) & ROW) + FROM_SIX) & (x + FROM_FORTY) & HIGHEST
 }
 
-// The same, eight bytes at a time.
+// Past bytes that are passed over, eight at a time, to the first that is not, to eight of which one is not below 128, or to where fewer are left.
 fn run_end(s: &[u8], from: usize) -> usize
-    ensures { λ r. ⌜ r ≡ from + passRun (drop from (now (s .entry))) ⌝ }
+    ensures { λ r. ⌜ (from ≤ r) × (endFrom (now (s .entry)) r ≡ endFrom (now (s .entry)) from) ⌝ }
 {
     if s.len() < 8 {
-        return last_run(s, from);
+        return from;
     }
     let last = s.len() - 8;
     let mut i = from;
     while i <= last {
-        let n = leading(s, i);
-        if n < 8 {
-            return i + n as usize;
+        let x = eight_at(s, i);
+        if x & HIGHEST != 0 {
+            return i;
+        }
+        let passes = passes_in(x);
+        if passes != HIGHEST {
+            return i + (u64::trailing_zeros(passes ^ HIGHEST) / 8) as usize;
         }
         i += 8;
     }
-    last_run(s, i)
+    i
+}
+
+// Past a byte that is no terminator: a release with those that follow it at once, or one byte. The input's length where a byte is not permitted.
+fn past_byte(s: &[u8], j: usize) -> usize
+    requires { ⌜ (j < length (now s)) × (getD (now s) j 0 ≡ 39 → ⊥) ⌝ }
+    ensures { λ r. ⌜ (j < r) × (endFrom (now (s .entry)) r ≡ endFrom (now (s .entry)) j) ⌝ }
+{
+    if !permitted(s[j]) {
+        return s.len();
+    }
+    let k = j + 1;
+    if s[j] != b'?' {
+        return k;
+    }
+    if s.len() <= k {
+        return s.len();
+    }
+    if !permitted(s[k]) {
+        return s.len();
+    }
+    released_end(s, k + 1)
 }
 
 /// The terminator's index where the segment goes on from `from`, is ended and has no byte that is not permitted; else the input's length.
@@ -94,7 +94,7 @@ pub(crate) fn find_end(s: &[u8], from: usize) -> usize
     ensures { λ r. ⌜ r ≡ endFrom (now (s .entry)) from ⌝ }
 {
     let mut i = from;
-    while i < s.len() {
+    loop {
         let j = run_end(s, i);
         if s.len() <= j {
             return s.len();
@@ -102,40 +102,6 @@ pub(crate) fn find_end(s: &[u8], from: usize) -> usize
         if s[j] == b'\'' {
             return j;
         }
-        if s[j] != b'?' {
-            return s.len();
-        }
-        let k = j + 1;
-        if s.len() <= k {
-            return s.len();
-        }
-        if !permitted(s[k]) {
-            return s.len();
-        }
-        i = released_end(s, k + 1);
+        i = past_byte(s, j);
     }
-    s.len()
-}
-
-// 1 for `+`, `*` or `:`, 0 for any other byte.
-fn mark_of(b: u8) -> u8
-    ensures { λ r. ⌜ r ≡ pick (isMark b) 1 0 ⌝ }
-{
-    (b == b'+') as u8 + (b == b'*') as u8 + (b == b':') as u8
-}
-
-/// Whether a segment has too few characters and marks to pass a limit.
-pub(crate) fn is_small(p: &[u8]) -> bool
-    ensures { λ r. ⌜ r ≡ both (leb (length (now (p .entry))) 512) (leb (marksIn (now (p .entry))) 31) ⌝ }
-{
-    if 512 < p.len() {
-        return false;
-    }
-    let mut marks: u16 = 0;
-    let mut i = 0;
-    while i < p.len() {
-        marks += mark_of(p[i]) as u16;
-        i += 1;
-    }
-    marks <= 31
 }

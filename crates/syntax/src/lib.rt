@@ -3,4 +3,5 @@
 pub mod bytes;
 mod ends;
 mod limits;
+mod marks;
 pub mod segment;

@@ -4,16 +4,17 @@ use crate::bytes::is_mark;
 use crate::bytes::permitted;
 use crate::bytes::released_end;
 use crate::bytes::text_end;
+use crate::bytes::wide;
 use crate::ends::find_end;
-use crate::ends::is_small;
 use crate::limits::Counts;
+use crate::marks::is_small;
 ghost use mathlib.Core.Path.{_≡_};
 ghost use mathlib.Core.Bool.{not};
-ghost use Prim.Native.Nat.{_<_};
 ghost use lib.ListN.{drop};
 ghost use Rattle.laws.specs.Choice.{pick, both};
 ghost use Rattle.syntax.specs.Segment.{capital, segmentAt, scannedAnswer, refusalOf, segmentAnswer, tagNumber};
 ghost use Rattle.syntax.specs.Tags.{tagCloses, tagAhead};
+ghost use Rattle.syntax.specs.Quick.{quickEnd};
 
 /// What stands at an offset.
 pub enum Scanned {
@@ -100,6 +101,29 @@ fn is_tagged(s: &[u8], at: usize) -> bool
     is_tag(s[at], s[at + 1], s[at + 2], s[at + 3])
 }
 
+/// The terminator's index of a segment that has too few characters and marks to pass a limit, its tag with the `+` behind it at an offset; the input's length for any other.
+pub fn quick_end(s: &[u8], at: usize) -> usize
+    ensures { λ r. ⌜ r ≡ quickEnd (now (s .entry)) at ⌝ }
+{
+    if s.len() < 4 {
+        return s.len();
+    }
+    if s.len() - 4 < at {
+        return s.len();
+    }
+    let end = find_end(s, at + 4);
+    if end - at <= 34 {
+        return end;
+    }
+    if s.len() <= end {
+        return s.len();
+    }
+    if is_small(&s[at..end]) {
+        return end;
+    }
+    s.len()
+}
+
 /// The segment that starts at an offset. Its end is found first; its parts are counted only where it may pass a limit, or is to be refused.
 pub fn read_segment(s: &[u8], at: usize) -> Scanned
     ensures scan { λ r. ⌜ r ≡ segmentAt (now (s .entry)) at ⌝ }
@@ -109,14 +133,9 @@ pub fn read_segment(s: &[u8], at: usize) -> Scanned
         if s[at + 3] == b'\'' {
             return Scanned::End(at + 3);
         }
-        let end = find_end(s, at + 4);
+        let end = quick_end(s, at);
         if end < s.len() {
-            if end - at <= 34 {
-                return Scanned::End(end);
-            }
-            if is_small(&s[at..end]) {
-                return Scanned::End(end);
-            }
+            return Scanned::End(end);
         }
     }
     counted(s, at)
@@ -183,11 +202,5 @@ pub fn tag_at(s: &[u8], at: usize) -> u32
     if s.len() - 3 < at {
         return 0;
     }
-    wide(s[at]) * 65536 + wide(s[at + 1]) * 256 + wide(s[at + 2])
-}
-
-fn wide(b: u8) -> u32
-    ensures { λ r. ⌜ (r ≡ b) × (r < 256) ⌝ }
-{
-    b as u32
+    (wide(s[at]) * 65536 + wide(s[at + 1]) * 256 + wide(s[at + 2])) as u32
 }

@@ -1,52 +1,77 @@
 -- `run_end` meets its contract.
 -- Assumes nothing.
-use mathlib.Core.Path.{_≡_, refl, sym, ap, _∙_}
-use Prim.Native.Nat.{_+_, _-_, ℕ}
+use mathlib.Core.Path.{_≡_, refl, sym, _∙_}
+use mathlib.Core.List.{List}
+use Prim.Native.Nat.{ℕ, _+_, _-_, _/_, _≤_}
 use native.Mathlib.Omega.{arith}
 use borrow.Author.Needs.{needs}
 use denote.Ref.{now}
+use lib.Bits.{bitXor}
+use lib.Count.{trailingZeros, trailing-le}
 use lib.ListN.{length, drop}
-use Rattle.syntax.specs.Passed.{passRun, eight-on, eight-ends}
+use Rattle.syntax.specs.Passed.{passRun, word-low, eight-lead, eight-clear}
+use Rattle.syntax.specs.Found.{endFrom, end-run}
 use Rattle.syntax.proofs.ends.run_end.Statement.{statement}
 use Rattle.syntax.proofs.ends.run_end.Tie as tie
 use Rattle.syntax.proofs.ends.run_end.Reads as reads
 use Rattle.syntax.proofs.ends.run_end.Lts as lts
-use Rattle.syntax.proofs.ends.last_run.Reads as last-run-reads
-use Rattle.syntax.proofs.ends.leading.Reads as leading-reads
+use Rattle.syntax.proofs.ends.eight_at.Reads as eight-at-reads
+use Rattle.syntax.proofs.ends.passes_in.Reads as passes-in-reads
 
 abbrev Inv-loop : tie.InvT-loop
-Inv-loop s from last i₀ i = (last + 8 ≡ length s) × (i + passRun (drop i s) ≡ from + passRun (drop from s))
+Inv-loop s from last i₀ i = (last + 8 ≡ length s) × (from ≤ i) × (endFrom s i ≡ endFrom s from)
 
 abbrev μ-loop : tie.MeasureT-loop
 μ-loop s from last i₀ i = length s - i
 
-last-run-requires : tie.Need-last-run-requires Inv-loop μ-loop
-last-run-requires c κs = search needs
-
 returns : tie.Need-returns Inv-loop μ-loop
-returns c = c .last-run .ensures
+returns c = (omega arith, refl)
 
 sub-last : tie.Need-sub-last Inv-loop μ-loop
 sub-last c = omega arith
 
 loop-holds : tie.Need-loop-holds Inv-loop μ-loop
-loop-holds c = (omega arith, refl)
+loop-holds c = (omega arith, omega arith, refl)
 
-leading-requires : tie.Need-leading-requires Inv-loop μ-loop
-leading-requires c κs = search needs
-
-cast-result : tie.Need-cast-result Inv-loop μ-loop
-cast-result c = omega (arith, c .before .leading .ok)
-
-add-result : tie.Need-add-result Inv-loop μ-loop
-add-result c = omega (arith, c .before .leading .ok)
+eight-at-requires : tie.Need-eight-at-requires Inv-loop μ-loop
+eight-at-requires c κs = search needs
 
 returns-2 : tie.Need-returns-2 Inv-loop μ-loop
-returns-2 c =
-    let o = c .before .before .before in
-    let v = o .loop .inv .1 in
-    let e = eight-ends (now (o .before .before .before .args .s)) (o .loop .i) (omega arith) (c .before .leading .result) (c .before .leading .ensures) (c .if2 .taken) in
-    omega arith
+returns-2 c = let o = c .before .before .before in (o .loop .inv .1, o .loop .inv .2)
+
+passes-in-requires : tie.Need-passes-in-requires Inv-loop μ-loop
+passes-in-requires c κs = word-low (c .before .eight-at .result) (c .before .eight-at .ok) (c .if2 .left)
+
+-- after it is known which of eight bytes are passed over
+module _ (t : tie.After-passes-in Inv-loop μ-loop) where
+  abbrev own : tie.At-loop Inv-loop μ-loop
+  own = t .before .before .before .before
+
+  abbrev list : List ℕ
+  list = now (own .before .before .before .args .s)
+
+  abbrev zeros : ℕ
+  zeros = trailingZeros 64 (bitXor (t .passes-in .result) 9259542123273814144)
+
+  few : zeros ≤ 64
+  few = trailing-le 64 (bitXor (t .passes-in .result) 9259542123273814144)
+
+  goes-by : (k : ℕ) → k ≤ passRun (drop (own .loop .i) list) → endFrom list (own .loop .i + k) ≡ endFrom list (own .before .before .before .args .from)
+  goes-by k h = sym (end-run list (own .loop .i) k h) ∙ own .loop .inv .2
+
+cast-result : tie.Need-cast-result Inv-loop μ-loop
+cast-result c = let h = few (c .before) in omega arith
+
+add-result : tie.Need-add-result Inv-loop μ-loop
+add-result c = let h = few (c .before) in omega arith
+
+returns-3 : tie.Need-returns-3 Inv-loop μ-loop
+returns-3 c =
+    let t = c .before in
+    let e = t .before .before in (
+      omega arith,
+      goes-by t (zeros t / 8) (eight-lead (list t) (own t .loop .i) (e .eight-at .result) (omega arith) (e .eight-at .ensures) (t .before .if2 .left) (t .passes-in .result) (t .passes-in .ensures)),
+    )
 
 add-i : tie.Need-add-i Inv-loop μ-loop
 add-i c = omega arith
@@ -56,17 +81,15 @@ loop-less c = omega arith
 
 loop-again : tie.Need-loop-again Inv-loop μ-loop
 loop-again c =
-    let o = c .before .before .before in
-    let v = o .loop .inv in (
-      v .0,
-      sym (eight-on (now (o .before .before .before .args .s)) (o .loop .i) (omega arith) (c .before .leading .result) (c .before .leading .ensures) (c .if2 .left)) ∙ v .1,
+    let t = c .before in
+    let e = t .before .before in (
+      own t .loop .inv .0,
+      omega arith,
+      goes-by t 8 (eight-clear (list t) (own t .loop .i) (e .eight-at .result) (omega arith) (e .eight-at .ensures) (t .before .if2 .left) (t .passes-in .result) (t .passes-in .ensures) (c .if3 .left)),
     )
 
-last-run-requires-2 : tie.Need-last-run-requires-2 Inv-loop μ-loop
-last-run-requires-2 c κs = search needs
-
-returns-3 : tie.Need-returns-3 Inv-loop μ-loop
-returns-3 c = c .last-run2 .ensures ∙ c .before .before .loop .inv .1
+returns-4 : tie.Need-returns-4 Inv-loop μ-loop
+returns-4 c = (c .before .loop .inv .1, c .before .loop .inv .2)
 
 pub run-end-spec : {M : Type 1} → statement M
 run-end-spec =
@@ -74,16 +97,16 @@ run-end-spec =
     (tie.spec
     Inv-loop
     μ-loop
-    last-run-requires
     returns
     sub-last
     loop-holds
-    leading-requires
+    eight-at-requires
+    returns-2
+    passes-in-requires
     cast-result
     add-result
-    returns-2
+    returns-3
     add-i
     loop-less
     loop-again
-    last-run-requires-2
-    returns-3)
+    returns-4)

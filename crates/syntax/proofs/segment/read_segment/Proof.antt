@@ -1,25 +1,25 @@
 -- `read_segment` meets its contract.
 -- Assumes nothing.
-use mathlib.Core.Path.{_≡_, sym, _∙_}
+use mathlib.Core.Path.{_≡_, sym, ap, _∙_}
 use mathlib.Core.Bool.{true}
 use mathlib.Core.List.{List}
 use Prim.Native.Nat.{ℕ, _+_, _≤_}
 use native.Mathlib.Omega.{arith}
 use denote.Ref.{now}
 use lib.ListN.{length, drop}
+use Rattle.syntax.specs.declared.segment.Scanned.the-variants.{End}
 use Rattle.syntax.specs.Tags.{tagAhead}
-use Rattle.syntax.specs.Found.{endFrom}
 use Rattle.syntax.specs.Said.{scan-said}
-use Rattle.syntax.specs.Whole.{tag-facts, end-past-start, end-after-plus, whole-bare, whole-short, whole-small}
+use Rattle.syntax.specs.Whole.{tag-facts, plus-after, whole-bare}
+use Rattle.syntax.specs.Quick.{quick-whole}
 use borrow.Author.Needs.{needs}
 use Rattle.syntax.proofs.segment.read_segment.Statement.{statement}
 use Rattle.syntax.proofs.segment.read_segment.Tie as tie
 use Rattle.syntax.proofs.segment.read_segment.Reads as reads
 use Rattle.syntax.proofs.segment.read_segment.Lts as lts
-use Rattle.syntax.proofs.ends.find_end.Reads as find-end-reads
-use Rattle.syntax.proofs.ends.is_small.Reads as is-small-reads
 use Rattle.syntax.proofs.segment.counted.Reads as counted-reads
 use Rattle.syntax.proofs.segment.is_tagged.Reads as is-tagged-reads
+use Rattle.syntax.proofs.segment.quick_end.Reads as quick-end-reads
 
 is-tagged-requires : tie.Need-is-tagged-requires
 is-tagged-requires c κs = search needs
@@ -38,14 +38,6 @@ module _ (c : tie.Then1) where
   long : from + 4 ≤ length list
   long = tag-facts list from ahead .long
 
--- and its tag is followed by `+`, so that its end is sought past that
-module _ (f : tie.After-find-end) where
-  abbrev own : tie.Then1
-  own = f .before .before .before
-
-  found : f .find-end .result ≡ endFrom (list own) (from own + 3)
-  found = f .find-end .ensures ∙ end-after-plus (list own) (from own) (ahead own) (f .before .if2 .left)
-
 add-if2 : tie.Need-add-if2
 add-if2 c = let h = long c in omega arith
 
@@ -60,47 +52,22 @@ returns c =
     let o = c .before .before in
     scan-said (list o) (from o) (whole-bare (list o) (from o) (ahead o) (c .if2 .taken))
 
-add-find-end : tie.Need-add-find-end
-add-find-end c = let h = long (c .before .before) in omega arith
-
-find-end-requires : tie.Need-find-end-requires
-find-end-requires c κs = search needs
-
-sub-if4 : tie.Need-sub-if4
-sub-if4 c =
-    let f = c .before in
-    let h = long (own f) in
-    let e = f .find-end .ensures in
-    let p = end-past-start (list (own f)) (from (own f) + 4) h in
-    omega arith
+quick-end-requires : tie.Need-quick-end-requires
+quick-end-requires c κs = search needs
 
 returns-2 : tie.Need-returns-2
 returns-2 c =
-    let f = c .before .before in
-    scan-said (list (own f)) (from (own f)) (whole-short (list (own f)) (from (own f)) (ahead (own f)) (f .find-end .result) (found f) (c .before .if3 .taken) (c .if4 .taken))
-
-sub-is-small : tie.Need-sub-is-small
-sub-is-small c = search needs
-
-part-is-small-start : tie.Need-part-is-small-start
-part-is-small-start c = search needs
-
-part-is-small-end : tie.Need-part-is-small-end
-part-is-small-end c = search needs
-
-is-small-requires : tie.Need-is-small-requires
-is-small-requires c κs = search needs
-
-returns-3 : tie.Need-returns-3
-returns-3 c =
-    let f = c .before .before .before .before .before in
-    scan-said (list (own f)) (from (own f)) (whole-small (list (own f)) (from (own f)) (ahead (own f)) (f .find-end .result) (found f) (c .before .before .before .before .if3 .taken) (sym (c .before .is-small .ensures) ∙ c .if5 .taken))
+    let q = c .before in
+    let o = q .before .before .before in
+    let e = q .quick-end .ensures in
+    scan-said (list o) (from o)
+    (ap End e ∙ sym (quick-whole (list o) (from o) (ahead o) (plus-after (list o) (from o) (ahead o) (q .before .if2 .left)) (omega arith)))
 
 counted-requires : tie.Need-counted-requires
 counted-requires c κs = search needs
 
-returns-4 : tie.Need-returns-4
-returns-4 c =
+returns-3 : tie.Need-returns-3
+returns-3 c =
     let a = c .before .before .before .before .args in
     scan-said (now (a .s)) (a .at) (c .counted .ensures)
 
@@ -113,14 +80,7 @@ read-segment-spec =
     shared-slice-read-if2
     add-t9
     returns
-    add-find-end
-    find-end-requires
-    sub-if4
+    quick-end-requires
     returns-2
-    sub-is-small
-    part-is-small-start
-    part-is-small-end
-    is-small-requires
-    returns-3
     counted-requires
-    returns-4)
+    returns-3)

@@ -7,7 +7,7 @@ use Rattle.syntax.proofs.segment.tag_at.Statement.{statement}
 use Rattle.syntax.proofs.segment.tag_at.Tie as tie
 use Rattle.syntax.proofs.segment.tag_at.Reads as reads
 use Rattle.syntax.proofs.segment.tag_at.Lts as lts
-use Rattle.syntax.proofs.segment.wide.Reads as wide-reads
+use Rattle.syntax.proofs.bytes.wide.Reads as wide-reads
 
 returns : tie.Need-returns
 returns c =
@@ -58,6 +58,9 @@ wide-requires-3 c κs = search needs
 add-result-2 : tie.Need-add-result-2
 add-result-2 c = search needs
 
+cast-result : tie.Need-cast-result
+cast-result c = search needs
+
 returns-3 : tie.Need-returns-3
 returns-3 c =
     let b = c .before .before .before .before in
@@ -83,4 +86,5 @@ tag-at-spec =
     shared-slice-read-wide-3
     wide-requires-3
     add-result-2
+    cast-result
     returns-3)

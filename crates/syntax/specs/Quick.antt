@@ -1,0 +1,72 @@
+-- The end of a segment that has too few characters and marks to pass a limit, which is found without counting its parts.
+-- Assumes nothing.
+use mathlib.Core.Path.{_≡_, sym, ap, _∙_}
+use mathlib.Core.Bool.{Bool, true}
+use mathlib.Core.List.{List}
+use Prim.Native.Nat.{ℕ, _+_, _-_, _≤_, _<_}
+use native.Mathlib.Omega.{arith}
+use lib.Dec.{leb}
+use borrow.Author.Tests.{leb-true, le-leb, lt-leb}
+use lib.ListN.{length, drop, getD}
+use Rattle.laws.specs.Choice.{pick, both, either, choose}
+use Rattle.laws.specs.Lists.{between}
+use Rattle.syntax.specs.declared.segment.Scanned.the-variants.{End}
+use Rattle.syntax.specs.Segment.{capital, segmentAt}
+use Rattle.syntax.specs.Tags.{tagAhead, tag-four}
+use Rattle.syntax.specs.Found.{endFrom, end-past}
+use Rattle.syntax.specs.Few.{marksIn}
+use Rattle.syntax.specs.Whole.{end-most, end-after-plus, whole-short, whole-small}
+
+-- whether the bytes from an index to another, a tag and `+` before them, are too few to pass a limit, or have too few marks among them
+unfoldable pub isFew : List ℕ → ℕ → ℕ → Bool
+isFew s at e = either (leb (e - at) 34) (both (leb (length (between s at e)) 512) (leb (marksIn (between s at e)) 31))
+
+-- the terminator's index of such a segment whose tag, with the `+` behind it, starts at an offset; the input's length where there is none
+unfoldable pub quickEnd : List ℕ → ℕ → ℕ
+quickEnd s at = pick (isFew s at (endFrom s (at + 4))) (endFrom s (at + 4)) (length s)
+
+-- an input that ends before that has none
+pub quick-past : (s : List ℕ) (at : ℕ) → length s < at + 4 → length s ≡ quickEnd s at
+unfolding quickEnd
+quick-past s at h =
+    choose (isFew s at (endFrom s (at + 4))) (λ p. rw p (sym (end-past s (at + 4) (omega arith)))) (λ p. rw p)
+
+-- what a search for the end tells
+module _ (s : List ℕ) (at e : ℕ) (f : e ≡ endFrom s (at + 4)) where
+  by-few : pick (isFew s at e) e (length s) ≡ quickEnd s at
+  unfolding quickEnd
+  by-few = ap (λ (x : ℕ). pick (isFew s at x) x (length s)) f
+
+  pub quick-none : length s ≤ e → length s ≡ quickEnd s at
+  quick-none h =
+      let m = end-most s (at + 4) in
+      let g : length s ≡ e = omega arith in
+      choose (isFew s at e) (λ p. g ∙ (rw p at by-few)) (λ p. rw p at by-few)
+
+  pub quick-short : e - at ≤ 34 → e ≡ quickEnd s at
+  unfolding isFew
+  quick-short h = rw (le-leb (e - at) 34 h) at by-few
+
+  pub quick-small : (b : Bool) → b ≡ both (leb (length (between s at e)) 512) (leb (marksIn (between s at e)) 31) → 34 < e - at → pick b e (length s) ≡ quickEnd s at
+  unfolding isFew
+  quick-small b q h = ap (λ (x : Bool). pick x e (length s)) q ∙ (rw (lt-leb (e - at) 34 h) at by-few)
+
+-- three capital letters and `+` are a tag
+pub tag-plus : (s : List ℕ) (at : ℕ) → at + 4 ≤ length s → capital (getD s at 0) ≡ true → capital (getD s (at + 1) 0) ≡ true → capital (getD s (at + 2) 0) ≡ true
+    → getD s (at + 3) 0 ≡ 43 → tagAhead (drop at s) ≡ true
+tag-plus s at h a b c d = tag-four s at h ∙ rw (a, b, c, d)
+
+-- and the segment that they begin is whole where its end is found so
+module _ (s : List ℕ) (at : ℕ) (q : tagAhead (drop at s) ≡ true) where
+  whole : (e : ℕ) → e ≡ endFrom s (at + 3) → e < length s → isFew s at e ≡ true → End e ≡ segmentAt s at
+  unfolding isFew
+  whole e f h p =
+      choose (leb (e - at) 34) (λ g. whole-short s at q e f h (leb-true (e - at) 34 g))
+      (λ g. whole-small s at q e f h (rw g at p))
+
+  pub quick-whole : getD s (at + 3) 0 ≡ 43 → quickEnd s at < length s → segmentAt s at ≡ End (quickEnd s at)
+  unfolding quickEnd
+  quick-whole d h =
+      choose (isFew s at (endFrom s (at + 4)))
+      (λ p. rw p (sym (whole (endFrom s (at + 4)) (end-after-plus s at q d) (rw p at h) p)))
+      (λ p. let g = rw p at h in absurd (omega arith))
