@@ -7,3 +7,4 @@ pub mod Joined
 pub mod Text
 pub mod Decimal
 pub mod Digits
+pub mod Words
