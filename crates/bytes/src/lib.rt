@@ -1,4 +1,4 @@
-//! Bytes and decimal digits put into a lent buffer, and small numbers as sizes.
+//! Bytes and decimal digits put into a lent buffer, small numbers as sizes, and eight bytes as one number.
 
 ghost use mathlib.Core.Path.{_≡_};
 ghost use Prim.Native.Nat.{_+_, _<_, _≤_};
@@ -6,6 +6,15 @@ ghost use lib.Dec.{leb};
 ghost use lib.ListN.{length, drop};
 ghost use Rattle.laws.specs.Put.{putAt};
 ghost use Rattle.laws.specs.Decimal.{decimalOf};
+ghost use Rattle.bytes.specs.Eights.{EightTold};
+
+/// Eight bytes from an index on.
+pub enum Eight {
+    /// As one number, the first in the lowest bits.
+    Word(usize),
+    /// Fewer than eight stand there.
+    Fewer,
+}
 
 /// Bytes copied to an offset; where there is no room for all of them, none is. Whether there was room.
 pub fn put_bytes(out: &mut [u8], at: usize, bytes: &[u8]) -> bool
@@ -67,4 +76,26 @@ pub fn wide(n: u32) -> usize
     ensures { λ r. ⌜ (r ≡ n) × (r < 4294967296) ⌝ }
 {
     n as usize
+}
+
+/// The eight bytes from an index on: a flat row of `|`, of which the compiler makes one load.
+pub fn eight_at(s: &[u8], at: usize) -> Eight
+    ensures { λ r. ⌜ EightTold (now (s .entry)) at r ⌝ }
+{
+    if s.len() < 8 {
+        return Eight::Fewer;
+    }
+    if s.len() - 8 < at {
+        return Eight::Fewer;
+    }
+    Eight::Word(
+        wide_byte(s[at + 7]) * 72057594037927936
+            | wide_byte(s[at + 6]) * 281474976710656
+            | wide_byte(s[at + 5]) * 1099511627776
+            | wide_byte(s[at + 4]) * 4294967296
+            | wide_byte(s[at + 3]) * 16777216
+            | wide_byte(s[at + 2]) * 65536
+            | wide_byte(s[at + 1]) * 256
+            | wide_byte(s[at]),
+    )
 }

@@ -94,11 +94,11 @@ or-zero a x =
 below-or : (s a k b : ℕ) → s ≡ a * 2 ^ k → b < 2 ^ k → bitOr s b ≡ s + b
 below-or s a k b e h = rw e (or-shifted a k b h)
 
-module _ (a b c d e f g h : ℕ) (bb : b < 256) (bc : c < 256) (bd : d < 256) (be : e < 256) (bf : f < 256) (bg : g < 256) (bh : h < 256) where
-  abbrev row : ℕ
-  row = bitOr (bitOr (bitOr (bitOr (bitOr (bitOr (bitOr (a * 72057594037927936) (b * 281474976710656)) (c * 1099511627776)) (d * 4294967296)) (e * 16777216)) (f * 65536)) (g * 256)) h
+abbrev pub row : ℕ → ℕ → ℕ → ℕ → ℕ → ℕ → ℕ → ℕ → ℕ
+row a b c d e f g h = bitOr (bitOr (bitOr (bitOr (bitOr (bitOr (bitOr (a * 72057594037927936) (b * 281474976710656)) (c * 1099511627776)) (d * 4294967296)) (e * 16777216)) (f * 65536)) (g * 256)) h
 
-  pub row-sum : row ≡ a * 72057594037927936 + b * 281474976710656 + c * 1099511627776 + d * 4294967296 + e * 16777216 + f * 65536 + g * 256 + h
+module _ (a b c d e f g h : ℕ) (bb : b < 256) (bc : c < 256) (bd : d < 256) (be : e < 256) (bf : f < 256) (bg : g < 256) (bh : h < 256) where
+  pub row-sum : row a b c d e f g h ≡ a * 72057594037927936 + b * 281474976710656 + c * 1099511627776 + d * 4294967296 + e * 16777216 + f * 65536 + g * 256 + h
   row-sum =
       rw (below-or (a * 72057594037927936) a 56 (b * 281474976710656) (omega arith) (omega arith))
       (rw (below-or (a * 72057594037927936 + b * 281474976710656) (a * 256 + b) 48 (c * 1099511627776) (omega arith) (omega arith))
@@ -107,10 +107,6 @@ module _ (a b c d e f g h : ℕ) (bb : b < 256) (bc : c < 256) (bd : d < 256) (b
       (rw (below-or (a * 72057594037927936 + b * 281474976710656 + c * 1099511627776 + d * 4294967296 + e * 16777216) (a * 4294967296 + b * 16777216 + c * 65536 + d * 256 + e) 24 (f * 65536) (omega arith) (omega arith))
       (rw (below-or (a * 72057594037927936 + b * 281474976710656 + c * 1099511627776 + d * 4294967296 + e * 16777216 + f * 65536) (a * 1099511627776 + b * 4294967296 + c * 16777216 + d * 65536 + e * 256 + f) 16 (g * 256) (omega arith) (omega arith))
       (below-or (a * 72057594037927936 + b * 281474976710656 + c * 1099511627776 + d * 4294967296 + e * 16777216 + f * 65536 + g * 256) (a * 281474976710656 + b * 1099511627776 + c * 4294967296 + d * 16777216 + e * 65536 + f * 256 + g) 8 h (omega arith) (omega arith)))))))
-
-  pub row-word : row ≡ wordOf (h ∷ g ∷ f ∷ e ∷ d ∷ c ∷ b ∷ a ∷ [])
-  unfolding wordOf
-  row-word = row-sum ∙ omega arith
 
 -- ---- eight bytes of a list from an index on
 

@@ -5,6 +5,7 @@ mod elements;
 mod forms;
 mod runs;
 mod spans;
+mod strings;
 mod written;
 
 use crate::any::read_any;

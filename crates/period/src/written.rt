@@ -3,14 +3,14 @@
 use crate::Fault;
 use crate::Form;
 use crate::Period;
+use crate::strings::are_days;
 use calendar::Span;
 use calendar::days_between;
 use dates::Made;
 ghost use mathlib.Core.Path.{_≡_};
 ghost use Prim.Native.Nat.{_≤_};
 ghost use lib.ListN.{length, getD, drop};
-ghost use Rattle.laws.specs.Choice.{both, all};
-ghost use Rattle.period.specs.Period.{zeroOrOne, risingDays};
+ghost use Rattle.period.specs.Period.{risingDays};
 ghost use Rattle.period.specs.Written.{Begins, spanTold, periodTold, Word};
 
 // Four bytes as one number.
@@ -43,32 +43,6 @@ fn written_span(g: &[u8]) -> Span
         return Span::Bad;
     };
     days_between(first, last)
-}
-
-// A test that held so far, and that a byte is the character of a day.
-fn still_days(good: bool, b: u8) -> bool
-    ensures { λ r. ⌜ r ≡ both good (zeroOrOne b) ⌝ }
-{
-    if b == b'0' {
-        return good;
-    }
-    if b == b'1' {
-        return good;
-    }
-    false
-}
-
-// Whether the bytes from an index on are `0` and `1`. Each is passed, whatever came before it, so that many can be taken at once.
-fn are_days(g: &[u8], from: usize) -> bool
-    ensures { λ r. ⌜ r ≡ all zeroOrOne (drop from (now (g .entry))) ⌝ }
-{
-    let mut i = from;
-    let mut good = true;
-    while i < g.len() {
-        good = still_days(good, g[i]);
-        i += 1;
-    }
-    good
 }
 
 // Whether the bytes from an index on are weekdays that rise.
