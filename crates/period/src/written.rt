@@ -3,10 +3,12 @@
 use crate::Fault;
 use crate::Form;
 use crate::Period;
+use crate::dated::are_dates;
+use crate::dated::day_at;
 use crate::strings::are_days;
 use calendar::Span;
-use calendar::days_between;
-use dates::Made;
+use calendar::days_from;
+use dates::Number;
 ghost use mathlib.Core.Path.{_≡_};
 ghost use Prim.Native.Nat.{_≤_};
 ghost use lib.ListN.{length, getD, drop};
@@ -33,16 +35,16 @@ fn written_span(g: &[u8]) -> Span
     if word(g[4], g[5], g[6], g[7]) != word(b'2', b'7', b'3', b':') {
         return Span::Bad;
     }
-    if g[18] != b'/' {
+    if !are_dates(g) {
         return Span::Bad;
     }
-    let Made::Valid(first) = dates::read_date(g, 8) else {
+    let Number::Day(first) = day_at(g, 8) else {
         return Span::Bad;
     };
-    let Made::Valid(last) = dates::read_date(g, 19) else {
+    let Number::Day(last) = day_at(g, 19) else {
         return Span::Bad;
     };
-    days_between(first, last)
+    days_from(first, last)
 }
 
 // Whether the bytes from an index on are weekdays that rise.
