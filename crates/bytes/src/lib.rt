@@ -7,6 +7,12 @@ ghost use lib.ListN.{length, drop};
 ghost use Rattle.laws.specs.Put.{putAt};
 ghost use Rattle.laws.specs.Decimal.{decimalOf};
 ghost use Rattle.bytes.specs.Eights.{EightTold};
+ghost use Rattle.bytes.specs.Differing.{differsOf};
+
+// The highest bit of each of eight bytes, and the others.
+const HIGH: usize = 0x8080_8080_8080_8080;
+
+const LOW: usize = 0x7f7f_7f7f_7f7f_7f7f;
 
 /// Eight bytes from an index on.
 pub enum Eight {
@@ -98,4 +104,13 @@ pub fn eight_at(s: &[u8], at: usize) -> Eight
             | wide_byte(s[at + 1]) * 256
             | wide_byte(s[at]),
     )
+}
+
+/// The highest bits of those of eight bytes that differ from a pattern's by too much: the room, at most 127 for each byte, is what may be
+/// added to a difference before its highest bit is set.
+pub fn differing(word: usize, pattern: usize, room: usize) -> usize
+    ensures { λ r. ⌜ r ≡ differsOf word pattern room ⌝ }
+{
+    let x = word ^ pattern;
+    (x | ((x & LOW) + (room & LOW))) & HIGH
 }

@@ -1,18 +1,14 @@
 //! The two dates of a POP as most are written: tested eight characters at a time, and their numbers read straight.
 
 use bytes::Eight;
+use bytes::differing;
 use bytes::eight_at;
 use dates::Number;
 use dates::day_of;
 ghost use mathlib.Core.Path.{_≡_};
 ghost use mathlib.Core.Bool.{true};
 ghost use Prim.Native.Nat.{_≤_};
-ghost use Rattle.period.specs.Dated.{differsOf, DateAt, DatesIn, Pair, pairIn, dayIn};
-
-// The highest bit of each of eight bytes, and the others.
-const HIGH: usize = 0x8080_8080_8080_8080;
-
-const LOW: usize = 0x7f7f_7f7f_7f7f_7f7f;
+ghost use Rattle.period.specs.Dated.{DateAt, DatesIn, Pair, pairIn, dayIn};
 
 // The bytes of `yyyy-mm-`, `dd/yyyy-` and `yy-mm-dd`, `0` in the place of a digit.
 const FIRST: usize = 0x2d30_302d_3030_3030;
@@ -28,15 +24,6 @@ const MIDDLE_ROOM: usize = 0x7f76_7676_767f_7676;
 
 const LAST_ROOM: usize = 0x7676_7f76_767f_7676;
 
-// The highest bits of the bytes that differ too much from a pattern's.
-fn differs(word: usize, pattern: usize, room: usize) -> usize
-    requires { ⌜ room ≤ 9187201950435737471 ⌝ }
-    ensures { λ r. ⌜ r ≡ differsOf word pattern room ⌝ }
-{
-    let x = word ^ pattern;
-    (x | ((x & LOW) + room)) & HIGH
-}
-
 // Whether two dates with a `/` between them stand from index 8 on, by their digits and marks.
 pub(crate) fn are_dates(g: &[u8]) -> bool
     ensures { λ r. ⌜ (r ≡ true → DatesIn (now (g .entry))) ⌝ }
@@ -50,9 +37,8 @@ pub(crate) fn are_dates(g: &[u8]) -> bool
     let Eight::Word(last) = eight_at(g, 21) else {
         return false;
     };
-    let bits = differs(first, FIRST, FIRST_ROOM)
-        | differs(middle, MIDDLE, MIDDLE_ROOM)
-        | differs(last, LAST, LAST_ROOM);
+    let front = differing(first, FIRST, FIRST_ROOM) | differing(middle, MIDDLE, MIDDLE_ROOM);
+    let bits = front | differing(last, LAST, LAST_ROOM);
     bits == 0
 }
 

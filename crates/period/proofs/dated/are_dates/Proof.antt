@@ -44,14 +44,14 @@ enum-told-3 c = search needs
 returns-3 : tie.Need-returns-3
 returns-3 c e = absurd (false≢true e)
 
-differs-requires : tie.Need-differs-requires
-differs-requires c κs = search needs
+differing-requires : tie.Need-differing-requires
+differing-requires c κs = search needs
 
-differs-requires-2 : tie.Need-differs-requires-2
-differs-requires-2 c κs = search needs
+differing-requires-2 : tie.Need-differing-requires-2
+differing-requires-2 c κs = search needs
 
-differs-requires-3 : tie.Need-differs-requires-3
-differs-requires-3 c κs = search needs
+differing-requires-3 : tie.Need-differing-requires-3
+differing-requires-3 c κs = search needs
 
 returns-4 : tie.Need-returns-4
 returns-4 c e =
@@ -65,7 +65,7 @@ returns-4 c e =
     let e1 = f .before .before in
     let s = now (e1 .before .before .args .g) in
     dates-told s (eights-known s 8 (e1 .eight-at .ensures) (f .first .given .1)) (eights-known s 16 (e2 .eight-at2 .ensures) (m .middle .given .1)) (eights-known s 21 (e3 .eight-at3 .ensures) (l .last .given .1))
-    (d1 .differs .ensures) (d2 .differs2 .ensures) (c .differs3 .ensures) e
+    (d1 .differing .ensures) (d2 .differing2 .ensures) (c .differing3 .ensures) e
 
 pub are-dates-spec : {M : Type 1} → statement M
 are-dates-spec =
@@ -83,7 +83,7 @@ are-dates-spec =
     enum-known-last
     enum-told-3
     returns-3
-    differs-requires
-    differs-requires-2
-    differs-requires-3
+    differing-requires
+    differing-requires-2
+    differing-requires-3
     returns-4)
