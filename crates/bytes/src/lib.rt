@@ -1,4 +1,4 @@
-//! Bytes and decimal digits put into a lent buffer, and small numbers and bytes as sizes.
+//! Bytes and decimal digits put into a lent buffer, small numbers and bytes as sizes, and eight bytes as one number.
 
 ghost use mathlib.Core.Path.{_≡_};
 ghost use Prim.Native.Nat.{_+_, _*_, _<_, _≤_};
@@ -6,6 +6,21 @@ ghost use lib.Dec.{leb};
 ghost use lib.ListN.{length, getD, drop};
 ghost use Rattle.laws.specs.Put.{putAt};
 ghost use Rattle.laws.specs.Decimal.{decimalOf};
+ghost use Rattle.bytes.specs.Eights.{EightTold};
+ghost use Rattle.bytes.specs.Differing.{differsOf};
+
+// The highest bit of each of eight bytes, and the others.
+const HIGH: usize = 0x8080_8080_8080_8080;
+
+const LOW: usize = 0x7f7f_7f7f_7f7f_7f7f;
+
+/// Eight bytes from an index on.
+pub enum Eight {
+    /// As one number, the first in the lowest bits.
+    Word(usize),
+    /// Fewer than eight stand there.
+    Fewer,
+}
 
 /// Bytes copied to an offset; where there is no room for all of them, none is. Whether there was room.
 pub fn put_bytes(out: &mut [u8], at: usize, bytes: &[u8]) -> bool
@@ -87,4 +102,35 @@ pub fn number_at(b: &[u8], at: usize) -> usize
         return 0;
     }
     byte_at(b, at) + 256 * byte_at(b, at + 1)
+}
+
+/// The eight bytes from an index on: a flat row of `|`, of which the compiler makes one load.
+pub fn eight_at(s: &[u8], at: usize) -> Eight
+    ensures { λ r. ⌜ EightTold (now (s .entry)) at r ⌝ }
+{
+    if s.len() < 8 {
+        return Eight::Fewer;
+    }
+    if s.len() - 8 < at {
+        return Eight::Fewer;
+    }
+    Eight::Word(
+        wide_byte(s[at + 7]) * 72057594037927936
+            | wide_byte(s[at + 6]) * 281474976710656
+            | wide_byte(s[at + 5]) * 1099511627776
+            | wide_byte(s[at + 4]) * 4294967296
+            | wide_byte(s[at + 3]) * 16777216
+            | wide_byte(s[at + 2]) * 65536
+            | wide_byte(s[at + 1]) * 256
+            | wide_byte(s[at]),
+    )
+}
+
+/// The highest bits of those of eight bytes that differ from a pattern's by too much: the room, at most 127 for each byte, is what may be
+/// added to a difference before its highest bit is set.
+pub fn differing(word: usize, pattern: usize, room: usize) -> usize
+    ensures { λ r. ⌜ r ≡ differsOf word pattern room ⌝ }
+{
+    let x = word ^ pattern;
+    (x | ((x & LOW) + (room & LOW))) & HIGH
 }

@@ -10,7 +10,7 @@ use borrow.Author.Tests.{eq-eqb, ne-eqb, le-leb, lt-leb}
 use Rattle.laws.specs.Choice.{pick}
 use Rattle.dates.specs.Dates.{valid, number}
 use Rattle.dates.specs.declared.Date.{Date}
-use Rattle.calendar.specs.Written.{anyDay, dayCount, goodPeriod, daysSpan, goodCalendar, checkedOf}
+use Rattle.calendar.specs.Written.{anyDay, dayCount, goodPeriod, numbersSpan, daysSpan, goodCalendar, checkedOf}
 use Rattle.calendar.specs.declared.Span.the-variants.{Days, Bad}
 
 module _ (first last : Date) where
@@ -22,18 +22,22 @@ module _ (first last : Date) where
   unfolding daysSpan goodPeriod
   bad-last v w = rw (v, w)
 
-  module _ {f t : ℕ} (p : (valid first ≡ true) × (number first ≡ f)) (q : (valid last ≡ true) × (number last ≡ t)) where
-    pub bad-order : t < f → Bad ≡ daysSpan first last
-    unfolding daysSpan goodPeriod
-    bad-order l = rw (p .0, q .0, p .1, q .1, lt-leb f t l)
+  pub span-numbers : {f t : ℕ} → (valid first ≡ true) × (number first ≡ f) → (valid last ≡ true) × (number last ≡ t) → numbersSpan f t ≡ daysSpan first last
+  unfolding daysSpan goodPeriod numbersSpan
+  span-numbers p q = rw (p .0, q .0, p .1, q .1)
 
-    pub bad-many : f ≤ t → 512 ≤ t - f → Bad ≡ daysSpan first last
-    unfolding daysSpan goodPeriod
-    bad-many l m = rw (p .0, q .0, p .1, q .1, le-leb f t l, lt-leb (t - f + 1) 512 (omega arith))
+module _ (f t : ℕ) where
+  pub bad-order : t < f → Bad ≡ numbersSpan f t
+  unfolding numbersSpan
+  bad-order l = rw (lt-leb f t l)
 
-    pub good-span : f ≤ t → t - f < 512 → Days f (t - f + 1) ≡ daysSpan first last
-    unfolding daysSpan goodPeriod
-    good-span l m = rw (p .0, q .0, p .1, q .1, le-leb f t l, le-leb (t - f + 1) 512 (omega arith))
+  pub bad-many : f ≤ t → 512 ≤ t - f → Bad ≡ numbersSpan f t
+  unfolding numbersSpan
+  bad-many l m = rw (le-leb f t l, lt-leb (t - f + 1) 512 (omega arith))
+
+  pub good-span : f ≤ t → t - f < 512 → Days f (t - f + 1) ≡ numbersSpan f t
+  unfolding numbersSpan
+  good-span l m = rw (le-leb f t l, le-leb (t - f + 1) 512 (omega arith))
 
 -- what an answer tells
 days : (p : Bool) (f n : ℕ) {g m : ℕ} → pick p (Days f n) Bad ≡ Days g m → (p ≡ true) × (f ≡ g) × (n ≡ m)

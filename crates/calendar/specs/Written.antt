@@ -40,6 +40,10 @@ unfoldable pub goodPeriod : Date → Date → Bool
 goodPeriod first last =
     both (valid first) (both (valid last) (both (leb (number first) (number last)) (leb (dayCount first last) 512)))
 
+-- the same by the numbers of the first and the last day
+unfoldable pub numbersSpan : ℕ → ℕ → Span
+numbersSpan f t = pick (both (leb f t) (leb (t - f + 1) 512)) (Days f (t - f + 1)) Bad
+
 -- the number of the first day and how many days there are, where the period is good
 unfoldable pub daysSpan : Date → Date → Span
 daysSpan first last = pick (goodPeriod first last) (Days (number first) (dayCount first last)) Bad

@@ -13,6 +13,7 @@ pub use days::set_day;
 pub use days::test_day;
 pub use days::with_bit;
 pub use spans::days_between;
+pub use spans::days_from;
 pub use weekdays::write_weekdays;
 
 /// What came of writing a calendar.

@@ -5,7 +5,20 @@ use crate::days::any_day;
 use dates::Date;
 use dates::Number;
 ghost use mathlib.Core.Path.{_≡_};
-ghost use Rattle.calendar.specs.Written.{daysSpan, checkedOf};
+ghost use Rattle.calendar.specs.Written.{numbersSpan, daysSpan, checkedOf};
+
+/// The period from a first to a last day, by their numbers and both counted: 1 to 512 days.
+pub fn days_from(from: usize, to: usize) -> Span
+    ensures { λ r. ⌜ r ≡ numbersSpan from to ⌝ }
+{
+    if to < from {
+        return Span::Bad;
+    }
+    if 512 <= to - from {
+        return Span::Bad;
+    }
+    Span::Days(from, to - from + 1)
+}
 
 /// The period from a first to a last date, both counted: 1 to 512 days.
 pub fn days_between(first: Date, last: Date) -> Span
@@ -17,13 +30,7 @@ pub fn days_between(first: Date, last: Date) -> Span
     let Number::Day(to) = last.day_number() else {
         return Span::Bad;
     };
-    if to < from {
-        return Span::Bad;
-    }
-    if 512 <= to - from {
-        return Span::Bad;
-    }
-    Span::Days(from, to - from + 1)
+    days_from(from, to)
 }
 
 // Whether a calendar can be written, and what its period is.

@@ -24,6 +24,10 @@ madeOf y m d = pick (isDate y m d) (Valid (date y m d)) NoDate
 abbrev pub valid : Date → Bool
 valid a = isDate (a .year) (a .month) (a .day)
 
+-- the number of the day that they make
+unfoldable pub dayOf : ℕ → ℕ → ℕ → Number
+dayOf y m d = pick (isDate y m d) (Day (dayNumber y m d)) NoDay
+
 -- the day number of a value that is a date
 abbrev pub number : Date → ℕ
 number a = dayNumber (a .year) (a .month) (a .day)

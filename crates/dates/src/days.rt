@@ -1,12 +1,13 @@
 //! The days of the Gregorian calendar from 1990 to 2099: the lengths of months and years, and a day's number there and back.
 
 use crate::Date;
+use crate::Number;
 ghost use mathlib.Core.Path.{_≡_};
 ghost use Prim.Native.Nat.{_≤_, _<_};
-ghost use lib.ListN.{getD};
-ghost use Rattle.dates.specs.Days.{leapYear, monthLength, isDate, monthDays, dayNumber};
+ghost use Rattle.dates.specs.Days.{leapYear, monthLength, isDate, monthDays};
+ghost use Rattle.dates.specs.Dates.{dayOf};
 ghost use Rattle.dates.specs.Back.{InYear, InMonth};
-ghost use Rattle.dates.specs.Starts.{monthStarts};
+ghost use Rattle.dates.specs.Starts.{leapDay, daysIn, daysBefore};
 
 // The year, or the month, that a day stands in, and how many of its days stand before that day.
 pub(crate) struct DayWithin {
@@ -55,39 +56,70 @@ pub(crate) fn is_date(year: u32, month: u32, day: u32) -> bool
     day <= month_length(year, month)
 }
 
-// The days of the months before this one in a year that is no leap year.
-fn month_start(month: u32) -> usize
-    ensures { λ r. ⌜ r ≡ getD monthStarts month 0 ⌝ }
+// The leap day of a year: from 1990 to 2099 each fourth year has one, 1992 the first, and 2000 too.
+fn leap_day(year: u32) -> u32
+    ensures { λ r. ⌜ (r ≡ leapDay year) × (r ≤ 1) ⌝ }
 {
-    match month {
-        0 => 0,
-        1 => 0,
-        2 => 31,
-        3 => 59,
-        4 => 90,
-        5 => 120,
-        6 => 151,
-        7 => 181,
-        8 => 212,
-        9 => 243,
-        10 => 273,
-        11 => 304,
-        12 => 334,
-        _ => 0,
-    }
+    if year % 4 == 0 { 1 } else { 0 }
 }
 
-// The number of a day. From 1990 to 2099 each fourth year is a leap year, 1992 the first: 2000 is one too.
-pub(crate) fn counted(year: u32, month: u32, day: u32) -> usize
-    requires { ⌜ (1990 ≤ year) × (year ≤ 2099) × (1 ≤ month) × (month ≤ 12) × (1 ≤ day) × (day ≤ 31) ⌝ }
-    ensures { λ r. ⌜ r ≡ dayNumber year month day ⌝ }
+// The days of a month. But for February those of 31 days have an odd number up to July, and an even one from August on.
+fn days_in(month: u32, leap: u32) -> u32
+    requires { ⌜ (month ≤ 12) × (leap ≤ 1) ⌝ }
+    ensures { λ r. ⌜ (r ≡ daysIn month leap) × (r ≤ 31) ⌝ }
 {
-    let years = (year - 1990) as usize;
-    let before = 365 * years + (years + 1) / 4 + month_start(month) + (day as usize - 1);
-    if month < 3 {
-        return before;
+    if month == 2 {
+        return 28 + leap;
     }
-    if leap_year(year) { before + 1 } else { before }
+    30 + (month + month / 8) % 2
+}
+
+// The days of a year before a month: from March on they are counted as if February had 30, and those that it has not are taken off.
+fn days_before(month: u32, leap: u32) -> u32
+    requires { ⌜ (1 ≤ month) × (month ≤ 12) × (leap ≤ 1) ⌝ }
+    ensures { λ r. ⌜ (r ≡ daysBefore month leap) × (r ≤ 335) ⌝ }
+{
+    let days = (367 * month - 362) / 12;
+    if month < 3 {
+        return days;
+    }
+    days + leap - 2
+}
+
+// The number of a day, where the month has it.
+fn counted(year: u32, month: u32, day: u32) -> Number
+    requires { ⌜ (1990 ≤ year) × (year ≤ 2099) × (1 ≤ month) × (month ≤ 12) × (1 ≤ day) ⌝ }
+    ensures { λ r. ⌜ r ≡ dayOf year month day ⌝ }
+{
+    let leap = leap_day(year);
+    if days_in(month, leap) < day {
+        return Number::NoDay;
+    }
+    let years = year - 1990;
+    let before = 365 * years + (years + 1) / 4 + days_before(month, leap);
+    Number::Day((before + (day - 1)) as usize)
+}
+
+/// The number of the day that a year, a month and a day of the month make.
+pub fn day_of(year: u32, month: u32, day: u32) -> Number
+    ensures { λ r. ⌜ r ≡ dayOf year month day ⌝ }
+{
+    if year < 1990 {
+        return Number::NoDay;
+    }
+    if 2099 < year {
+        return Number::NoDay;
+    }
+    if month < 1 {
+        return Number::NoDay;
+    }
+    if 12 < month {
+        return Number::NoDay;
+    }
+    if day < 1 {
+        return Number::NoDay;
+    }
+    counted(year, month, day)
 }
 
 fn year_length(year: u32) -> usize

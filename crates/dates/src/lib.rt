@@ -3,10 +3,10 @@
 mod days;
 mod reading;
 
-use crate::days::counted;
 use crate::days::is_date;
 use crate::days::month_of;
 use crate::days::year_of;
+pub use days::day_of;
 pub use reading::read_date;
 ghost use mathlib.Core.Path.{_≡_};
 ghost use Rattle.laws.specs.Decimal.{digit};
@@ -88,13 +88,7 @@ impl Date {
     pub fn day_number(self) -> Number
         ensures { λ r. ⌜ r ≡ numberOf self ⌝ }
     {
-        let year = self.year as u32;
-        let month = self.month as u32;
-        let day = self.day as u32;
-        if is_date(year, month, day) {
-            return Number::Day(counted(year, month, day));
-        }
-        Number::NoDay
+        day_of(self.year as u32, self.month as u32, self.day as u32)
     }
 
     /// The date of a day number.

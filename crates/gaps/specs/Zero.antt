@@ -7,11 +7,11 @@ use Prim.Native.Nat.{ℕ, suc, _+_, _-_, _≤_, _<_}
 use native.Mathlib.Omega.{arith}
 use native.Mathlib.Numerals.{add-one}
 use lib.Dec.{eqb}
-use borrow.Author.Tests.{eqb-true, eqb-false, eq-eqb, ne-eqb}
-use lib.Bits.{bitOr, or-add-and, and-le-l, and-le-r}
+use lib.Bits.{bitOr}
 use lib.ListN.{length, getD, set, take, drop, replicate, length-set, drop-of-length-le}
 use lib.Seq.{drop-cons, take-all, take-suc-set}
-use Rattle.laws.specs.Choice.{both, choose, both-true, both-assoc}
+use Rattle.laws.specs.Choice.{both, both-true, both-assoc}
+use Rattle.laws.specs.Words.{or-zero}
 
 -- whether all bytes are 0
 unfoldable pub allZero : List ℕ → Bool
@@ -23,22 +23,6 @@ unfoldable pub zeroFrom : List ℕ → ℕ → List ℕ
 zeroFrom s from = take from s ++ replicate (length s - from) 0
 
 -- ---- for `is_zero`: bits gathered from the bytes that were passed are 0 exactly when these are
-
-or-zero : (a x : ℕ) → eqb (bitOr a x) 0 ≡ both (eqb a 0) (eqb x 0)
-or-zero a x =
-    let s = or-add-and a x in
-    let l = and-le-l a x in
-    let r = and-le-r a x in
-    choose (eqb (bitOr a x) 0)
-    (λ p.
-    let e = eqb-true (bitOr a x) 0 p in
-    rw (p, eq-eqb a 0 (omega arith), eq-eqb x 0 (omega arith)))
-    (λ p.
-    choose (eqb a 0)
-    (λ q.
-    let e = eqb-true a 0 q in
-    rw (p, q) (sym (ne-eqb x 0 (λ z. eqb-false (bitOr a x) 0 p (omega arith)))))
-    (λ q. rw (p, q)))
 
 module _ (s : List ℕ) (i gathered : ℕ) where
   pub zero-step : i < length s → both (eqb (bitOr gathered (getD s i 0)) 0) (allZero (drop (i + 1) s)) ≡ both (eqb gathered 0) (allZero (drop i s))

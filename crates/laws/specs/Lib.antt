@@ -8,3 +8,4 @@ pub mod Text
 pub mod Decimal
 pub mod Digits
 pub mod Filled
+pub mod Words

@@ -2,6 +2,8 @@ pub mod Period
 pub mod Said
 pub mod Tests
 pub mod Steps
+pub mod Strings
+pub mod Dated
 pub mod Elements
 pub mod Facts
 pub mod Written

@@ -1,7 +1,7 @@
 -- The steps of the loops over a part: what is left of its text begins with the byte b and goes on as l, or is empty.
 -- Assumes nothing.
 use mathlib.Core.Path.{_≡_, refl, sym}
-use mathlib.Core.Bool.{Bool, true, false}
+use mathlib.Core.Bool.{true, false}
 use mathlib.Core.List.{List, [], _∷_}
 use Prim.Native.Nat.{ℕ, zero, suc, _+_, _-_, _<_, _≤_}
 use native.Mathlib.Omega.{arith}
@@ -9,7 +9,7 @@ use native.Mathlib.Decide.{ℕ-discrete}
 use lib.Dec.{eqb}
 use lib.ListN.{length, getD, drop}
 use borrow.Author.Tests.{eq-eqb, ne-eqb, lt-ltb, le-ltb, le-leb, lt-leb}
-use Rattle.laws.specs.Choice.{both, all, both-true, both-false, both-assoc}
+use Rattle.laws.specs.Choice.{both, all, both-false}
 use Rattle.laws.specs.Lists.{drop-here, drop-past}
 use Rattle.parts.specs.Places.{present}
 use Rattle.period.specs.Period.{zeroOrOne, dayString, risingDays}
@@ -85,10 +85,18 @@ module _ (t : List ℕ) (f : t ≡ []) where
 
 -- a whole text of such characters, at an index of it
 module _ (g : List ℕ) (i : ℕ) where
-  pub days-go : i < length g → (good : Bool) {r : Bool} → r ≡ both good (zeroOrOne (getD g i 0))
-      → both r (all zeroOrOne (drop (i + 1) g)) ≡ both good (all zeroOrOne (drop i g))
-  days-go h good {r} q =
-      rw (drop-here g i h, q) (both-assoc good (zeroOrOne (getD g i 0)) (all zeroOrOne (drop (i + 1) g)))
+  module _ (h : i < length g) where
+    days-not : zeroOrOne (getD g i 0) ≡ false → false ≡ all zeroOrOne (drop i g)
+    days-not e = rw (drop-here g i h, e)
 
-  pub days-end : length g ≤ i → (good : Bool) → both good (all zeroOrOne (drop i g)) ≡ good
-  days-end h good = rw (drop-past g i h) (both-true good)
+    pub days-below : getD g i 0 < 48 → false ≡ all zeroOrOne (drop i g)
+    days-below k = days-not (other-character (getD g i 0) (λ e. omega arith) (λ e. omega arith))
+
+    pub days-above : 49 < getD g i 0 → false ≡ all zeroOrOne (drop i g)
+    days-above k = days-not (other-character (getD g i 0) (λ e. omega arith) (λ e. omega arith))
+
+    pub days-go : 48 ≤ getD g i 0 → getD g i 0 ≤ 49 → all zeroOrOne (drop (i + 1) g) ≡ all zeroOrOne (drop i g)
+    days-go k l = sym (rw (drop-here g i h, day-character (getD g i 0) k l))
+
+  pub days-end : length g ≤ i → true ≡ all zeroOrOne (drop i g)
+  days-end h = rw (drop-past g i h)

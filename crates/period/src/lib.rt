@@ -1,10 +1,12 @@
 //! A POP of SKDUPD's group 4: the days on which a service runs, read from the segment's parts.
 
 mod any;
+mod dated;
 mod elements;
 mod forms;
 mod runs;
 mod spans;
+mod strings;
 mod written;
 
 use crate::any::read_any;

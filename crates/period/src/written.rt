@@ -3,14 +3,16 @@
 use crate::Fault;
 use crate::Form;
 use crate::Period;
+use crate::dated::are_dates;
+use crate::dated::day_at;
+use crate::strings::are_days;
 use calendar::Span;
-use calendar::days_between;
-use dates::Made;
+use calendar::days_from;
+use dates::Number;
 ghost use mathlib.Core.Path.{_≡_};
 ghost use Prim.Native.Nat.{_≤_};
 ghost use lib.ListN.{length, getD, drop};
-ghost use Rattle.laws.specs.Choice.{both, all};
-ghost use Rattle.period.specs.Period.{zeroOrOne, risingDays};
+ghost use Rattle.period.specs.Period.{risingDays};
 ghost use Rattle.period.specs.Written.{Begins, spanTold, periodTold, Word};
 
 // Four bytes as one number.
@@ -33,42 +35,16 @@ fn written_span(g: &[u8]) -> Span
     if word(g[4], g[5], g[6], g[7]) != word(b'2', b'7', b'3', b':') {
         return Span::Bad;
     }
-    if g[18] != b'/' {
+    if !are_dates(g) {
         return Span::Bad;
     }
-    let Made::Valid(first) = dates::read_date(g, 8) else {
-        return Span::Bad;
-    };
-    let Made::Valid(last) = dates::read_date(g, 19) else {
+    let Number::Day(first) = day_at(g, 8) else {
         return Span::Bad;
     };
-    days_between(first, last)
-}
-
-// A test that held so far, and that a byte is the character of a day.
-fn still_days(good: bool, b: u8) -> bool
-    ensures { λ r. ⌜ r ≡ both good (zeroOrOne b) ⌝ }
-{
-    if b == b'0' {
-        return good;
-    }
-    if b == b'1' {
-        return good;
-    }
-    false
-}
-
-// Whether the bytes from an index on are `0` and `1`. Each is passed, whatever came before it, so that many can be taken at once.
-fn are_days(g: &[u8], from: usize) -> bool
-    ensures { λ r. ⌜ r ≡ all zeroOrOne (drop from (now (g .entry))) ⌝ }
-{
-    let mut i = from;
-    let mut good = true;
-    while i < g.len() {
-        good = still_days(good, g[i]);
-        i += 1;
-    }
-    good
+    let Number::Day(last) = day_at(g, 19) else {
+        return Span::Bad;
+    };
+    days_from(first, last)
 }
 
 // Whether the bytes from an index on are weekdays that rise.

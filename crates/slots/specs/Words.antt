@@ -6,7 +6,6 @@ use mathlib.Core.List.{List}
 use Prim.Native.Nat.{ℕ, zero, suc, _+_, _*_, _^_, _≤_, _<_}
 use native.Mathlib.Omega.{arith}
 use native.Mathlib.Decide.{decLt}
-use lib.Bits.{bitOr, or-shifted}
 use lib.Dec.{ltb, eqb, lit≤}
 use borrow.Author.Tests.{lt-ltb, le-ltb, eq-eqb, ne-eqb, eqb-true, eqb-false}
 use lib.ListN.{length, getD, take, drop, length-take, List·getD-eq-default}
@@ -75,25 +74,6 @@ module _ (h l k m : ℕ) where
   pub rises-level : h ≡ k → ltb l m ≡ risesTo h l k m
   unfolding risesTo
   rises-level q = rw (eq-eqb h k q)
-
--- ---- bytes put together by `|`: each stands below the ones before it
-
-below-or : (s a k b : ℕ) → s ≡ a * 2 ^ k → b < 2 ^ k → bitOr s b ≡ s + b
-below-or s a k b e h = rw e (or-shifted a k b h)
-
-module _ (a b c d e f g h : ℕ) (bb : b < 256) (bc : c < 256) (bd : d < 256) (be : e < 256) (bf : f < 256) (bg : g < 256) (bh : h < 256) where
-  abbrev row : ℕ
-  row = bitOr (bitOr (bitOr (bitOr (bitOr (bitOr (bitOr (a * 72057594037927936) (b * 281474976710656)) (c * 1099511627776)) (d * 4294967296)) (e * 16777216)) (f * 65536)) (g * 256)) h
-
-  pub row-sum : row ≡ a * 72057594037927936 + b * 281474976710656 + c * 1099511627776 + d * 4294967296 + e * 16777216 + f * 65536 + g * 256 + h
-  row-sum =
-      rw (below-or (a * 72057594037927936) a 56 (b * 281474976710656) (omega arith) (omega arith))
-      (rw (below-or (a * 72057594037927936 + b * 281474976710656) (a * 256 + b) 48 (c * 1099511627776) (omega arith) (omega arith))
-      (rw (below-or (a * 72057594037927936 + b * 281474976710656 + c * 1099511627776) (a * 65536 + b * 256 + c) 40 (d * 4294967296) (omega arith) (omega arith))
-      (rw (below-or (a * 72057594037927936 + b * 281474976710656 + c * 1099511627776 + d * 4294967296) (a * 16777216 + b * 65536 + c * 256 + d) 32 (e * 16777216) (omega arith) (omega arith))
-      (rw (below-or (a * 72057594037927936 + b * 281474976710656 + c * 1099511627776 + d * 4294967296 + e * 16777216) (a * 4294967296 + b * 16777216 + c * 65536 + d * 256 + e) 24 (f * 65536) (omega arith) (omega arith))
-      (rw (below-or (a * 72057594037927936 + b * 281474976710656 + c * 1099511627776 + d * 4294967296 + e * 16777216 + f * 65536) (a * 1099511627776 + b * 4294967296 + c * 16777216 + d * 65536 + e * 256 + f) 16 (g * 256) (omega arith) (omega arith))
-      (below-or (a * 72057594037927936 + b * 281474976710656 + c * 1099511627776 + d * 4294967296 + e * 16777216 + f * 65536 + g * 256) (a * 281474976710656 + b * 1099511627776 + c * 4294967296 + d * 16777216 + e * 65536 + f * 256 + g) 8 h (omega arith) (omega arith)))))))
 
 -- ---- the order of the numbers is that of the bytes
 

@@ -2,7 +2,7 @@
 -- Assumes nothing.
 use mathlib.Core.Path.{sym, _∙_}
 use Rattle.dates.specs.Laws.{number-known, number-unknown}
-use Rattle.calendar.specs.Check.{bad-first, bad-last, bad-order, bad-many, good-span}
+use Rattle.calendar.specs.Check.{bad-first, bad-last, span-numbers}
 use borrow.Author.Needs.{needs}
 use Rattle.calendar.proofs.spans.days_between.Statement.{statement}
 use Rattle.calendar.proofs.spans.days_between.Tie as tie
@@ -31,17 +31,18 @@ enum-told-2 c = search needs
 returns-2 : tie.Need-returns-2
 returns-2 c = bad-last (c .before .before .before .before .before .before .before .args .first) (c .before .before .before .before .before .before .before .args .last) ((number-known (c .before .before .before .before .before .before .before .args .first) (sym (c .before .before .before .before .before .before .day-number .ensures) ∙ c .before .before .before .before .from .given .1)) .0) (number-unknown (c .before .before .before .before .before .before .before .args .last) (sym (c .before .before .day-number2 .ensures) ∙ c .enum-told2 .given .1))
 
+days-from-requires : tie.Need-days-from-requires
+days-from-requires c κs = search needs
+
 returns-3 : tie.Need-returns-3
-returns-3 c = bad-order (c .before .before .before .before .before .before .before .before .before .args .first) (c .before .before .before .before .before .before .before .before .before .args .last) (number-known (c .before .before .before .before .before .before .before .before .before .args .first) (sym (c .before .before .before .before .before .before .before .before .day-number .ensures) ∙ c .before .before .before .before .before .before .from .given .1)) (number-known (c .before .before .before .before .before .before .before .before .before .args .last) (sym (c .before .before .before .before .day-number2 .ensures) ∙ c .before .before .to .given .1)) (c .if1 .taken)
-
-returns-4 : tie.Need-returns-4
-returns-4 c = bad-many (c .before .before .before .before .before .before .before .before .before .before .args .first) (c .before .before .before .before .before .before .before .before .before .before .args .last) (number-known (c .before .before .before .before .before .before .before .before .before .before .args .first) (sym (c .before .before .before .before .before .before .before .before .before .day-number .ensures) ∙ c .before .before .before .before .before .before .before .from .given .1)) (number-known (c .before .before .before .before .before .before .before .before .before .before .args .last) (sym (c .before .before .before .before .before .day-number2 .ensures) ∙ c .before .before .before .to .given .1)) (c .before .if1 .left) (c .if2 .taken)
-
-add-t9 : tie.Need-add-t9
-add-t9 c = search needs
-
-returns-5 : tie.Need-returns-5
-returns-5 c = good-span (c .before .before .before .before .before .before .before .before .before .before .args .first) (c .before .before .before .before .before .before .before .before .before .before .args .last) (number-known (c .before .before .before .before .before .before .before .before .before .before .args .first) (sym (c .before .before .before .before .before .before .before .before .before .day-number .ensures) ∙ c .before .before .before .before .before .before .before .from .given .1)) (number-known (c .before .before .before .before .before .before .before .before .before .before .args .last) (sym (c .before .before .before .before .before .day-number2 .ensures) ∙ c .before .before .before .to .given .1)) (c .before .if1 .left) (c .if2 .left)
+returns-3 c =
+    let u = c .before .before in
+    let s = u .before .before in
+    let v = s .before .before in
+    let f = v .before .before in
+    let a = f .before .args in
+    c .days-from .ensures
+    ∙ span-numbers (a .first) (a .last) (number-known (a .first) (sym (f .day-number .ensures) ∙ v .from .given .1)) (number-known (a .last) (sym (s .day-number2 .ensures) ∙ u .to .given .1))
 
 pub days-between-spec : {M : Type 1} → statement M
 days-between-spec =
@@ -55,7 +56,5 @@ days-between-spec =
     enum-known-to
     enum-told-2
     returns-2
-    returns-3
-    returns-4
-    add-t9
-    returns-5)
+    days-from-requires
+    returns-3)
