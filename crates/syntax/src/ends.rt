@@ -89,19 +89,30 @@ fn past_byte(s: &[u8], j: usize) -> usize
     released_end(s, k + 1)
 }
 
-/// The terminator's index where the segment goes on from `from`, is ended and has no byte that is not permitted; else the input's length.
-pub(crate) fn find_end(s: &[u8], from: usize) -> usize
+// The same as `find_end`, from a byte on that is not passed over at once.
+fn careful_end(s: &[u8], from: usize) -> usize
     ensures { λ r. ⌜ r ≡ endFrom (now (s .entry)) from ⌝ }
 {
-    let mut i = from;
-    loop {
-        let j = run_end(s, i);
-        if s.len() <= j {
-            return s.len();
-        }
+    let mut j = from;
+    while j < s.len() {
         if s[j] == b'\'' {
             return j;
         }
-        i = past_byte(s, j);
+        j = run_end(s, past_byte(s, j));
     }
+    s.len()
+}
+
+/// The terminator's index where the segment goes on from `from`, is ended and has no byte that is not permitted; else the input's length.
+/// Mostly the terminator is the first byte that is not passed over.
+pub(crate) fn find_end(s: &[u8], from: usize) -> usize
+    ensures { λ r. ⌜ r ≡ endFrom (now (s .entry)) from ⌝ }
+{
+    let j = run_end(s, from);
+    if j < s.len() {
+        if s[j] == b'\'' {
+            return j;
+        }
+    }
+    careful_end(s, j)
 }
