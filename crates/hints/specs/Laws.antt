@@ -1,38 +1,35 @@
--- A step by hints that are right is the step of the placing rule. Assumes nothing.
+-- What a right hint tells is the step of the placing rule. Assumes nothing.
 use mathlib.Core.Path.{_≡_, refl, sym, ap, _∙_, subst}
-use mathlib.Core.Bool.{Bool, true, false}
+use mathlib.Core.Bool.{Bool, true, false, not}
 use mathlib.Core.List.{List, [], _∷_, map}
-use Prim.Native.Nat.{ℕ, zero, suc, _+_, _-_, _*_, _/_, _%_, _^_, _<_, _≤_}
+use Prim.Native.Nat.{ℕ, zero, suc, _+_, _-_, _*_, _%_, _<_, _≤_}
 use native.Mathlib.Omega.{arith}
-use native.Mathlib.Nat.{zero-div}
 use native.Mathlib.Decide.{decLt}
-use borrow.Author.Tests.{eqb-true, eqb-false, ltb-true, ltb-false, leb-true, lt-ltb, le-ltb, eq-eqb, ne-eqb}
+use native.Mathlib.Nat.{zero-add, add-zero}
+use borrow.Author.Tests.{eqb-true, eqb-false, ltb-true, ltb-false, leb-true, lt-ltb}
 use lib.Dec.{T, eqb, ltb, leb}
-use lib.ListN.{length, getD}
-use Rattle.laws.specs.Choice.{pick, both, both-left, both-right, choose}
-use Rattle.laws.specs.Sweep.{below, at}
+use lib.ListN.{getD}
+use Rattle.laws.specs.Choice.{pick, both, either, all, both-left, both-right, choose}
 use Rattle.placing.specs.declared.Place.{Place}
 use Rattle.placing.specs.declared.Fit.{Fit}
 use Rattle.placing.specs.declared.Fit.the-variants.{At, Nowhere}
 use Rattle.placing.specs.declared.Stepped.{Stepped}
 use Rattle.placing.specs.declared.Stepped.the-variants.{Placed, OutOfPlace}
-use Rattle.placing.specs.Table.{Table, tagAt, most, levelOf, outer, later}
+use Rattle.placing.specs.Table.{Table, rows, tagAt, most, levelOf, outer, later}
 use Rattle.placing.specs.Place.{countAt, reachedOf}
 use Rattle.placing.specs.Rule.{reachable, noneLeft, orFit, firstFit, fits, go, again, laterOnes, choicesFrom, placedAt, orStepped, firstOf, stepOf}
 use Rattle.placing.specs.Walks.{first-append, first-pick-none, more-fits, more-none, step-start}
+use Rattle.messages.specs.Tags.{UIT}
 use Rattle.messages.specs.declared.MessageType.{MessageType}
 use Rattle.messages.specs.declared.MessageType.the-variants.{Skdupd, Tsdupd}
 use Rattle.placing.specs.Tables.{tableOf}
 use Rattle.placing.specs.Tables as tables
 use Rattle.placing.specs.Skdupd.{skdupdTable}
 use Rattle.placing.specs.Tsdupd.{tsdupdTable}
-use Rattle.hints.specs.Hint.{rowIn, levelIn, lastIn, enteredIn, laneOf, hintSlot, hintAt, moreOf, unused, timesOf, quickBy, quickOf}
-use Rattle.hints.specs.Told.{Told, More, Next, Silent, nextTold, toldBy, laterFit, passed, toldFrom, anewFrom, hintTold, saysHint, agrees, deeper, rightBy, hintRight, wordBy, rightFrom, right}
-use Rattle.hints.specs.Ways.{repeated-again, repeated-unused, repeated-anew, times-none, times-other, times-later, times-repeated}
+use Rattle.hints.specs.Kinds.{rowIn, kindIn, lastIn}
+use Rattle.hints.specs.Told.{Told, More, Next, Silent, nextTold, toldBy, laterFit, passed, toldFrom, anewFrom, toldBehind, hintTold, saysHint, agrees, hintRight, rightFrom, right}
 use Rattle.hints.specs.Hints.{hintsOf}
 use Rattle.hints.specs.Hints as hints
-use Rattle.hints.specs.SkdupdHints.{skdupdHints}
-use Rattle.hints.specs.TsdupdHints.{tsdupdHints}
 use Rattle.hints.specs.Right.{skdupd-right, tsdupd-right}
 
 module _ (t : Table) (p : Place) where
@@ -116,152 +113,131 @@ module _ (t : Table) (p : Place) where
         (told-meets level (outer t row)))
 
 -- a test that holds
-holds : (b : Bool) → T b → b ≡ true
+pub holds : (b : Bool) → T b → b ≡ true
 holds true h = refl
 holds false h = absurd h
 
-module _ (t : Table) (p : Place) (e : ℕ) (s : Stepped) where
+refuted : (b : Bool) → T (not b) → b ≡ false
+refuted true h = absurd h
+refuted false h = refl
+
+-- the place that a row stands for has come at least once
+abbrev pub Stood : Table → Place → Type 0
+Stood t p = 1 ≤ countAt p (levelOf t (p .row))
+
+-- how often the place of a hint has been entered already, as far as that counts
+abbrev pub enteredIn : Place → ℕ → ℕ
+enteredIn p h = kindIn h .again * countAt p (kindIn h .level)
+
+-- once and not at all
+once : (a n : ℕ) → a ≡ 1 → (m : ℕ) → m ≡ n → m ≡ a * n
+once a n e m q = rw e (omega arith)
+
+never : (a n : ℕ) → a ≡ 0 → 0 ≡ a * n
+never a n e = rw e (omega arith)
+
+module _ (t : Table) (p : Place) (h : ℕ) (s : Stepped) where
   -- the place that a hint says
   abbrev Said : ℕ → Type 0
-  Said n = s ≡ Placed (reachedOf p (levelIn e) n (rowIn e) (lastIn e))
+  Said n = s ≡ Placed (reachedOf p (kindIn h .level) n (rowIn h) (lastIn h))
 
-  level-said : (level r d : ℕ) → T (saysHint e level r d) → level ≡ levelIn e
-  level-said level r d h = eqb-true level (levelIn e) (holds _ (both-left (eqb level (levelIn e)) (both (eqb r (rowIn e)) (eqb (4 - d) (lastIn e))) h))
+  said-is : (level r d n : ℕ) → T (saysHint h level r d) → s ≡ Placed (reachedOf p level n r (4 - d)) → (level ≡ kindIn h .level) × Said n
+  said-is level r d n g q =
+      let a = eqb-true level (kindIn h .level) (holds _ (both-left (eqb level (kindIn h .level)) (both (eqb r (rowIn h)) (eqb (4 - d) (lastIn h))) g)) in
+      let k = both-right (eqb level (kindIn h .level)) (both (eqb r (rowIn h)) (eqb (4 - d) (lastIn h))) g in
+      let b = eqb-true r (rowIn h) (holds _ (both-left (eqb r (rowIn h)) (eqb (4 - d) (lastIn h)) k)) in
+      let c = eqb-true (4 - d) (lastIn h) (holds _ (both-right (eqb r (rowIn h)) (eqb (4 - d) (lastIn h)) k)) in
+      (a, q ∙ ap (λ x. Placed (reachedOf p level n r x)) c ∙ ap (λ x. Placed (reachedOf p level n x (lastIn h))) b ∙ ap (λ x. Placed (reachedOf p x n (rowIn h) (lastIn h))) a)
 
-  said-is : (level r d n : ℕ) → T (saysHint e level r d) → s ≡ Placed (reachedOf p level n r (4 - d)) → Said n
-  said-is level r d n h q =
-      let a = level-said level r d h in
-      let k = both-right (eqb level (levelIn e)) (both (eqb r (rowIn e)) (eqb (4 - d) (lastIn e))) h in
-      let b = eqb-true r (rowIn e) (holds _ (both-left (eqb r (rowIn e)) (eqb (4 - d) (lastIn e)) k)) in
-      let c = eqb-true (4 - d) (lastIn e) (holds _ (both-right (eqb r (rowIn e)) (eqb (4 - d) (lastIn e)) k)) in
-      q ∙ ap (λ x. Placed (reachedOf p level n r x)) c ∙ ap (λ x. Placed (reachedOf p level n x (lastIn e))) b ∙ ap (λ x. Placed (reachedOf p x n (rowIn e) (lastIn e))) a
+  told-said : (x : Told) → T (agrees t h x) → Meets t p x s → enteredIn p h < kindIn h .number → Said (enteredIn p h + 1)
+  told-said (More row level r d) g m l =
+      let e = eqb-true (kindIn h .again) 1 (holds _ (both-left (eqb (kindIn h .again) 1) (both (leb (kindIn h .number) (most t row)) (saysHint h level r d)) g)) in
+      let k = both-right (eqb (kindIn h .again) 1) (both (leb (kindIn h .number) (most t row)) (saysHint h level r d)) g in
+      let w = leb-true (kindIn h .number) (most t row) (holds _ (both-left (leb (kindIn h .number) (most t row)) (saysHint h level r d) k)) in
+      let y = both-right (leb (kindIn h .number) (most t row)) (saysHint h level r d) k in
+      let a = eqb-true level (kindIn h .level) (holds _ (both-left (eqb level (kindIn h .level)) (both (eqb r (rowIn h)) (eqb (4 - d) (lastIn h))) y)) in
+      let o : countAt p level ≡ enteredIn p h = once (kindIn h .again) (countAt p (kindIn h .level)) e (countAt p level) (ap (countAt p) a) in
+      let v : countAt p level < most t row = omega arith in
+      subst (λ x. Said (x + 1)) o (said-is level r d (countAt p level + 1) y (m v) .1)
+  told-said (Next level r d) g m l =
+      let e = eqb-true (kindIn h .again) 0 (holds _ (both-left (eqb (kindIn h .again) 0) (saysHint h level r d) g)) in
+      let y = both-right (eqb (kindIn h .again) 0) (saysHint h level r d) g in
+      let o : 0 ≡ enteredIn p h = never (kindIn h .again) (countAt p (kindIn h .level)) e in
+      subst (λ x. Said (x + 1)) o (said-is level r d 1 y m .1)
+  told-said Silent g m l = absurd g
 
-  next-said : (x : Told) → T (agrees e x) → Meets t p x s → e < 8192 → Said 1
-  next-said (More row level r d) h m l =
-      let k = leb-true 8192 e (holds _ (both-left (leb 8192 e) (both (eqb row (enteredIn e)) (saysHint e level r d)) h)) in
-      absurd (omega arith)
-  next-said (Next level r d) h m l = said-is level r d 1 (both-right (ltb e 8192) (saysHint e level r d) h) m
-  next-said Silent h m l = absurd h
+-- what is told of a row that has come
+behind-meets : (t : Table) (p : Place) (tag : ℕ) → Stood t p → Meets t p (hintTold t tag (p .row)) (stepOf t p tag)
+behind-meets t p tag w =
+    choose (ltb 1 (most t (p .row)))
+    (λ b. rw (b, sym (step-start t p tag (levelOf t (p .row)) refl)) (told-meets t p tag (levelOf t (p .row)) (p .row)))
+    (λ b.
+    let l = ltb-false 1 (most t (p .row)) b in
+    rw (b, sym (step-start t p tag (levelOf t (p .row)) refl)) (anew-meets t p tag (levelOf t (p .row)) (p .row) (omega arith)))
 
-  more-said : (x : Told) → T (agrees e x) → Meets t p x s → 8192 ≤ e → countAt p (levelIn e) < most t (enteredIn e) → Said (countAt p (levelIn e) + 1)
-  more-said (More row level r d) h m g l =
-      let k = both-right (leb 8192 e) (both (eqb row (enteredIn e)) (saysHint e level r d)) h in
-      let w = eqb-true row (enteredIn e) (holds _ (both-left (eqb row (enteredIn e)) (saysHint e level r d) k)) in
-      let y = both-right (eqb row (enteredIn e)) (saysHint e level r d) k in
-      let a = level-said level r d y in
-      let l₁ = subst (λ x. countAt p x < most t (enteredIn e)) (sym a) l in
-      let l₂ = subst (λ x. countAt p level < most t x) (sym w) l₁ in
-      subst (λ x. Said (countAt p x + 1)) a (said-is level r d (countAt p level + 1) y (m l₂))
-  more-said (Next level r d) h m g l =
-      let k = ltb-true e 8192 (holds _ (both-left (ltb e 8192) (saysHint e level r d) h)) in
-      absurd (omega arith)
-  more-said Silent h m g l = absurd h
+-- A right hint that its number allows: the step to its row, which stands at the level of its last count; never for UIT.
+module _ (t : Table) (p : Place) (h : ℕ) (g : T (hintRight t (p .row) h)) where
+  abbrev parts : Bool
+  parts = both (agrees t h (hintTold t (tagAt t (rowIn h)) (p .row))) (both (eqb (levelOf t (rowIn h)) (lastIn h)) (not (eqb (tagAt t (rowIn h)) UIT)))
 
--- A step by one hint
-
-module _ (t : Table) (p : Place) (tag e : ℕ) where
-  abbrev Right : Type 0
-  Right = quickBy t p tag e (timesOf t p tag e) ≡ stepOf t p tag
-
-  untold : 0 ≡ timesOf t p tag e → Right
-  untold q = rw (sym q)
-
-  told : (n : ℕ) → n ≡ timesOf t p tag e → (n ≡ 0 → ⊥) → Said t p e (stepOf t p tag) n → Right
-  told n q z s = let b = ne-eqb n 0 z in rw (sym q, b) (sym s)
-
-  told-more : (x : Told) → T (agrees e x) → Meets t p x (stepOf t p tag) → 8192 ≤ e → moreOf t p e ≡ timesOf t p tag e → Right
-  told-more x h m g q =
-      elim (decLt (countAt p (levelIn e)) (most t (enteredIn e))) [
-        | yes l ↦
-            let w : countAt p (levelIn e) + 1 ≡ moreOf t p e = rw (lt-ltb (countAt p (levelIn e)) (most t (enteredIn e)) l) in
-            told (countAt p (levelIn e) + 1) (w ∙ q) (omega arith) (more-said t p e (stepOf t p tag) x h m g l)
-        | no l ↦
-            let k : most t (enteredIn e) ≤ countAt p (levelIn e) = omega arith in
-            let w : 0 ≡ moreOf t p e = rw (le-ltb (countAt p (levelIn e)) (most t (enteredIn e)) k) in
-            untold (w ∙ q)
-      ]
-
-  told-step : Meets t p (toldFrom (levelOf t (p .row)) t tag (p .row)) (stepOf t p tag)
-  told-step = rw (sym (step-start t p tag (levelOf t (p .row)) refl)) (told-meets t p tag (levelOf t (p .row)) (p .row))
-
-  anew-step : levelOf t (p .row) ≡ levelIn e + 1 → most t (p .row) ≤ countAt p (levelIn e + 1) → Meets t p (anewFrom (levelOf t (p .row)) t tag (p .row)) (stepOf t p tag)
-  anew-step k l =
-      rw (sym (step-start t p tag (levelOf t (p .row)) refl))
-      (anew-meets t p tag (levelOf t (p .row)) (p .row) (subst (λ x. most t (p .row) ≤ countAt p x) (sym k) l))
-
-  deeper-is : T (deeper t (p .row) e) → ltb e 16384 ≡ false → levelOf t (p .row) ≡ levelIn e + 1
-  deeper-is h b = eqb-true (levelOf t (p .row)) (levelIn e + 1) (holds _ (rw b at h))
-
-  right-told : T (deeper t (p .row) e) → T (agrees e (hintTold (ltb e 16384) t tag (p .row))) → (e ≡ 0 → ⊥) → tagAt t (rowIn e) ≡ tag → Right
-  right-told d h z k =
-      choose (ltb e 8192) (λ a.
-      let l = ltb-true e 8192 a in
-      let b : ltb e 16384 ≡ true = lt-ltb e 16384 (omega arith) in
-      told 1 (times-later t p e tag z (tagAt t (rowIn e)) refl k l) (omega arith)
-      (next-said t p e (stepOf t p tag) (toldFrom (levelOf t (p .row)) t tag (p .row)) (rw b at h) told-step l)) (λ a.
-      let g = ltb-false e 8192 a in
-      let r = times-repeated t p e tag z (tagAt t (rowIn e)) refl k g in
-      choose (ltb e 16384) (λ b.
-      told-more (toldFrom (levelOf t (p .row)) t tag (p .row)) (rw b at h) told-step g (repeated-again t p e (ltb-true e 16384 b) ∙ r)) (λ b.
-      let w = ltb-false e 16384 b in
-      choose (unused t p e) (λ u.
-      untold (repeated-unused t p e w (ltb-true (countAt p (levelIn e + 1)) (most t (p .row)) u) ∙ r)) (λ u.
-      let l = ltb-false (countAt p (levelIn e + 1)) (most t (p .row)) u in
-      told-more (anewFrom (levelOf t (p .row)) t tag (p .row)) (rw b at h) (anew-step (deeper-is d b) l) g (repeated-anew t p e w l ∙ r))))
-
-  right-hint : T (hintRight t (p .row) e) → Right
+  pub hint-row : rowIn h < rows t
   unfolding hintRight
-  right-hint h =
-      choose (eqb e 0) (λ z. untold (times-none t p e tag (eqb-true e 0 z))) (λ z.
-      let n = eqb-false e 0 z in
-      let d = both-left (deeper t (p .row) e) (agrees e (hintTold (ltb e 16384) t (tagAt t (rowIn e)) (p .row))) (rw z at h) in
-      let m = both-right (deeper t (p .row) e) (agrees e (hintTold (ltb e 16384) t (tagAt t (rowIn e)) (p .row))) (rw z at h) in
-      choose (eqb (tagAt t (rowIn e)) tag) (λ k.
-      let q = eqb-true (tagAt t (rowIn e)) tag k in
-      right-told d (subst (λ x. T (agrees e (hintTold (ltb e 16384) t x (p .row)))) q m) n q) (λ k.
-      untold (times-other t p e tag n (tagAt t (rowIn e)) refl (eqb-false (tagAt t (rowIn e)) tag k))))
+  hint-row = ltb-true (rowIn h) (rows t) (holds _ (both-left (ltb (rowIn h) (rows t)) (either (eqb (h % 32) 0) parts) g))
 
--- Every hint of a list
+  module _ (z : h % 32 ≡ 0 → ⊥) where
+    right-parts : T parts
+    unfolding hintRight
+    right-parts = other (eqb (h % 32) 0) (both-right (ltb (rowIn h) (rows t)) (either (eqb (h % 32) 0) parts) g) (λ q. z (eqb-true (h % 32) 0 q))
+      where
+        other : (b : Bool) → T (either b parts) → (b ≡ true → ⊥) → T parts
+        other true q n = absurd (n refl)
+        other false q n = q
 
-module _ (t : Table) where
-  no-hint : (row e : ℕ) → e ≡ 0 → T (hintRight t row e)
+    pub hint-step : Stood t p → enteredIn p h < kindIn h .number
+        → stepOf t p (tagAt t (rowIn h)) ≡ Placed (reachedOf p (kindIn h .level) (enteredIn p h + 1) (rowIn h) (lastIn h))
+    hint-step w l =
+        told-said t p h (stepOf t p (tagAt t (rowIn h))) (hintTold t (tagAt t (rowIn h)) (p .row))
+        (both-left (agrees t h (hintTold t (tagAt t (rowIn h)) (p .row))) (both (eqb (levelOf t (rowIn h)) (lastIn h)) (not (eqb (tagAt t (rowIn h)) UIT))) right-parts)
+        (behind-meets t p (tagAt t (rowIn h)) w) l
+
+    pub hint-level : levelOf t (rowIn h) ≡ lastIn h
+    hint-level =
+        eqb-true (levelOf t (rowIn h)) (lastIn h) (holds _ (both-left (eqb (levelOf t (rowIn h)) (lastIn h)) (not (eqb (tagAt t (rowIn h)) UIT))
+        (both-right (agrees t h (hintTold t (tagAt t (rowIn h)) (p .row))) (both (eqb (levelOf t (rowIn h)) (lastIn h)) (not (eqb (tagAt t (rowIn h)) UIT))) right-parts)))
+
+    pub hint-inside : tagAt t (rowIn h) ≡ UIT → ⊥
+    hint-inside =
+        eqb-false (tagAt t (rowIn h)) UIT (refuted _ (both-right (eqb (levelOf t (rowIn h)) (lastIn h)) (not (eqb (tagAt t (rowIn h)) UIT))
+        (both-right (agrees t h (hintTold t (tagAt t (rowIn h)) (p .row))) (both (eqb (levelOf t (rowIn h)) (lastIn h)) (not (eqb (tagAt t (rowIn h)) UIT))) right-parts)))
+
+-- Each of the hints is right
+
+module _ (t : Table) (z : 0 < rows t) where
+  none-right : (row : ℕ) → T (hintRight t row 0)
   unfolding hintRight
-  no-hint row e z = rw (eq-eqb e 0 z) tt
+  none-right row = rw (lt-ltb 0 (rows t) z) tt
 
-  word-right : (i : ℕ) (l : List ℕ) → T (rightFrom t i l) → (k : ℕ) → k < length l → T (wordBy (eqb (getD l k 0) 0) t ((i + k) / 4) (getD l k 0))
+  row-right : (row : ℕ) (l : List ℕ) → T (all (hintRight t row) l) → (j : ℕ) → T (hintRight t row (getD l j 0))
+  row-right row [] g zero = none-right row
+  row-right row [] g (suc j) = none-right row
+  row-right row (h ∷ l) g zero = both-left (hintRight t row h) (all (hintRight t row) l) g
+  row-right row (h ∷ l) g (suc j) = row-right row l (both-right (hintRight t row h) (all (hintRight t row) l) g) j
+
+  rows-right : (i : ℕ) (l : List (List ℕ)) → T (rightFrom t i l) → (k j : ℕ) → T (hintRight t (i + k) (getD (getD l k []) j 0))
   unfolding rightFrom
-  word-right i [] h k l = absurd (omega arith)
-  word-right i (w ∷ r) h zero l =
-      let z : i + 0 ≡ i = omega arith in
-      rw z (both-left (wordBy (eqb w 0) t (i / 4) w) (rightFrom t (suc i) r) h)
-  word-right i (w ∷ r) h (suc k) l =
+  rows-right i [] g zero j = row-right (i + 0) [] tt j
+  rows-right i [] g (suc k) j = row-right (i + suc k) [] tt j
+  rows-right i (r ∷ l) g zero j = rw (add-zero i) (row-right i r (both-left (all (hintRight t i) r) (rightFrom t (suc i) l) g) j)
+  rows-right i (r ∷ l) g (suc k) j =
       let z : i + suc k ≡ suc i + k = omega arith in
-      rw z (word-right (suc i) r (both-right (wordBy (eqb w 0) t (i / 4) w) (rightFrom t (suc i) r) h) k (omega arith))
+      rw z (rows-right (suc i) l (both-right (all (hintRight t i) r) (rightFrom t (suc i) l) g) k j)
 
-  lane-none : (k : ℕ) → laneOf 0 k ≡ 0
-  lane-none k = rw (zero-div (2 ^ (16 * k)))
+pub each-right : (t : Table) (l : List (List ℕ)) → T (right t l) → (row j : ℕ) → T (hintRight t row (getD (getD l row []) j 0))
+each-right t l g row j =
+    let z = ltb-true 0 (rows t) (holds _ (both-left (ltb 0 (rows t)) (rightFrom t 0 l) g)) in
+    subst (λ x. T (hintRight t x (getD (getD l row []) j 0))) (zero-add row) (rows-right t z 0 l (both-right (ltb 0 (rows t)) (rightFrom t 0 l) g) row j)
 
-  lane-right : (row w k : ℕ) → T (wordBy (eqb w 0) t row w) → k < 4 → T (hintRight t row (laneOf w k))
-  lane-right row w k h l =
-      choose (eqb w 0) (λ z. no-hint row (laneOf w k) (ap (λ x. laneOf x k) (eqb-true w 0 z) ∙ lane-none k)) (λ z. at (λ k. hintRight t row (laneOf w k)) 4 (rw z at h) k l)
-
-  hint-right : (hints : List ℕ) → T (right t hints) → (row tag : ℕ) → T (hintRight t row (hintAt hints row tag))
-  unfolding hintAt
-  hint-right hints h row tag =
-      choose (ltb row (length hints / 4)) (λ a.
-      let b = ltb-true row (length hints / 4) a in
-      let k = row * 4 + hintSlot tag / 4 in
-      let w = word-right 0 hints h k (omega arith) in
-      let z : (0 + k) / 4 ≡ row = omega arith in
-      rw a (lane-right row (getD hints k 0) (hintSlot tag % 4) (rw z at w) (omega arith))) (λ a.
-      rw a (no-hint row 0 refl))
-
--- A step by hints that are right is the step of the placing rule.
-pub quick-is-step : (t : Table) (hints : List ℕ) → T (right t hints) → (p : Place) (tag : ℕ) → quickOf t hints p tag ≡ stepOf t p tag
-unfolding quickOf
-quick-is-step t hints h p tag = right-hint t p tag (hintAt hints (p .row) tag) (hint-right t hints h (p .row) tag)
-
--- so is a step by a type's own hints in its own table
-pub quick-own : (message : MessageType) (p : Place) (tag : ℕ) → quickOf (tableOf message) (hintsOf message) p tag ≡ stepOf (tableOf message) p tag
-quick-own Skdupd = rw (tables.skdupd-own, hints.skdupd-own) (quick-is-step skdupdTable skdupdHints skdupd-right)
-quick-own Tsdupd = rw (tables.tsdupd-own, hints.tsdupd-own) (quick-is-step tsdupdTable tsdupdHints tsdupd-right)
+-- a type's own hints are right for its own table, and as many
+pub own-right : (message : MessageType) → T (right (tableOf message) (hintsOf message))
+own-right Skdupd = rw (tables.skdupd-own, hints.skdupd-own) skdupd-right
+own-right Tsdupd = rw (tables.tsdupd-own, hints.tsdupd-own) tsdupd-right

@@ -1,8 +1,10 @@
+pub mod Kinds
 pub mod Hint
 pub mod SkdupdHints
 pub mod TsdupdHints
 pub mod Hints
-pub mod Ways
 pub mod Told
 pub mod Right
 pub mod Laws
+pub mod Packing
+pub mod Onward

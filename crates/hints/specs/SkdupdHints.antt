@@ -1,284 +1,124 @@
--- The hints for SKDUPD: for each row of its table sixteen, four to a word. Assumes nothing.
--- That each is right is the law in Right.antt. MES after POR has none: its place is taken by the one for TRF.
+-- The hints for SKDUPD: for each row of its table those that lead on from it, and where each stands among the row's sixteen. Assumes nothing.
+-- That each is right is the law in Right.antt.
 use mathlib.Core.List.{List, [], _∷_}
 use Prim.Native.Nat.{ℕ}
-use Rattle.hints.specs.Hint.{word, wordless, noHint, laterHint, laterGroup, againHint, onceMore, anew}
+use Rattle.placing.specs.Skdupd.{skdupdTable}
+use Rattle.hints.specs.Kinds.{laterHint, laterGroup, againHint, onceMore}
+use Rattle.hints.specs.Hint.{laidOut}
 
-unfoldable pub skdupdHints : List ℕ
-skdupdHints =
+unfoldable pub skdupdOnward : List (List ℕ)
+skdupdOnward =
     -- row 0, UIH
-    wordless ∷
-    wordless ∷
-    wordless ∷
-    word noHint noHint (laterHint 0 1) noHint ∷
+    (laterHint 0 1 ∷ []) ∷
     -- row 1, MSD
-    wordless ∷
-    word (laterHint 0 2) noHint noHint noHint ∷
-    wordless ∷
-    wordless ∷
+    (laterHint 0 2 ∷ []) ∷
     -- row 2, ORG
-    word noHint (laterHint 0 3) noHint noHint ∷
-    wordless ∷
-    wordless ∷
-    wordless ∷
+    (laterHint 0 3 ∷ []) ∷
     -- row 3, HDR
-    word (laterGroup 0 11) noHint noHint noHint ∷
-    word noHint noHint (laterGroup 0 7) noHint ∷
-    word noHint (laterHint 0 4) (laterHint 0 5) noHint ∷
-    wordless ∷
+    (laterHint 0 4 ∷ laterHint 0 5 ∷ laterGroup 0 7 ∷ laterGroup 0 11 ∷ []) ∷
     -- row 4, IFT
-    word (laterGroup 0 11) noHint noHint noHint ∷
-    word noHint noHint (laterGroup 0 7) noHint ∷
-    word noHint noHint (laterHint 0 5) noHint ∷
-    wordless ∷
+    (laterHint 0 5 ∷ laterGroup 0 7 ∷ laterGroup 0 11 ∷ []) ∷
     -- row 5, RFR
-    word (laterGroup 0 11) noHint noHint noHint ∷
-    word noHint noHint (laterGroup 0 7) noHint ∷
-    word noHint noHint (againHint 0 5) noHint ∷
-    wordless ∷
+    (againHint 0 9 5 ∷ laterGroup 0 7 ∷ laterGroup 0 11 ∷ []) ∷
     -- row 6, group
-    wordless ∷
-    wordless ∷
-    wordless ∷
-    wordless ∷
+    [] ∷
     -- row 7, ERI
-    word (laterGroup 0 11) noHint noHint noHint ∷
-    word noHint noHint (anew 0 7) noHint ∷
-    word noHint (laterHint 1 9) (laterHint 1 8) noHint ∷
-    wordless ∷
+    (onceMore 0 99 7 ∷ laterHint 1 8 ∷ laterHint 1 9 ∷ laterGroup 0 11 ∷ []) ∷
     -- row 8, RFR
-    word (laterGroup 0 11) noHint noHint noHint ∷
-    word noHint noHint (onceMore 0 7) noHint ∷
-    word noHint (laterHint 1 9) noHint noHint ∷
-    wordless ∷
+    (onceMore 0 99 7 ∷ laterHint 1 9 ∷ laterGroup 0 11 ∷ []) ∷
     -- row 9, IFT
-    word (laterGroup 0 11) noHint noHint noHint ∷
-    word noHint noHint (onceMore 0 7) noHint ∷
-    wordless ∷
-    wordless ∷
+    (onceMore 0 99 7 ∷ laterGroup 0 11 ∷ []) ∷
     -- row 10, group
-    wordless ∷
-    wordless ∷
-    wordless ∷
-    wordless ∷
+    [] ∷
     -- row 11, PRD
-    word (anew 0 11) (laterGroup 1 19) (laterGroup 1 22) noHint ∷
-    word (laterHint 1 14) (laterHint 0 54) noHint noHint ∷
-    word (laterHint 1 15) (laterHint 1 13) (laterHint 1 17) noHint ∷
-    word (laterHint 1 12) noHint (laterHint 1 16) noHint ∷
+    (onceMore 0 16383 11 ∷ laterHint 1 12 ∷ laterHint 1 13 ∷ laterHint 1 14 ∷ laterHint 1 15 ∷ laterHint 1 16 ∷ laterHint 1 17 ∷ laterGroup 1 19 ∷ laterGroup 1 22 ∷ []) ∷
     -- row 12, PDT
-    word (onceMore 0 11) (laterGroup 1 19) (laterGroup 1 22) noHint ∷
-    word (laterHint 1 14) (laterHint 0 54) noHint noHint ∷
-    word (laterHint 1 15) (laterHint 1 13) (laterHint 1 17) noHint ∷
-    word (againHint 1 12) noHint (laterHint 1 16) noHint ∷
+    (onceMore 0 16383 11 ∷ againHint 1 3 12 ∷ laterHint 1 13 ∷ laterHint 1 14 ∷ laterHint 1 15 ∷ laterHint 1 16 ∷ laterHint 1 17 ∷ laterGroup 1 19 ∷ laterGroup 1 22 ∷ []) ∷
     -- row 13, IFT
-    word (onceMore 0 11) (laterGroup 1 19) (laterGroup 1 22) noHint ∷
-    word (laterHint 1 14) (laterHint 0 54) noHint noHint ∷
-    word (laterHint 1 15) (againHint 1 13) (laterHint 1 17) noHint ∷
-    word noHint noHint (laterHint 1 16) noHint ∷
+    (onceMore 0 16383 11 ∷ againHint 1 9 13 ∷ laterHint 1 14 ∷ laterHint 1 15 ∷ laterHint 1 16 ∷ laterHint 1 17 ∷ laterGroup 1 19 ∷ laterGroup 1 22 ∷ []) ∷
     -- row 14, TRF
-    word (onceMore 0 11) (laterGroup 1 19) (laterGroup 1 22) noHint ∷
-    word (againHint 1 14) (laterHint 0 54) noHint noHint ∷
-    word (laterHint 1 15) noHint (laterHint 1 17) noHint ∷
-    word noHint noHint (laterHint 1 16) noHint ∷
+    (onceMore 0 16383 11 ∷ againHint 1 9 14 ∷ laterHint 1 15 ∷ laterHint 1 16 ∷ laterHint 1 17 ∷ laterGroup 1 19 ∷ laterGroup 1 22 ∷ []) ∷
     -- row 15, ASD
-    word (onceMore 0 11) (laterGroup 1 19) (laterGroup 1 22) noHint ∷
-    word noHint (laterHint 0 54) noHint noHint ∷
-    word (againHint 1 15) noHint (laterHint 1 17) noHint ∷
-    word noHint noHint (laterHint 1 16) noHint ∷
+    (onceMore 0 16383 11 ∷ againHint 1 99 15 ∷ laterHint 1 16 ∷ laterHint 1 17 ∷ laterGroup 1 19 ∷ laterGroup 1 22 ∷ []) ∷
     -- row 16, MSD
-    word (onceMore 0 11) (laterGroup 1 19) (laterGroup 1 22) noHint ∷
-    word noHint (laterHint 0 54) noHint noHint ∷
-    word noHint noHint (laterHint 1 17) noHint ∷
-    wordless ∷
+    (onceMore 0 16383 11 ∷ laterHint 1 17 ∷ laterGroup 1 19 ∷ laterGroup 1 22 ∷ []) ∷
     -- row 17, RFR
-    word (onceMore 0 11) (laterGroup 1 19) (laterGroup 1 22) noHint ∷
-    word noHint (laterHint 0 54) noHint noHint ∷
-    word noHint noHint (againHint 1 17) noHint ∷
-    wordless ∷
+    (onceMore 0 16383 11 ∷ againHint 1 9 17 ∷ laterGroup 1 19 ∷ laterGroup 1 22 ∷ []) ∷
     -- row 18, group
-    wordless ∷
-    wordless ∷
-    wordless ∷
-    wordless ∷
+    [] ∷
     -- row 19, SER
-    word (onceMore 0 11) (anew 1 19) (laterGroup 1 22) noHint ∷
-    word noHint (laterHint 0 54) noHint noHint ∷
-    word (laterHint 2 20) noHint noHint noHint ∷
-    wordless ∷
+    (onceMore 0 16383 11 ∷ onceMore 1 99 19 ∷ laterHint 2 20 ∷ laterGroup 1 22 ∷ []) ∷
     -- row 20, ASD
-    word (onceMore 0 11) (onceMore 1 19) (laterGroup 1 22) noHint ∷
-    word noHint (laterHint 0 54) noHint noHint ∷
-    wordless ∷
-    wordless ∷
+    (onceMore 0 16383 11 ∷ onceMore 1 99 19 ∷ laterGroup 1 22 ∷ []) ∷
     -- row 21, group
-    wordless ∷
-    wordless ∷
-    wordless ∷
-    wordless ∷
+    [] ∷
     -- row 22, POP
-    word (onceMore 0 11) (laterGroup 2 29) (anew 1 22) (laterHint 2 27) ∷
-    word (laterHint 2 25) (laterHint 0 54) (laterGroup 2 32) noHint ∷
-    word (laterHint 2 26) (laterHint 2 24) noHint noHint ∷
-    word (laterHint 2 23) (laterGroup 2 45) (laterGroup 2 35) noHint ∷
+    (onceMore 0 16383 11 ∷ onceMore 1 999 22 ∷ laterHint 2 23 ∷ laterHint 2 24 ∷ laterHint 2 25 ∷ laterHint 2 26 ∷ laterHint 2 27 ∷ laterGroup 2 29 ∷ laterGroup 2 32 ∷ laterGroup 2 35 ∷ laterGroup 2 45 ∷ []) ∷
     -- row 23, PDT
-    word (onceMore 0 11) (laterGroup 2 29) (onceMore 1 22) (laterHint 2 27) ∷
-    word (laterHint 2 25) (laterHint 0 54) (laterGroup 2 32) noHint ∷
-    word (laterHint 2 26) (laterHint 2 24) noHint noHint ∷
-    word (againHint 2 23) (laterGroup 2 45) (laterGroup 2 35) noHint ∷
+    (onceMore 0 16383 11 ∷ onceMore 1 999 22 ∷ againHint 2 3 23 ∷ laterHint 2 24 ∷ laterHint 2 25 ∷ laterHint 2 26 ∷ laterHint 2 27 ∷ laterGroup 2 29 ∷ laterGroup 2 32 ∷ laterGroup 2 35 ∷ laterGroup 2 45 ∷ []) ∷
     -- row 24, IFT
-    word (onceMore 0 11) (laterGroup 2 29) (onceMore 1 22) (laterHint 2 27) ∷
-    word (laterHint 2 25) (laterHint 0 54) (laterGroup 2 32) noHint ∷
-    word (laterHint 2 26) noHint noHint noHint ∷
-    word noHint (laterGroup 2 45) (laterGroup 2 35) noHint ∷
+    (onceMore 0 16383 11 ∷ onceMore 1 999 22 ∷ laterHint 2 25 ∷ laterHint 2 26 ∷ laterHint 2 27 ∷ laterGroup 2 29 ∷ laterGroup 2 32 ∷ laterGroup 2 35 ∷ laterGroup 2 45 ∷ []) ∷
     -- row 25, TRF
-    word (onceMore 0 11) (laterGroup 2 29) (onceMore 1 22) (laterHint 2 27) ∷
-    word (againHint 2 25) (laterHint 0 54) (laterGroup 2 32) noHint ∷
-    word (laterHint 2 26) noHint noHint noHint ∷
-    word noHint (laterGroup 2 45) (laterGroup 2 35) noHint ∷
+    (onceMore 0 16383 11 ∷ onceMore 1 999 22 ∷ againHint 2 9 25 ∷ laterHint 2 26 ∷ laterHint 2 27 ∷ laterGroup 2 29 ∷ laterGroup 2 32 ∷ laterGroup 2 35 ∷ laterGroup 2 45 ∷ []) ∷
     -- row 26, ASD
-    word (onceMore 0 11) (laterGroup 2 29) (onceMore 1 22) (laterHint 2 27) ∷
-    word noHint (laterHint 0 54) (laterGroup 2 32) noHint ∷
-    word (againHint 2 26) noHint noHint noHint ∷
-    word noHint (laterGroup 2 45) (laterGroup 2 35) noHint ∷
+    (onceMore 0 16383 11 ∷ onceMore 1 999 22 ∷ againHint 2 99 26 ∷ laterHint 2 27 ∷ laterGroup 2 29 ∷ laterGroup 2 32 ∷ laterGroup 2 35 ∷ laterGroup 2 45 ∷ []) ∷
     -- row 27, FRQ
-    word (onceMore 0 11) (laterGroup 2 29) (onceMore 1 22) (againHint 2 27) ∷
-    word noHint (laterHint 0 54) (laterGroup 2 32) noHint ∷
-    wordless ∷
-    word noHint (laterGroup 2 45) (laterGroup 2 35) noHint ∷
+    (onceMore 0 16383 11 ∷ onceMore 1 999 22 ∷ againHint 2 9 27 ∷ laterGroup 2 29 ∷ laterGroup 2 32 ∷ laterGroup 2 35 ∷ laterGroup 2 45 ∷ []) ∷
     -- row 28, group
-    wordless ∷
-    wordless ∷
-    wordless ∷
-    wordless ∷
+    [] ∷
     -- row 29, SER
-    word (onceMore 0 11) (anew 2 29) (onceMore 1 22) noHint ∷
-    word noHint (laterHint 0 54) (laterGroup 2 32) noHint ∷
-    word (laterHint 3 30) noHint noHint noHint ∷
-    word noHint (laterGroup 2 45) (laterGroup 2 35) noHint ∷
+    (onceMore 0 16383 11 ∷ onceMore 1 999 22 ∷ onceMore 2 99 29 ∷ laterHint 3 30 ∷ laterGroup 2 32 ∷ laterGroup 2 35 ∷ laterGroup 2 45 ∷ []) ∷
     -- row 30, ASD
-    word (onceMore 0 11) (onceMore 2 29) (onceMore 1 22) noHint ∷
-    word noHint (laterHint 0 54) (laterGroup 2 32) noHint ∷
-    wordless ∷
-    word noHint (laterGroup 2 45) (laterGroup 2 35) noHint ∷
+    (onceMore 0 16383 11 ∷ onceMore 1 999 22 ∷ onceMore 2 99 29 ∷ laterGroup 2 32 ∷ laterGroup 2 35 ∷ laterGroup 2 45 ∷ []) ∷
     -- row 31, group
-    wordless ∷
-    wordless ∷
-    wordless ∷
-    wordless ∷
+    [] ∷
     -- row 32, DTI
-    word (onceMore 0 11) noHint (onceMore 1 22) noHint ∷
-    word noHint (laterHint 0 54) (anew 2 32) noHint ∷
-    word noHint (laterHint 3 33) noHint noHint ∷
-    word noHint (laterGroup 2 45) (laterGroup 2 35) noHint ∷
+    (onceMore 0 16383 11 ∷ onceMore 1 999 22 ∷ onceMore 2 99 32 ∷ laterHint 3 33 ∷ laterGroup 2 35 ∷ laterGroup 2 45 ∷ []) ∷
     -- row 33, IFT
-    word (onceMore 0 11) noHint (onceMore 1 22) noHint ∷
-    word noHint (laterHint 0 54) (onceMore 2 32) noHint ∷
-    word noHint (againHint 3 33) noHint noHint ∷
-    word noHint (laterGroup 2 45) (laterGroup 2 35) noHint ∷
+    (onceMore 0 16383 11 ∷ onceMore 1 999 22 ∷ onceMore 2 99 32 ∷ againHint 3 9 33 ∷ laterGroup 2 35 ∷ laterGroup 2 45 ∷ []) ∷
     -- row 34, group
-    wordless ∷
-    wordless ∷
-    wordless ∷
-    wordless ∷
+    [] ∷
     -- row 35, POR
-    word (onceMore 0 11) (laterHint 3 38) (onceMore 1 22) noHint ∷
-    word (laterHint 3 39) (laterHint 0 54) noHint noHint ∷
-    word (laterHint 3 37) noHint (laterGroup 3 41) noHint ∷
-    word noHint (laterGroup 2 45) (anew 2 35) noHint ∷
+    (onceMore 0 16383 11 ∷ onceMore 1 999 22 ∷ onceMore 2 999 35 ∷ laterHint 3 36 ∷ laterHint 3 37 ∷ laterHint 3 38 ∷ laterHint 3 39 ∷ laterGroup 3 41 ∷ laterGroup 2 45 ∷ []) ∷
     -- row 36, MES
-    word (onceMore 0 11) (laterHint 3 38) (onceMore 1 22) noHint ∷
-    word (laterHint 3 39) (laterHint 0 54) noHint noHint ∷
-    word (laterHint 3 37) noHint (laterGroup 3 41) noHint ∷
-    word noHint (laterGroup 2 45) (onceMore 2 35) noHint ∷
+    (onceMore 0 16383 11 ∷ onceMore 1 999 22 ∷ onceMore 2 999 35 ∷ laterHint 3 37 ∷ laterHint 3 38 ∷ laterHint 3 39 ∷ laterGroup 3 41 ∷ laterGroup 2 45 ∷ []) ∷
     -- row 37, ASD
-    word (onceMore 0 11) (laterHint 3 38) (onceMore 1 22) noHint ∷
-    word (laterHint 3 39) (laterHint 0 54) noHint noHint ∷
-    word (againHint 3 37) noHint (laterGroup 3 41) noHint ∷
-    word noHint (laterGroup 2 45) (onceMore 2 35) noHint ∷
+    (onceMore 0 16383 11 ∷ onceMore 1 999 22 ∷ onceMore 2 999 35 ∷ againHint 3 9 37 ∷ laterHint 3 38 ∷ laterHint 3 39 ∷ laterGroup 3 41 ∷ laterGroup 2 45 ∷ []) ∷
     -- row 38, SER
-    word (onceMore 0 11) (againHint 3 38) (onceMore 1 22) noHint ∷
-    word (laterHint 3 39) (laterHint 0 54) noHint noHint ∷
-    word noHint noHint (laterGroup 3 41) noHint ∷
-    word noHint (laterGroup 2 45) (onceMore 2 35) noHint ∷
+    (onceMore 0 16383 11 ∷ onceMore 1 999 22 ∷ onceMore 2 999 35 ∷ againHint 3 9 38 ∷ laterHint 3 39 ∷ laterGroup 3 41 ∷ laterGroup 2 45 ∷ []) ∷
     -- row 39, TRF
-    word (onceMore 0 11) noHint (onceMore 1 22) noHint ∷
-    word noHint (laterHint 0 54) noHint noHint ∷
-    word noHint noHint (laterGroup 3 41) noHint ∷
-    word noHint (laterGroup 2 45) (onceMore 2 35) noHint ∷
+    (onceMore 0 16383 11 ∷ onceMore 1 999 22 ∷ onceMore 2 999 35 ∷ laterGroup 3 41 ∷ laterGroup 2 45 ∷ []) ∷
     -- row 40, group
-    wordless ∷
-    wordless ∷
-    wordless ∷
-    wordless ∷
+    [] ∷
     -- row 41, RFR
-    word (onceMore 0 11) noHint (onceMore 1 22) (laterHint 4 43) ∷
-    word noHint (laterHint 0 54) noHint noHint ∷
-    word noHint noHint (anew 3 41) (laterHint 4 42) ∷
-    word noHint (laterGroup 2 45) (onceMore 2 35) noHint ∷
+    (onceMore 0 16383 11 ∷ onceMore 1 999 22 ∷ onceMore 2 999 35 ∷ onceMore 3 99 41 ∷ laterHint 4 42 ∷ laterHint 4 43 ∷ laterGroup 2 45 ∷ []) ∷
     -- row 42, RLS
-    word (onceMore 0 11) noHint (onceMore 1 22) (laterHint 4 43) ∷
-    word noHint (laterHint 0 54) noHint noHint ∷
-    word noHint noHint (onceMore 3 41) noHint ∷
-    word noHint (laterGroup 2 45) (onceMore 2 35) noHint ∷
+    (onceMore 0 16383 11 ∷ onceMore 1 999 22 ∷ onceMore 2 999 35 ∷ onceMore 3 99 41 ∷ laterHint 4 43 ∷ laterGroup 2 45 ∷ []) ∷
     -- row 43, TCE
-    word (onceMore 0 11) noHint (onceMore 1 22) (againHint 4 43) ∷
-    word noHint (laterHint 0 54) noHint noHint ∷
-    word noHint noHint (onceMore 3 41) noHint ∷
-    word noHint (laterGroup 2 45) (onceMore 2 35) noHint ∷
+    (onceMore 0 16383 11 ∷ onceMore 1 999 22 ∷ onceMore 2 999 35 ∷ onceMore 3 99 41 ∷ againHint 4 9 43 ∷ laterGroup 2 45 ∷ []) ∷
     -- row 44, group
-    wordless ∷
-    wordless ∷
-    wordless ∷
-    wordless ∷
+    [] ∷
     -- row 45, ODI
-    word (onceMore 0 11) (laterGroup 3 52) (onceMore 1 22) noHint ∷
-    word (laterHint 3 48) (laterHint 0 54) noHint noHint ∷
-    word (laterHint 3 50) (laterHint 3 47) noHint noHint ∷
-    word (laterHint 3 46) (anew 2 45) (laterHint 3 49) noHint ∷
+    (onceMore 0 16383 11 ∷ onceMore 1 999 22 ∷ onceMore 2 999 45 ∷ laterHint 3 46 ∷ laterHint 3 47 ∷ laterHint 3 48 ∷ laterHint 3 49 ∷ laterHint 3 50 ∷ laterGroup 3 52 ∷ []) ∷
     -- row 46, PDT
-    word (onceMore 0 11) (laterGroup 3 52) (onceMore 1 22) noHint ∷
-    word (laterHint 3 48) (laterHint 0 54) noHint noHint ∷
-    word (laterHint 3 50) (laterHint 3 47) noHint noHint ∷
-    word (againHint 3 46) (onceMore 2 45) (laterHint 3 49) noHint ∷
+    (onceMore 0 16383 11 ∷ onceMore 1 999 22 ∷ onceMore 2 999 45 ∷ againHint 3 3 46 ∷ laterHint 3 47 ∷ laterHint 3 48 ∷ laterHint 3 49 ∷ laterHint 3 50 ∷ laterGroup 3 52 ∷ []) ∷
     -- row 47, IFT
-    word (onceMore 0 11) (laterGroup 3 52) (onceMore 1 22) noHint ∷
-    word (laterHint 3 48) (laterHint 0 54) noHint noHint ∷
-    word (laterHint 3 50) noHint noHint noHint ∷
-    word noHint (onceMore 2 45) (laterHint 3 49) noHint ∷
+    (onceMore 0 16383 11 ∷ onceMore 1 999 22 ∷ onceMore 2 999 45 ∷ laterHint 3 48 ∷ laterHint 3 49 ∷ laterHint 3 50 ∷ laterGroup 3 52 ∷ []) ∷
     -- row 48, TRF
-    word (onceMore 0 11) (laterGroup 3 52) (onceMore 1 22) noHint ∷
-    word (againHint 3 48) (laterHint 0 54) noHint noHint ∷
-    word (laterHint 3 50) noHint noHint noHint ∷
-    word noHint (onceMore 2 45) (laterHint 3 49) noHint ∷
+    (onceMore 0 16383 11 ∷ onceMore 1 999 22 ∷ onceMore 2 999 45 ∷ againHint 3 9 48 ∷ laterHint 3 49 ∷ laterHint 3 50 ∷ laterGroup 3 52 ∷ []) ∷
     -- row 49, TFF
-    word (onceMore 0 11) (laterGroup 3 52) (onceMore 1 22) noHint ∷
-    word noHint (laterHint 0 54) noHint noHint ∷
-    word (laterHint 3 50) noHint noHint noHint ∷
-    word noHint (onceMore 2 45) noHint noHint ∷
+    (onceMore 0 16383 11 ∷ onceMore 1 999 22 ∷ onceMore 2 999 45 ∷ laterHint 3 50 ∷ laterGroup 3 52 ∷ []) ∷
     -- row 50, ASD
-    word (onceMore 0 11) (laterGroup 3 52) (onceMore 1 22) noHint ∷
-    word noHint (laterHint 0 54) noHint noHint ∷
-    word (againHint 3 50) noHint noHint noHint ∷
-    word noHint (onceMore 2 45) noHint noHint ∷
+    (onceMore 0 16383 11 ∷ onceMore 1 999 22 ∷ onceMore 2 999 45 ∷ againHint 3 99 50 ∷ laterGroup 3 52 ∷ []) ∷
     -- row 51, group
-    wordless ∷
-    wordless ∷
-    wordless ∷
-    wordless ∷
+    [] ∷
     -- row 52, SER
-    word (onceMore 0 11) (anew 3 52) (onceMore 1 22) noHint ∷
-    word noHint (laterHint 0 54) noHint noHint ∷
-    word (laterHint 4 53) noHint noHint noHint ∷
-    word noHint (onceMore 2 45) noHint noHint ∷
+    (onceMore 0 16383 11 ∷ onceMore 1 999 22 ∷ onceMore 2 999 45 ∷ onceMore 3 99 52 ∷ laterHint 4 53 ∷ []) ∷
     -- row 53, ASD
-    word (onceMore 0 11) (onceMore 3 52) (onceMore 1 22) noHint ∷
-    word noHint (laterHint 0 54) noHint noHint ∷
-    wordless ∷
-    word noHint (onceMore 2 45) noHint noHint ∷
+    (onceMore 0 16383 11 ∷ onceMore 1 999 22 ∷ onceMore 2 999 45 ∷ onceMore 3 99 52 ∷ []) ∷
     -- row 54, UIT
-    wordless ∷
-    wordless ∷
-    wordless ∷
-    wordless ∷
+    [] ∷
     []
+
+unfoldable pub skdupdHints : List (List ℕ)
+skdupdHints = laidOut skdupdTable skdupdOnward

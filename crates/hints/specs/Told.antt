@@ -1,15 +1,15 @@
 -- What may be told of the next place by the row reached and the tag alone, the counts left aside. Assumes nothing.
-use Prim.Native.Nat.{ℕ, zero, suc, _+_, _-_, _/_}
-use mathlib.Core.Bool.{Bool, true, false}
+use Prim.Native.Nat.{ℕ, zero, suc, _-_, _%_}
+use mathlib.Core.Bool.{Bool, true, false, not}
 use mathlib.Core.List.{List, [], _∷_}
 use lib.Dec.{eqb, ltb, leb}
-use Rattle.laws.specs.Choice.{pick, both, either}
-use Rattle.laws.specs.Sweep.{below}
+use Rattle.laws.specs.Choice.{pick, both, either, all}
+use Rattle.messages.specs.Tags.{UIT}
 use Rattle.placing.specs.declared.Fit.{Fit}
 use Rattle.placing.specs.declared.Fit.the-variants.{At, Nowhere}
-use Rattle.placing.specs.Table.{Table, tagAt, levelOf, outer, later}
+use Rattle.placing.specs.Table.{Table, rows, tagAt, most, levelOf, outer, later}
 use Rattle.placing.specs.Rule.{reachable, noneLeft, firstFit, fits}
-use Rattle.hints.specs.Hint.{rowIn, levelIn, lastIn, enteredIn, laneOf}
+use Rattle.hints.specs.Kinds.{rowIn, kindIn, lastIn}
 
 -- the place of a row at a level once more, which leads to a row with so many levels left below it; a later place of a level, likewise; or nothing
 pub data Told : Type 0 where
@@ -44,39 +44,34 @@ unfoldable pub anewFrom : ℕ → Table → ℕ → ℕ → Told
 anewFrom zero t tag row = nextTold 0 (laterFit 0 t tag row) (passed 0 t row) Silent
 anewFrom (suc level) t tag row = nextTold (suc level) (laterFit (suc level) t tag row) (passed (suc level) t row) (toldFrom level t tag (outer t row))
 
-abbrev pub hintTold : Bool → Table → ℕ → ℕ → Told
-hintTold true t tag row = toldFrom (levelOf t row) t tag row
-hintTold false t tag row = anewFrom (levelOf t row) t tag row
+-- what is told of a tag where the row has come at least once: a number of one does not allow it again
+abbrev pub toldBehind : Bool → Table → ℕ → ℕ → Told
+toldBehind true t tag row = toldFrom (levelOf t row) t tag row
+toldBehind false t tag row = anewFrom (levelOf t row) t tag row
 
--- a hint says what is told
+abbrev pub hintTold : Table → ℕ → ℕ → Told
+hintTold t tag row = toldBehind (ltb 1 (most t row)) t tag row
+
+-- a hint says what is told, and allows no more than the table
 abbrev pub saysHint : ℕ → ℕ → ℕ → ℕ → Bool
-saysHint e level r d = both (eqb level (levelIn e)) (both (eqb r (rowIn e)) (eqb (4 - d) (lastIn e)))
+saysHint h level r d = both (eqb level (kindIn h .level)) (both (eqb r (rowIn h)) (eqb (4 - d) (lastIn h)))
 
-abbrev pub agrees : ℕ → Told → Bool
-agrees e (More row level r d) = both (leb 8192 e) (both (eqb row (enteredIn e)) (saysHint e level r d))
-agrees e (Next level r d) = both (ltb e 8192) (saysHint e level r d)
-agrees e Silent = false
+abbrev pub agrees : Table → ℕ → Told → Bool
+agrees t h (More row level r d) = both (eqb (kindIn h .again) 1) (both (leb (kindIn h .number) (most t row)) (saysHint h level r d))
+agrees t h (Next level r d) = both (eqb (kindIn h .again) 0) (saysHint h level r d)
+agrees t h Silent = false
 
--- what the row itself is asked for stands one level deeper than the hint's place
-abbrev pub deeper : Table → ℕ → ℕ → Bool
-deeper t row e = either (ltb e 16384) (eqb (levelOf t row) (levelIn e + 1))
-
--- a hint is right that is none, or that says what is told for the tag of the row it leads to
-abbrev pub rightBy : Bool → Table → ℕ → ℕ → Bool
-rightBy true t row e = true
-rightBy false t row e = both (deeper t row e) (agrees e (hintTold (ltb e 16384) t (tagAt t (rowIn e)) row))
-
+-- a hint is right that is of no kind, or that says what is told for the tag of the row it leads to, at whose level it stands; none is for UIT
 unfoldable pub hintRight : Table → ℕ → ℕ → Bool
-hintRight t row e = rightBy (eqb e 0) t row e
+hintRight t row h =
+    both (ltb (rowIn h) (rows t))
+    (either (eqb (h % 32) 0)
+    (both (agrees t h (hintTold t (tagAt t (rowIn h)) row)) (both (eqb (levelOf t (rowIn h)) (lastIn h)) (not (eqb (tagAt t (rowIn h)) UIT)))))
 
-abbrev pub wordBy : Bool → Table → ℕ → ℕ → Bool
-wordBy true t row w = true
-wordBy false t row w = below (λ k. hintRight t row (laneOf w k)) 4
+unfoldable pub rightFrom : Table → ℕ → List (List ℕ) → Bool
+rightFrom t row [] = true
+rightFrom t row (l ∷ rest) = both (all (hintRight t row) l) (rightFrom t (suc row) rest)
 
-unfoldable pub rightFrom : Table → ℕ → List ℕ → Bool
-rightFrom t i [] = true
-rightFrom t i (w ∷ l) = both (wordBy (eqb w 0) t (i / 4) w) (rightFrom t (suc i) l)
-
--- every hint is right
-abbrev pub right : Table → List ℕ → Bool
-right t hints = rightFrom t 0 hints
+-- every hint is right, and a row that has none has the hint 0
+abbrev pub right : Table → List (List ℕ) → Bool
+right t hints = both (ltb 0 (rows t)) (rightFrom t 0 hints)

@@ -1,254 +1,112 @@
--- The hints for TSDUPD: for each row of its table sixteen, four to a word. Assumes nothing.
+-- The hints for TSDUPD: for each row of its table those that lead on from it, and where each stands among the row's sixteen. Assumes nothing.
 -- That each is right is the law in Right.antt.
 use mathlib.Core.List.{List, [], _∷_}
 use Prim.Native.Nat.{ℕ}
-use Rattle.hints.specs.Hint.{word, wordless, noHint, laterHint, laterGroup, againHint, onceMore, anew}
+use Rattle.placing.specs.Tsdupd.{tsdupdTable}
+use Rattle.hints.specs.Kinds.{laterHint, laterGroup, againHint, onceMore}
+use Rattle.hints.specs.Hint.{laidOut}
 
-unfoldable pub tsdupdHints : List ℕ
-tsdupdHints =
+unfoldable pub tsdupdOnward : List (List ℕ)
+tsdupdOnward =
     -- row 0, UIH
-    wordless ∷
-    wordless ∷
-    wordless ∷
-    word noHint noHint (laterHint 0 1) noHint ∷
+    (laterHint 0 1 ∷ []) ∷
     -- row 1, MSD
-    word noHint (laterHint 0 3) noHint noHint ∷
-    word (laterHint 0 2) (laterHint 0 48) (laterGroup 0 10) (laterGroup 0 42) ∷
-    word noHint (laterHint 0 4) (laterHint 0 5) (laterHint 0 7) ∷
-    word noHint (laterHint 0 6) (laterHint 0 8) (laterGroup 0 14) ∷
+    (laterHint 0 2 ∷ laterHint 0 3 ∷ laterHint 0 4 ∷ laterHint 0 5 ∷ laterHint 0 6 ∷ laterHint 0 7 ∷ laterHint 0 8 ∷ laterGroup 0 10 ∷ laterGroup 0 14 ∷ laterGroup 0 42 ∷ []) ∷
     -- row 2, ORG
-    word noHint (laterHint 0 3) noHint noHint ∷
-    word noHint (laterHint 0 48) (laterGroup 0 10) (laterGroup 0 42) ∷
-    word noHint (laterHint 0 4) (laterHint 0 5) (laterHint 0 7) ∷
-    word noHint (laterHint 0 6) (laterHint 0 8) (laterGroup 0 14) ∷
+    (laterHint 0 3 ∷ laterHint 0 4 ∷ laterHint 0 5 ∷ laterHint 0 6 ∷ laterHint 0 7 ∷ laterHint 0 8 ∷ laterGroup 0 10 ∷ laterGroup 0 14 ∷ laterGroup 0 42 ∷ []) ∷
     -- row 3, HDR
-    wordless ∷
-    word noHint (laterHint 0 48) (laterGroup 0 10) (laterGroup 0 42) ∷
-    word noHint (laterHint 0 4) (laterHint 0 5) (laterHint 0 7) ∷
-    word noHint (laterHint 0 6) (laterHint 0 8) (laterGroup 0 14) ∷
+    (laterHint 0 4 ∷ laterHint 0 5 ∷ laterHint 0 6 ∷ laterHint 0 7 ∷ laterHint 0 8 ∷ laterGroup 0 10 ∷ laterGroup 0 14 ∷ laterGroup 0 42 ∷ []) ∷
     -- row 4, IFT
-    wordless ∷
-    word noHint (laterHint 0 48) (laterGroup 0 10) (laterGroup 0 42) ∷
-    word noHint (againHint 0 4) (laterHint 0 5) (laterHint 0 7) ∷
-    word noHint (laterHint 0 6) (laterHint 0 8) (laterGroup 0 14) ∷
+    (againHint 0 9 4 ∷ laterHint 0 5 ∷ laterHint 0 6 ∷ laterHint 0 7 ∷ laterHint 0 8 ∷ laterGroup 0 10 ∷ laterGroup 0 14 ∷ laterGroup 0 42 ∷ []) ∷
     -- row 5, RFR
-    wordless ∷
-    word noHint (laterHint 0 48) (laterGroup 0 10) (laterGroup 0 42) ∷
-    word noHint noHint noHint (laterHint 0 7) ∷
-    word noHint (laterHint 0 6) (laterHint 0 8) (laterGroup 0 14) ∷
+    (laterHint 0 6 ∷ laterHint 0 7 ∷ laterHint 0 8 ∷ laterGroup 0 10 ∷ laterGroup 0 14 ∷ laterGroup 0 42 ∷ []) ∷
     -- row 6, CNY
-    wordless ∷
-    word noHint (laterHint 0 48) (laterGroup 0 10) (laterGroup 0 42) ∷
-    word noHint noHint noHint (laterHint 0 7) ∷
-    word noHint noHint (laterHint 0 8) (laterGroup 0 14) ∷
+    (laterHint 0 7 ∷ laterHint 0 8 ∷ laterGroup 0 10 ∷ laterGroup 0 14 ∷ laterGroup 0 42 ∷ []) ∷
     -- row 7, TIZ
-    wordless ∷
-    word noHint (laterHint 0 48) (laterGroup 0 10) (laterGroup 0 42) ∷
-    wordless ∷
-    word noHint noHint (laterHint 0 8) (laterGroup 0 14) ∷
+    (laterHint 0 8 ∷ laterGroup 0 10 ∷ laterGroup 0 14 ∷ laterGroup 0 42 ∷ []) ∷
     -- row 8, LNG
-    wordless ∷
-    word noHint (laterHint 0 48) (laterGroup 0 10) (laterGroup 0 42) ∷
-    wordless ∷
-    word noHint noHint noHint (laterGroup 0 14) ∷
+    (laterGroup 0 10 ∷ laterGroup 0 14 ∷ laterGroup 0 42 ∷ []) ∷
     -- row 9, group
-    wordless ∷
-    wordless ∷
-    wordless ∷
-    wordless ∷
+    [] ∷
     -- row 10, ERI
-    wordless ∷
-    word noHint (laterHint 0 48) (anew 0 10) (laterGroup 0 42) ∷
-    word noHint (laterHint 1 12) (laterHint 1 11) noHint ∷
-    word noHint noHint noHint (laterGroup 0 14) ∷
+    (onceMore 0 99 10 ∷ laterHint 1 11 ∷ laterHint 1 12 ∷ laterGroup 0 14 ∷ laterGroup 0 42 ∷ []) ∷
     -- row 11, RFR
-    wordless ∷
-    word noHint (laterHint 0 48) (onceMore 0 10) (laterGroup 0 42) ∷
-    word noHint (laterHint 1 12) noHint noHint ∷
-    word noHint noHint noHint (laterGroup 0 14) ∷
+    (onceMore 0 99 10 ∷ laterHint 1 12 ∷ laterGroup 0 14 ∷ laterGroup 0 42 ∷ []) ∷
     -- row 12, IFT
-    wordless ∷
-    word noHint (laterHint 0 48) (onceMore 0 10) (laterGroup 0 42) ∷
-    wordless ∷
-    word noHint noHint noHint (laterGroup 0 14) ∷
+    (onceMore 0 99 10 ∷ laterGroup 0 14 ∷ laterGroup 0 42 ∷ []) ∷
     -- row 13, group
-    wordless ∷
-    wordless ∷
-    wordless ∷
-    wordless ∷
+    [] ∷
     -- row 14, ALS
-    word (laterGroup 1 28) (laterHint 1 22) (laterHint 1 16) (laterHint 1 17) ∷
-    word (laterHint 1 18) (laterHint 0 48) (laterHint 1 15) (laterGroup 0 42) ∷
-    word (laterGroup 1 25) (laterHint 1 23) (laterGroup 1 34) (laterHint 1 20) ∷
-    word noHint (laterHint 1 19) (laterHint 1 21) (anew 0 14) ∷
+    (onceMore 0 16383 14 ∷ laterHint 1 15 ∷ laterHint 1 16 ∷ laterHint 1 17 ∷ laterHint 1 18 ∷ laterHint 1 19 ∷ laterHint 1 20 ∷ laterHint 1 21 ∷ laterHint 1 22 ∷ laterHint 1 23 ∷ laterGroup 1 25 ∷ laterGroup 1 28 ∷ laterGroup 1 34 ∷ laterGroup 0 42 ∷ []) ∷
     -- row 15, ADS
-    word (laterGroup 1 28) (laterHint 1 22) (laterHint 1 16) (laterHint 1 17) ∷
-    word (laterHint 1 18) (laterHint 0 48) noHint (laterGroup 0 42) ∷
-    word (laterGroup 1 25) (laterHint 1 23) (laterGroup 1 34) (laterHint 1 20) ∷
-    word noHint (laterHint 1 19) (laterHint 1 21) (onceMore 0 14) ∷
+    (onceMore 0 16383 14 ∷ laterHint 1 16 ∷ laterHint 1 17 ∷ laterHint 1 18 ∷ laterHint 1 19 ∷ laterHint 1 20 ∷ laterHint 1 21 ∷ laterHint 1 22 ∷ laterHint 1 23 ∷ laterGroup 1 25 ∷ laterGroup 1 28 ∷ laterGroup 1 34 ∷ laterGroup 0 42 ∷ []) ∷
     -- row 16, POP
-    word (laterGroup 1 28) (laterHint 1 22) (againHint 1 16) (laterHint 1 17) ∷
-    word (laterHint 1 18) (laterHint 0 48) noHint (laterGroup 0 42) ∷
-    word (laterGroup 1 25) (laterHint 1 23) (laterGroup 1 34) (laterHint 1 20) ∷
-    word noHint (laterHint 1 19) (laterHint 1 21) (onceMore 0 14) ∷
+    (onceMore 0 16383 14 ∷ againHint 1 9 16 ∷ laterHint 1 17 ∷ laterHint 1 18 ∷ laterHint 1 19 ∷ laterHint 1 20 ∷ laterHint 1 21 ∷ laterHint 1 22 ∷ laterHint 1 23 ∷ laterGroup 1 25 ∷ laterGroup 1 28 ∷ laterGroup 1 34 ∷ laterGroup 0 42 ∷ []) ∷
     -- row 17, CON
-    word (laterGroup 1 28) (laterHint 1 22) noHint noHint ∷
-    word (laterHint 1 18) (laterHint 0 48) noHint (laterGroup 0 42) ∷
-    word (laterGroup 1 25) (laterHint 1 23) (laterGroup 1 34) (laterHint 1 20) ∷
-    word noHint (laterHint 1 19) (laterHint 1 21) (onceMore 0 14) ∷
+    (onceMore 0 16383 14 ∷ laterHint 1 18 ∷ laterHint 1 19 ∷ laterHint 1 20 ∷ laterHint 1 21 ∷ laterHint 1 22 ∷ laterHint 1 23 ∷ laterGroup 1 25 ∷ laterGroup 1 28 ∷ laterGroup 1 34 ∷ laterGroup 0 42 ∷ []) ∷
     -- row 18, TRF
-    word (laterGroup 1 28) (laterHint 1 22) noHint noHint ∷
-    word noHint (laterHint 0 48) noHint (laterGroup 0 42) ∷
-    word (laterGroup 1 25) (laterHint 1 23) (laterGroup 1 34) (laterHint 1 20) ∷
-    word noHint (laterHint 1 19) (laterHint 1 21) (onceMore 0 14) ∷
+    (onceMore 0 16383 14 ∷ laterHint 1 19 ∷ laterHint 1 20 ∷ laterHint 1 21 ∷ laterHint 1 22 ∷ laterHint 1 23 ∷ laterGroup 1 25 ∷ laterGroup 1 28 ∷ laterGroup 1 34 ∷ laterGroup 0 42 ∷ []) ∷
     -- row 19, CNY
-    word (laterGroup 1 28) (laterHint 1 22) noHint noHint ∷
-    word noHint (laterHint 0 48) noHint (laterGroup 0 42) ∷
-    word (laterGroup 1 25) (laterHint 1 23) (laterGroup 1 34) (laterHint 1 20) ∷
-    word noHint noHint (laterHint 1 21) (onceMore 0 14) ∷
+    (onceMore 0 16383 14 ∷ laterHint 1 20 ∷ laterHint 1 21 ∷ laterHint 1 22 ∷ laterHint 1 23 ∷ laterGroup 1 25 ∷ laterGroup 1 28 ∷ laterGroup 1 34 ∷ laterGroup 0 42 ∷ []) ∷
     -- row 20, TIZ
-    word (laterGroup 1 28) (laterHint 1 22) noHint noHint ∷
-    word noHint (laterHint 0 48) noHint (laterGroup 0 42) ∷
-    word (laterGroup 1 25) (laterHint 1 23) (laterGroup 1 34) noHint ∷
-    word noHint noHint (laterHint 1 21) (onceMore 0 14) ∷
+    (onceMore 0 16383 14 ∷ laterHint 1 21 ∷ laterHint 1 22 ∷ laterHint 1 23 ∷ laterGroup 1 25 ∷ laterGroup 1 28 ∷ laterGroup 1 34 ∷ laterGroup 0 42 ∷ []) ∷
     -- row 21, LNG
-    word (laterGroup 1 28) (laterHint 1 22) noHint noHint ∷
-    word noHint (laterHint 0 48) noHint (laterGroup 0 42) ∷
-    word (laterGroup 1 25) (laterHint 1 23) (laterGroup 1 34) noHint ∷
-    word noHint noHint noHint (onceMore 0 14) ∷
+    (onceMore 0 16383 14 ∷ laterHint 1 22 ∷ laterHint 1 23 ∷ laterGroup 1 25 ∷ laterGroup 1 28 ∷ laterGroup 1 34 ∷ laterGroup 0 42 ∷ []) ∷
     -- row 22, SER
-    word (laterGroup 1 28) noHint noHint noHint ∷
-    word noHint (laterHint 0 48) noHint (laterGroup 0 42) ∷
-    word (laterGroup 1 25) (laterHint 1 23) (laterGroup 1 34) noHint ∷
-    word noHint noHint noHint (onceMore 0 14) ∷
+    (onceMore 0 16383 14 ∷ laterHint 1 23 ∷ laterGroup 1 25 ∷ laterGroup 1 28 ∷ laterGroup 1 34 ∷ laterGroup 0 42 ∷ []) ∷
     -- row 23, IFT
-    word (laterGroup 1 28) noHint noHint noHint ∷
-    word noHint (laterHint 0 48) noHint (laterGroup 0 42) ∷
-    word (laterGroup 1 25) (againHint 1 23) (laterGroup 1 34) noHint ∷
-    word noHint noHint noHint (onceMore 0 14) ∷
+    (onceMore 0 16383 14 ∷ againHint 1 9 23 ∷ laterGroup 1 25 ∷ laterGroup 1 28 ∷ laterGroup 1 34 ∷ laterGroup 0 42 ∷ []) ∷
     -- row 24, group
-    wordless ∷
-    wordless ∷
-    wordless ∷
-    wordless ∷
+    [] ∷
     -- row 25, ASD
-    word (laterGroup 1 28) noHint noHint (laterHint 2 26) ∷
-    word noHint (laterHint 0 48) noHint (laterGroup 0 42) ∷
-    word (anew 1 25) noHint (laterGroup 1 34) noHint ∷
-    word noHint noHint noHint (onceMore 0 14) ∷
+    (onceMore 0 16383 14 ∷ onceMore 1 99 25 ∷ laterHint 2 26 ∷ laterGroup 1 28 ∷ laterGroup 1 34 ∷ laterGroup 0 42 ∷ []) ∷
     -- row 26, CON
-    word (laterGroup 1 28) noHint noHint noHint ∷
-    word noHint (laterHint 0 48) noHint (laterGroup 0 42) ∷
-    word (onceMore 1 25) noHint (laterGroup 1 34) noHint ∷
-    word noHint noHint noHint (onceMore 0 14) ∷
+    (onceMore 0 16383 14 ∷ onceMore 1 99 25 ∷ laterGroup 1 28 ∷ laterGroup 1 34 ∷ laterGroup 0 42 ∷ []) ∷
     -- row 27, group
-    wordless ∷
-    wordless ∷
-    wordless ∷
-    wordless ∷
+    [] ∷
     -- row 28, PRD
-    word (anew 1 28) (laterHint 2 29) noHint (laterHint 2 30) ∷
-    word noHint (laterHint 0 48) noHint (laterGroup 0 42) ∷
-    word noHint (laterHint 2 31) (laterGroup 1 34) noHint ∷
-    word noHint noHint (laterHint 2 32) (onceMore 0 14) ∷
+    (onceMore 0 16383 14 ∷ onceMore 1 99 28 ∷ laterHint 2 29 ∷ laterHint 2 30 ∷ laterHint 2 31 ∷ laterHint 2 32 ∷ laterGroup 1 34 ∷ laterGroup 0 42 ∷ []) ∷
     -- row 29, SER
-    word (onceMore 1 28) noHint noHint (laterHint 2 30) ∷
-    word noHint (laterHint 0 48) noHint (laterGroup 0 42) ∷
-    word noHint (laterHint 2 31) (laterGroup 1 34) noHint ∷
-    word noHint noHint (laterHint 2 32) (onceMore 0 14) ∷
+    (onceMore 0 16383 14 ∷ onceMore 1 99 28 ∷ laterHint 2 30 ∷ laterHint 2 31 ∷ laterHint 2 32 ∷ laterGroup 1 34 ∷ laterGroup 0 42 ∷ []) ∷
     -- row 30, FRQ
-    word (onceMore 1 28) noHint noHint noHint ∷
-    word noHint (laterHint 0 48) noHint (laterGroup 0 42) ∷
-    word noHint (laterHint 2 31) (laterGroup 1 34) noHint ∷
-    word noHint noHint (laterHint 2 32) (onceMore 0 14) ∷
+    (onceMore 0 16383 14 ∷ onceMore 1 99 28 ∷ laterHint 2 31 ∷ laterHint 2 32 ∷ laterGroup 1 34 ∷ laterGroup 0 42 ∷ []) ∷
     -- row 31, IFT
-    word (onceMore 1 28) noHint noHint noHint ∷
-    word noHint (laterHint 0 48) noHint (laterGroup 0 42) ∷
-    word noHint noHint (laterGroup 1 34) noHint ∷
-    word noHint noHint (laterHint 2 32) (onceMore 0 14) ∷
+    (onceMore 0 16383 14 ∷ onceMore 1 99 28 ∷ laterHint 2 32 ∷ laterGroup 1 34 ∷ laterGroup 0 42 ∷ []) ∷
     -- row 32, POR
-    word (onceMore 1 28) noHint noHint noHint ∷
-    word noHint (laterHint 0 48) noHint (laterGroup 0 42) ∷
-    word noHint noHint (laterGroup 1 34) noHint ∷
-    word noHint noHint noHint (onceMore 0 14) ∷
+    (onceMore 0 16383 14 ∷ onceMore 1 99 28 ∷ laterGroup 1 34 ∷ laterGroup 0 42 ∷ []) ∷
     -- row 33, group
-    wordless ∷
-    wordless ∷
-    wordless ∷
-    wordless ∷
+    [] ∷
     -- row 34, RFR
-    word (laterGroup 2 38) noHint noHint noHint ∷
-    word (laterHint 2 35) (laterHint 0 48) noHint (laterGroup 0 42) ∷
-    word noHint noHint (anew 1 34) (laterHint 2 36) ∷
-    word noHint noHint noHint (onceMore 0 14) ∷
+    (onceMore 0 16383 14 ∷ onceMore 1 99 34 ∷ laterHint 2 35 ∷ laterHint 2 36 ∷ laterGroup 2 38 ∷ laterGroup 0 42 ∷ []) ∷
     -- row 35, MES
-    word (laterGroup 2 38) noHint noHint noHint ∷
-    word noHint (laterHint 0 48) noHint (laterGroup 0 42) ∷
-    word noHint noHint (onceMore 1 34) (laterHint 2 36) ∷
-    word noHint noHint noHint (onceMore 0 14) ∷
+    (onceMore 0 16383 14 ∷ onceMore 1 99 34 ∷ laterHint 2 36 ∷ laterGroup 2 38 ∷ laterGroup 0 42 ∷ []) ∷
     -- row 36, RLS
-    word (laterGroup 2 38) noHint noHint noHint ∷
-    word noHint (laterHint 0 48) noHint (laterGroup 0 42) ∷
-    word noHint noHint (onceMore 1 34) noHint ∷
-    word noHint noHint noHint (onceMore 0 14) ∷
+    (onceMore 0 16383 14 ∷ onceMore 1 99 34 ∷ laterGroup 2 38 ∷ laterGroup 0 42 ∷ []) ∷
     -- row 37, group
-    wordless ∷
-    wordless ∷
-    wordless ∷
-    wordless ∷
+    [] ∷
     -- row 38, PRD
-    word (anew 2 38) (laterHint 3 40) (laterHint 3 39) noHint ∷
-    word noHint (laterHint 0 48) noHint (laterGroup 0 42) ∷
-    word noHint noHint (onceMore 1 34) noHint ∷
-    word noHint noHint noHint (onceMore 0 14) ∷
+    (onceMore 0 16383 14 ∷ onceMore 1 99 34 ∷ onceMore 2 99 38 ∷ laterHint 3 39 ∷ laterHint 3 40 ∷ laterGroup 0 42 ∷ []) ∷
     -- row 39, POP
-    word (onceMore 2 38) (laterHint 3 40) noHint noHint ∷
-    word noHint (laterHint 0 48) noHint (laterGroup 0 42) ∷
-    word noHint noHint (onceMore 1 34) noHint ∷
-    word noHint noHint noHint (onceMore 0 14) ∷
+    (onceMore 0 16383 14 ∷ onceMore 1 99 34 ∷ onceMore 2 99 38 ∷ laterHint 3 40 ∷ laterGroup 0 42 ∷ []) ∷
     -- row 40, SER
-    word (onceMore 2 38) noHint noHint noHint ∷
-    word noHint (laterHint 0 48) noHint (laterGroup 0 42) ∷
-    word noHint noHint (onceMore 1 34) noHint ∷
-    word noHint noHint noHint (onceMore 0 14) ∷
+    (onceMore 0 16383 14 ∷ onceMore 1 99 34 ∷ onceMore 2 99 38 ∷ laterGroup 0 42 ∷ []) ∷
     -- row 41, group
-    wordless ∷
-    wordless ∷
-    wordless ∷
-    wordless ∷
+    [] ∷
     -- row 42, NME
-    word noHint noHint noHint (laterHint 1 44) ∷
-    word noHint (laterHint 0 48) (laterHint 1 43) (anew 0 42) ∷
-    word noHint noHint (laterGroup 1 46) noHint ∷
-    wordless ∷
+    (onceMore 0 99 42 ∷ laterHint 1 43 ∷ laterHint 1 44 ∷ laterGroup 1 46 ∷ []) ∷
     -- row 43, ADS
-    word noHint noHint noHint (laterHint 1 44) ∷
-    word noHint (laterHint 0 48) noHint (onceMore 0 42) ∷
-    word noHint noHint (laterGroup 1 46) noHint ∷
-    wordless ∷
+    (onceMore 0 99 42 ∷ laterHint 1 44 ∷ laterGroup 1 46 ∷ []) ∷
     -- row 44, CON
-    wordless ∷
-    word noHint (laterHint 0 48) noHint (onceMore 0 42) ∷
-    word noHint noHint (laterGroup 1 46) noHint ∷
-    wordless ∷
+    (onceMore 0 99 42 ∷ laterGroup 1 46 ∷ []) ∷
     -- row 45, group
-    wordless ∷
-    wordless ∷
-    wordless ∷
-    wordless ∷
+    [] ∷
     -- row 46, RFR
-    wordless ∷
-    word noHint (laterHint 0 48) noHint (onceMore 0 42) ∷
-    word noHint noHint (anew 1 46) (laterHint 2 47) ∷
-    wordless ∷
+    (onceMore 0 99 42 ∷ onceMore 1 99 46 ∷ laterHint 2 47 ∷ []) ∷
     -- row 47, RLS
-    wordless ∷
-    word noHint (laterHint 0 48) noHint (onceMore 0 42) ∷
-    word noHint noHint (onceMore 1 46) noHint ∷
-    wordless ∷
+    (onceMore 0 99 42 ∷ onceMore 1 99 46 ∷ []) ∷
     -- row 48, UIT
-    wordless ∷
-    wordless ∷
-    wordless ∷
-    wordless ∷
+    [] ∷
     []
+
+unfoldable pub tsdupdHints : List (List ℕ)
+tsdupdHints = laidOut tsdupdTable tsdupdOnward

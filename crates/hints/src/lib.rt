@@ -1,131 +1,137 @@
-//! The placing rule of document 01 by hints: the same step as `Place::step`, for fewer instructions.
+//! The placing rule of document 01 by hints: for a row and a tag, the row to which the rule leads, and what becomes of the counts.
+//! A place's counts stand in one number here, fourteen bits a level. A hint is a row and a kind, and a kind three numbers;
+//! each kind has an arm, and so has each number below 32, so that they are looked up with no test.
 pub mod tables;
 
 ghost use mathlib.Core.Path.{_≡_};
-ghost use Prim.Native.Nat.{ℕ};
-ghost use Rattle.hints.specs.Hint.{hintAt, enteredIn, countsOf, allowedOf, repeatedOf, timesOf, quickOf, quickAnswer};
-ghost use Rattle.placing.specs.Answer.{steppedAnswer};
-use placing::Place;
-use placing::Stepped;
-use placing::entry;
+ghost use Rattle.hints.specs.Kinds.{hintSlot, keptMask, boundOf, moreOf};
 
-// How often the place of a level has been entered, and that of the level below.
-struct Pair {
-    own: u32,
-    below: u32,
+/// Which of a row's sixteen hints may tell of a tag. No two tags that may follow on one row have the same.
+pub fn slot_of(tag: u32) -> usize
+    ensures { λ r. ⌜ r ≡ hintSlot tag ⌝ }
+{
+    (((tag as u64 * 60675803) >> 22) % 16) as usize
 }
 
-// The columns of a row that are read here.
-const TAG: usize = 1;
-
-const NUMBER: usize = 3;
-
-// The counts of a level and of the one below it.
-fn counts(place: Place, level: usize) -> Pair
-    ensures { λ r. ⌜ r ≡ countsOf place level ⌝ }
+/// The bits of the counts that stay: those of the levels further out, and those of the level entered where it is entered once more.
+pub fn kept_mask(kind: usize) -> u64
+    ensures { λ r. ⌜ r ≡ keptMask kind ⌝ }
 {
-    if level == 0 {
-        return Pair {
-            own: place.c0,
-            below: place.c1,
-        };
-    }
-    if level == 1 {
-        return Pair {
-            own: place.c1,
-            below: place.c2,
-        };
-    }
-    if level == 2 {
-        return Pair {
-            own: place.c2,
-            below: place.c3,
-        };
-    }
-    if level == 3 {
-        return Pair {
-            own: place.c3,
-            below: place.c4,
-        };
-    }
-    Pair {
-        own: if level == 4 { place.c4 } else { 0 },
-        below: 0,
+    match kind {
+        0 => 0xffff_ffff_ffff_ffff,
+        1 => 0,
+        2 => 0x3fff,
+        3 => 0,
+        4 => 0x3fff,
+        5 => 0x3fff,
+        6 => 0x3fff,
+        7 => 0xfff_ffff,
+        8 => 0xfff_ffff,
+        9 => 0xfff_ffff,
+        10 => 0x3fff,
+        11 => 0xfff_ffff,
+        12 => 0xfff_ffff,
+        13 => 0xfff_ffff,
+        14 => 0x3ff_ffff_ffff,
+        15 => 0x3ff_ffff_ffff,
+        16 => 0x3ff_ffff_ffff,
+        17 => 0xfff_ffff,
+        18 => 0x3ff_ffff_ffff,
+        19 => 0x3ff_ffff_ffff,
+        20 => 0x3ff_ffff_ffff,
+        21 => 0xff_ffff_ffff_ffff,
+        22 => 0xff_ffff_ffff_ffff,
+        23 => 0xff_ffff_ffff_ffff,
+        24 => 0x3ff_ffff_ffff,
+        25 => 0xff_ffff_ffff_ffff,
+        26 => 0xff_ffff_ffff_ffff,
+        27 => 0xffff_ffff_ffff_ffff,
+        28 => 0xffff_ffff_ffff_ffff,
+        29 => 0xffff_ffff_ffff_ffff,
+        30 => 0xffff_ffff_ffff_ffff,
+        31 => 0xffff_ffff_ffff_ffff,
+        _ => 0xffff_ffff_ffff_ffff,
     }
 }
 
-// The hint for a row and a tag, 0 for none.
-fn hint(hints: &[u64], row: usize, tag: u32) -> usize
-    ensures { λ r. ⌜ r ≡ hintAt (now (hints .entry)) row tag ⌝ }
+/// A hint of a kind tells where what stays of the counts is less than this.
+pub fn bound_of(kind: usize) -> u64
+    ensures { λ r. ⌜ r ≡ boundOf kind ⌝ }
 {
-    if row < hints.len() / 4 {
-        let slot = ((tag as u64 * 12510139) >> 21) % 16;
-        let word = hints[row * 4 + (slot / 4) as usize];
-        return ((word >> (16 * (slot % 4))) % 65536) as usize;
+    match kind {
+        0 => 1,
+        1 => 1,
+        2 => 9,
+        3 => 1,
+        4 => 0x63,
+        5 => 0x3fff,
+        6 => 0x4000,
+        7 => 0xc000,
+        8 => 0x2_4000,
+        9 => 0x18_c000,
+        10 => 0x4000,
+        11 => 0x18_c000,
+        12 => 0xf9_c000,
+        13 => 0x1000_0000,
+        14 => 0x3000_0000,
+        15 => 0x9000_0000,
+        16 => 0x6_3000_0000,
+        17 => 0x1000_0000,
+        18 => 0x6_3000_0000,
+        19 => 0x3e_7000_0000,
+        20 => 0x400_0000_0000,
+        21 => 0xc00_0000_0000,
+        22 => 0x2400_0000_0000,
+        23 => 0x1_8c00_0000_0000,
+        24 => 0x400_0000_0000,
+        25 => 0x1_8c00_0000_0000,
+        26 => 0x100_0000_0000_0000,
+        27 => 0x900_0000_0000_0000,
+        28 => 1,
+        29 => 1,
+        30 => 1,
+        31 => 1,
+        _ => 1,
     }
-    0
 }
 
-// The place that a hint enters: a group's row stands above its head's.
-fn place_in(e: usize) -> usize
-    ensures { λ r. ⌜ r ≡ enteredIn e ⌝ }
+/// What is added then to what stays.
+pub fn more_of(kind: usize) -> u64
+    ensures { λ r. ⌜ r ≡ moreOf kind ⌝ }
 {
-    let row = e % 256;
-    let deeper = e / 4096 % 2;
-    if deeper < row { row - deeper } else { 0 }
-}
-
-// A place entered so often, once more; 0 where its number does not allow it.
-fn allowed(n: u32, number: u32) -> u32
-    ensures { λ r. ⌜ r ≡ allowedOf n number ⌝ }
-{
-    if n < number { n + 1 } else { 0 }
-}
-
-// The count of a hint's place when it is entered once more, 0 where the hint does not tell.
-fn repeated(place: Place, table: &[[u32; 8]], e: usize) -> u32
-    ensures { λ r. ⌜ r ≡ repeatedOf (now (table .entry)) place e ⌝ }
-{
-    let row = place.row;
-    let c = counts(place, e / 256 % 16);
-    let n = allowed(c.own, entry(table, place_in(e), NUMBER));
-    if e < 16384 {
-        return n;
+    match kind {
+        0 => 1,
+        1 => 1,
+        2 => 1,
+        3 => 0x4001,
+        4 => 0x4001,
+        5 => 0x4001,
+        6 => 0x4000,
+        7 => 0x4000,
+        8 => 0x4000,
+        9 => 0x4000,
+        10 => 0x1000_4000,
+        11 => 0x1000_4000,
+        12 => 0x1000_4000,
+        13 => 0x1000_0000,
+        14 => 0x1000_0000,
+        15 => 0x1000_0000,
+        16 => 0x1000_0000,
+        17 => 0x400_1000_0000,
+        18 => 0x400_1000_0000,
+        19 => 0x400_1000_0000,
+        20 => 0x400_0000_0000,
+        21 => 0x400_0000_0000,
+        22 => 0x400_0000_0000,
+        23 => 0x400_0000_0000,
+        24 => 0x100_0400_0000_0000,
+        25 => 0x100_0400_0000_0000,
+        26 => 0x100_0000_0000_0000,
+        27 => 0x100_0000_0000_0000,
+        28 => 1,
+        29 => 1,
+        30 => 1,
+        31 => 1,
+        _ => 1,
     }
-    if c.below < entry(table, row, NUMBER) {
-        return 0;
-    }
-    n
-}
-
-// The count of a hint's place when it is entered with a tag, 0 where the hint does not tell.
-fn times(place: Place, table: &[[u32; 8]], tag: u32, e: usize) -> u32
-    ensures { λ r. ⌜ r ≡ timesOf (now (table .entry)) place tag e ⌝ }
-{
-    if e == 0 {
-        return 0;
-    }
-    if entry(table, e % 256, TAG) != tag {
-        return 0;
-    }
-    if e < 8192 {
-        return 1;
-    }
-    repeated(place, table, e)
-}
-
-/// The place of the next segment, by its tag: that of the hint, or by the placing rule where the hint does not tell.
-pub fn quick_step(place: Place, table: &[[u32; 8]], hints: &[u64], tag: u32) -> Stepped
-    ensures step { λ r. ⌜ r ≡ quickOf (now (table .entry)) (now (hints .entry)) place tag ⌝ }
-    ensures said { λ r. ⌜ ((at : ℕ) → steppedAnswer at r ≡ quickAnswer at (now (table .entry)) (now (hints .entry)) place tag) ⌝ }
-{
-    let row = place.row;
-    let e = hint(hints, row, tag);
-    let n = times(place, table, tag, e);
-    if n == 0 {
-        return place.step(table, tag);
-    }
-    let level = e / 256 % 16;
-    let last = level + e / 4096 % 2;
-    Stepped::Placed(place.reached(level, n, e % 256, last))
 }

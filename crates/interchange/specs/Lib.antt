@@ -7,5 +7,7 @@ pub mod Fuel
 pub mod Gather
 pub mod Moves
 pub mod Chunks
+pub mod Heads
+pub mod Packs
 pub mod Runs
 pub mod Answers

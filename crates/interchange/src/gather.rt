@@ -4,12 +4,14 @@ use crate::rows::put_row;
 use crate::run::FULL;
 use crate::run::Ran;
 use crate::run::run;
+use crate::run::stay;
 use crate::standing::Standing;
 use crate::standing::is_closed;
 use crate::standing::is_inside;
 use crate::turn::Turn;
 use crate::turn::take_turn;
 use hints::tables::hints_of;
+use messages::MessageType;
 use placing::tables::table_of;
 use steps::state::Phase;
 use steps::state::State;
@@ -24,6 +26,11 @@ ghost use Rattle.interchange.specs.Reader.{isClosed};
 ghost use Rattle.interchange.specs.Room.{roomSize};
 ghost use Rattle.interchange.specs.Moves.{Moved};
 ghost use Rattle.interchange.specs.Chunks.{endedAt, Chunk};
+
+// The row of the period that is read, in the table of SKDUPD, and a row that no table has.
+const PERIOD: usize = 22;
+
+const NO_PERIOD: usize = 104;
 
 /// What is gathered of a reading.
 pub(crate) enum Gathered {
@@ -48,29 +55,34 @@ fn ended(phase: Phase, numbers: usize, size: usize) -> Gathered
 }
 
 // Where a message stands, its segments that only move its place on; elsewhere none.
-fn run_on(s: &[u8], from: Standing, tables: &[[u32; 8]], hints: &[u64], room: &mut [u32]) -> Ran
+fn run_on(
+    s: &[u8],
+    from: Standing,
+    tables: &[[u32; 8]],
+    hints: &[[u16; 16]],
+    room: &mut [u32],
+) -> Ran
     requires { ⌜ (now tables ≡ placing.tables) × (now hints ≡ hinting.hints) × (length (now s) ≤ 60000) × (length (now room) ≡ roomSize) × (from .numbers ≤ roomSize) ⌝ }
     ensures { λ r. ⌜ Moved (now (s .entry)) (from .state) (from .at) (from .numbers) (now (room .entry)) (movedState (from .state) (r .place) (r .segments)) (r .at) (r .numbers) (now (room .exit)) × (r .numbers ≤ roomSize) ⌝ }
 {
     let st = from.state;
     let phase = st.phase;
     if !is_inside(phase) {
-        let place = st.place;
-        return Ran {
-            place,
-            segments: st.segments,
-            at: from.at,
-            numbers: from.numbers,
-        };
+        return stay(from);
     }
     let message = st.message;
-    run(
-        s,
-        from,
-        table_of(tables, message),
-        hints_of(hints, message),
-        room,
-    )
+    match message {
+        MessageType::Skdupd => {
+            let table = table_of(tables, MessageType::Skdupd);
+            let hinted = hints_of(hints, MessageType::Skdupd);
+            run(s, from, table, hinted, room, PERIOD)
+        }
+        MessageType::Tsdupd => {
+            let table = table_of(tables, MessageType::Tsdupd);
+            let hinted = hints_of(hints, MessageType::Tsdupd);
+            run(s, from, table, hinted, room, NO_PERIOD)
+        }
+    }
 }
 
 /// The segments one after the other, their rows into a room of the reader's own, until it is full.
@@ -79,7 +91,7 @@ pub(crate) fn gather(
     start: State,
     from: usize,
     tables: &[[u32; 8]],
-    hints: &[u64],
+    hints: &[[u16; 16]],
     room: &mut [u32],
 ) -> Gathered
     requires { ⌜ (now tables ≡ placing.tables) × (now hints ≡ hinting.hints) × (length (now s) ≤ 60000) × (length (now room) ≡ roomSize) × (from ≤ length (now s)) ⌝ }

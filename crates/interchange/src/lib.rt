@@ -1,6 +1,8 @@
 //! The whole reader: the fold of one segment's step over an interchange.
 
 mod gather;
+mod heads;
+mod packed;
 pub mod reader;
 mod rows;
 mod run;

@@ -58,7 +58,7 @@ fn read_on(
     s: &[u8],
     from: Standing,
     tables: &[[u32; 8]],
-    hints: &[u64],
+    hints: &[[u16; 16]],
     rows: &mut [u32],
     calls: usize,
 ) -> Reading

@@ -1,38 +1,42 @@
 //! The segments of a message that only move its place on. Most segments are such, so that here only the place, the count, the
 //! offset and the rows change; whatever else comes is left to the step.
 
+use crate::heads::end_at;
+use crate::heads::head_at;
+use crate::packed::next_place;
+use crate::packed::pack;
+use crate::packed::unpack;
 use crate::rows::put_row;
 use crate::standing::Standing;
-use hints::quick_step;
-use messages::MessageType;
-use messages::UIT;
-use messages::is_period;
 use parts::Part;
 use period::Period;
 use period::read_period;
 use placing::Place;
-use placing::Stepped;
 use steps::state::Phase;
 use steps::state::Row;
-use steps::state::one_more;
 use syntax::segment::Scanned;
-use syntax::segment::read_segment;
-use syntax::segment::tag_at;
 ghost use mathlib.Core.Path.{_≡_};
+ghost use mathlib.Core.Bool.{true};
 ghost use Prim.Native.Nat.{_≤_};
 ghost use lib.ListN.{length};
+ghost use Rattle.laws.specs.Choice.{pick};
 ghost use Rattle.syntax.specs.Segment.{bodyAt, segmentAt};
+ghost use Rattle.period.specs.Period.{isGood, periodOf};
 ghost use Rattle.placing.specs.Tables.{tableOf};
+ghost use Rattle.hints.specs.Hints.{hintsOf};
 ghost use Rattle.steps.specs.State.{movedState};
 ghost use Rattle.interchange.specs.Room.{roomSize};
 ghost use Rattle.interchange.specs.Moves.{Moved};
-ghost use Rattle.interchange.specs.Runs.{goodPart, Hinted};
+ghost use Rattle.interchange.specs.Runs.{periodRow, countedOf};
 
 /// The numbers of a room: 128 rows, three numbers each.
 pub(crate) const ROOM: usize = 384;
 
 /// A room with so many numbers has no place for a row more.
 pub(crate) const FULL: usize = 382;
+
+// The group's column of a table.
+const GROUP: usize = 4;
 
 /// Where some segments of a message led.
 pub(crate) struct Ran {
@@ -42,12 +46,26 @@ pub(crate) struct Ran {
     pub numbers: usize,
 }
 
-// Whether a segment is no period that is read, or a good one.
-fn is_good(s: &[u8], at: usize, end: usize, message: MessageType, tag: u32, group: u32) -> bool
-    requires { ⌜ segmentAt (now s) at ≡ Scanned.End end ⌝ }
-    ensures { λ r. ⌜ r ≡ goodPart message tag group (bodyAt (now (s .entry)) at) ⌝ }
+/// No segment is passed.
+pub(crate) fn stay(from: Standing) -> Ran
+    ensures { λ r. ⌜ (r .place ≡ from .state .place) × (r .segments ≡ from .state .segments) × (r .at ≡ from .at) × (r .numbers ≡ from .numbers) ⌝ }
 {
-    if !is_period(message, tag, group) {
+    let st = from.state;
+    let place = st.place;
+    Ran {
+        place,
+        segments: st.segments,
+        at: from.at,
+        numbers: from.numbers,
+    }
+}
+
+// Whether a segment is no period that is read, or a good one.
+fn is_good(s: &[u8], at: usize, end: usize, read: bool) -> bool
+    requires { ⌜ segmentAt (now s) at ≡ Scanned.End end ⌝ }
+    ensures { λ r. ⌜ r ≡ pick read (isGood (periodOf (bodyAt (now (s .entry)) at))) true ⌝ }
+{
+    if !read {
         return true;
     }
     match read_period(s, Part { from: at, to: end }) {
@@ -56,58 +74,65 @@ fn is_good(s: &[u8], at: usize, end: usize, message: MessageType, tag: u32, grou
     }
 }
 
-// The segments from an offset on, while each only moves the place on and the room lasts.
+// So many segments more.
+fn counted(segments: usize, more: usize) -> usize
+    ensures { λ r. ⌜ r ≡ countedOf segments more ⌝ }
+{
+    if 65535 <= segments {
+        return segments;
+    }
+    if 65535 - segments < more {
+        return 65535;
+    }
+    segments + more
+}
+
+// The segments from an offset on, while each only moves the place on, a hint tells of it and the room lasts.
 pub(crate) fn run(
     s: &[u8],
     from: Standing,
     table: &[[u32; 8]],
-    hints: &[u64],
+    hints: &[[u16; 16]],
     room: &mut [u32],
+    period: usize,
 ) -> Ran
-    requires { ⌜ (from .state .phase ≡ Phase.Inside) × (now table ≡ tableOf (from .state .message)) × Hinted (now table) (now hints) × (length (now s) ≤ 60000) × (length (now room) ≡ roomSize) × (from .numbers ≤ roomSize) ⌝ }
+    requires { ⌜ (from .state .phase ≡ Phase.Inside) × (now table ≡ tableOf (from .state .message)) × (now hints ≡ hintsOf (from .state .message)) × (period ≡ periodRow (from .state .message)) × (length (now s) ≤ 60000) × (length (now room) ≡ roomSize) × (from .numbers ≤ roomSize) ⌝ }
     ensures { λ r. ⌜ Moved (now (s .entry)) (from .state) (from .at) (from .numbers) (now (room .entry)) (movedState (from .state) (r .place) (r .segments)) (r .at) (r .numbers) (now (room .exit)) × (r .numbers ≤ roomSize) ⌝ }
 {
     let st = from.state;
-    let mut place = st.place;
-    let mut segments = st.segments;
+    let place = st.place;
+    let start = pack(place, table);
+    if s.len() < 4 {
+        return stay(from);
+    }
+    if !start.told {
+        return stay(from);
+    }
+    let last = s.len() - 4;
+    let first = from.numbers;
+    let mut row = start.row;
+    let mut counts = start.counts;
     let mut at = from.at;
-    let mut numbers = from.numbers;
+    let mut numbers = first;
     while numbers < FULL {
-        let Scanned::End(end) = read_segment(s, at) else {
-            return Ran {
-                place,
-                segments,
-                at,
-                numbers,
-            };
-        };
-        let tag = tag_at(s, at);
-        if tag == UIT {
-            return Ran {
-                place,
-                segments,
-                at,
-                numbers,
-            };
+        if last < at {
+            break;
         }
-        let Stepped::Placed(next) = quick_step(place, table, hints, tag) else {
-            return Ran {
-                place,
-                segments,
-                at,
-                numbers,
-            };
-        };
-        let group = next.group(table);
-        let message = st.message;
-        if !is_good(s, at, end, message, tag, group) {
-            return Ran {
-                place,
-                segments,
-                at,
-                numbers,
-            };
+        let head = head_at(s, at);
+        let tag = head / 256;
+        let next = next_place(table, hints, row, counts, tag);
+        if !next.told {
+            break;
         }
+        let end = end_at(s, at, head % 256);
+        if s.len() <= end {
+            break;
+        }
+        let to = next.row;
+        if !is_good(s, at, end, to == period) {
+            break;
+        }
+        let group = table[to][GROUP];
         put_row(
             room,
             numbers,
@@ -118,14 +143,14 @@ pub(crate) fn run(
                 tag,
             },
         );
-        numbers += 3;
+        row = to;
+        counts = next.counts;
         at = end + 1;
-        place = next;
-        segments = one_more(segments);
+        numbers += 3;
     }
     Ran {
-        place,
-        segments,
+        place: unpack(row, counts),
+        segments: counted(st.segments, (numbers - first) / 3),
         at,
         numbers,
     }

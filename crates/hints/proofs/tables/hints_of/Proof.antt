@@ -9,34 +9,34 @@ use Rattle.hints.proofs.tables.hints_of.Tie as tie
 enum-told : tie.Need-enum-told
 enum-told c = search needs
 
-words-between-requires : tie.Need-words-between-requires
-words-between-requires c κs = search needs
+rows-between-requires : tie.Need-rows-between-requires
+rows-between-requires c κs = search needs
 
 enum-told-2 : tie.Need-enum-told-2
 enum-told-2 c = search needs
 
-words-between-requires-2 : tie.Need-words-between-requires-2
-words-between-requires-2 c κs = search needs
+rows-between-requires-2 : tie.Need-rows-between-requires-2
+rows-between-requires-2 c κs = search needs
 
 returns : tie.Need-returns
 unfolding hintsIn
 returns c =
     let q = c .before in
-    c .words-between .ensures ∙ sym (ap (hintsIn (now (q .before .before .before .args .hints))) (q .enum-told .given .1))
+    c .rows-between .ensures ∙ sym (ap (hintsIn (now (q .before .before .args .hints))) (q .enum-told .given .1))
 
 returns-2 : tie.Need-returns-2
 unfolding hintsIn
 returns-2 c =
     let q = c .before in
-    c .words-between2 .ensures ∙ sym (ap (hintsIn (now (q .before .before .before .args .hints))) (q .enum-told2 .given .1))
+    c .rows-between2 .ensures ∙ sym (ap (hintsIn (now (q .before .before .args .hints))) (q .enum-told2 .given .1))
 
 pub hints-of-spec : {M : Type 1} → statement M
 hints-of-spec =
     tie.close
     (tie.spec
     enum-told
-    words-between-requires
+    rows-between-requires
     enum-told-2
-    words-between-requires-2
+    rows-between-requires-2
     returns
     returns-2)

@@ -38,7 +38,7 @@ abbrev μ-loop : tie.MeasureT-loop
 -- where the loop stands
 module _ (o : tie.At-loop Inv-loop μ-loop) where
   abbrev start : tie.Start Inv-loop μ-loop
-  start = o .before .before .before .before
+  start = o .before .before .before
 
   abbrev list : List ℕ
   list = now (start .args .s)
@@ -109,7 +109,7 @@ module _ (p : tie.After-put-row Inv-loop μ-loop) where
 
 loop-holds : tie.Need-loop-holds Inv-loop μ-loop
 loop-holds c =
-    let s = c .before .before .before in
+    let s = c .before .before in
     let a = s .args in
     (moved-none (now (a .s)) (a .start) (a .from) 0 (now (a .room)), omega arith, s .pre .4)
 

@@ -53,7 +53,7 @@ module _ (t : ℕ) (g : After-gather t) where
     read-on-below t,
     read-on.Post,
   ) (read-on-at t) read-on.Post
-  start = g .before .before .before .before .before .before
+  start = g .before .before .before .before .before
 
   abbrev list : List ℕ
   list = now (start .args .s)
@@ -167,7 +167,7 @@ read-on-gather-requires : (t : ℕ) → read-on-lts.Need-gather-requires (
   read-on.Post,
 ) (read-on-at t) read-on.Post
 read-on-gather-requires t c κs =
-    let p = c .before .before .before .before .before .pre .1 in
+    let p = c .before .before .before .before .pre .1 in
     (p .0, p .1, p .2, length-replicate {A = ℕ} roomSize 0, p .3)
 
 read-on-enum-known-n : (t : ℕ) → read-on-lts.Need-enum-known-n (

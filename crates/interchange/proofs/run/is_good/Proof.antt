@@ -3,26 +3,37 @@ use Rattle.interchange.proofs.run.is_good.Statement.{statement}
 use Rattle.interchange.proofs.run.is_good.Tie as tie
 use Rattle.interchange.proofs.run.is_good.Reads as reads
 use Rattle.interchange.proofs.run.is_good.Lts as lts
-use Rattle.messages.proofs.is_period.Reads as is-period-reads
 use Rattle.period.proofs.read_period.Reads as read-period-reads
 use mathlib.Core.Path.{_≡_, sym, ap, _∙_}
+use mathlib.Core.Bool.{true}
 use mathlib.Core.List.{List}
 use Prim.Native.Nat.{ℕ}
 use borrow.Author.Tests.{not-true, not-false}
 use denote.Ref.{now}
+use Rattle.laws.specs.Choice.{pick}
 use Rattle.period.specs.declared.Period.{Period}
 use Rattle.period.specs.declared.Period.the-variants.{Good, Wrong}
 use Rattle.period.specs.Period.{isGood, periodOf}
 use Rattle.syntax.specs.Segment.{bodyAt}
-use Rattle.interchange.specs.Runs.{good-other, good-read, part-is, goodPart}
+use Rattle.interchange.specs.Runs.{good-other, good-read, part-is}
 
-is-period-requires : tie.Need-is-period-requires
-is-period-requires c κs = search needs
+-- what the period of the segment came to
+module _ (r : tie.After-read-period) where
+  abbrev start : tie.Start
+  start = r .before .before .before
+
+  abbrev list : List ℕ
+  list = now (start .args .s)
+
+  told : (x : Period) → r .read-period .result ≡ x → isGood x ≡ pick (start .args .read) (isGood (periodOf (bodyAt list (start .args .at)))) true
+  told x e =
+      good-read (start .args .read) (bodyAt list (start .args .at)) (not-false (start .args .read) (r .before .if1 .left)) x
+      (sym (ap periodOf (part-is list (start .args .at) (start .args .end) (start .pre))) ∙ sym (r .read-period .ensures .0) ∙ e)
 
 returns : tie.Need-returns
 returns c =
-    let a = c .before .before .before .args in
-    good-other (a .message) (a .tag) (a .group) (bodyAt (now (a .s)) (a .at)) (sym (c .before .is-period .ensures) ∙ not-true (c .before .is-period .result) (c .if1 .taken))
+    let a = c .before .before .args in
+    good-other (a .read) (bodyAt (now (a .s)) (a .at)) (not-true (a .read) (c .if1 .taken))
 
 read-period-requires : tie.Need-read-period-requires
 read-period-requires c κs = search needs
@@ -32,20 +43,6 @@ enum-told c = search needs
 
 enum-told-2 : tie.Need-enum-told-2
 enum-told-2 c = search needs
-
--- what the period of the segment came to
-module _ (r : tie.After-read-period) where
-  abbrev start : tie.Start
-  start = r .before .before .before .before
-
-  abbrev list : List ℕ
-  list = now (start .args .s)
-
-  told : (x : Period) → r .read-period .result ≡ x → isGood x ≡ goodPart (start .args .message) (start .args .tag) (start .args .group) (bodyAt list (start .args .at))
-  told x e =
-      good-read (start .args .message) (start .args .tag) (start .args .group) (bodyAt list (start .args .at))
-      (sym (r .before .before .is-period .ensures) ∙ not-false (r .before .before .is-period .result) (r .before .if1 .left)) x
-      (sym (ap periodOf (part-is list (start .args .at) (start .args .end) (start .pre))) ∙ sym (r .read-period .ensures .0) ∙ e)
 
 returns-2 : tie.Need-returns-2
 returns-2 c =
@@ -59,12 +56,4 @@ returns-3 c =
 
 pub is-good-spec : {M : Type 1} → statement M
 is-good-spec =
-    tie.close
-    (tie.spec
-    is-period-requires
-    returns
-    read-period-requires
-    enum-told
-    enum-told-2
-    returns-2
-    returns-3)
+    tie.close (tie.spec returns read-period-requires enum-told enum-told-2 returns-2 returns-3)

@@ -2,173 +2,246 @@ use Rattle.interchange.proofs.run.run.Statement.{statement}
 use Rattle.interchange.proofs.run.run.Tie as tie
 use Rattle.interchange.proofs.run.run.Reads as reads
 use Rattle.interchange.proofs.run.run.Lts as lts
+use Rattle.interchange.proofs.heads.end_at.Reads as end-at-reads
+use Rattle.interchange.proofs.heads.head_at.Reads as head-at-reads
+use Rattle.interchange.proofs.packed.next_place.Reads as next-place-reads
+use Rattle.interchange.proofs.packed.pack.Reads as pack-reads
+use Rattle.interchange.proofs.packed.unpack.Reads as unpack-reads
 use Rattle.interchange.proofs.rows.put_row.Reads as put-row-reads
+use Rattle.interchange.proofs.run.counted.Reads as counted-reads
 use Rattle.interchange.proofs.run.is_good.Reads as is-good-reads
-use Rattle.steps.proofs.state.one_more.Reads as one-more-reads
-use Rattle.placing.proofs.Place.group.Reads as group-reads
-use Rattle.hints.proofs.quick_step.Reads as quick-step-reads
-use Rattle.syntax.proofs.segment.read_segment.Reads as read-segment-reads
-use Rattle.syntax.proofs.segment.tag_at.Reads as tag-at-reads
+use Rattle.interchange.proofs.run.stay.Reads as stay-reads
 use mathlib.Core.Path.{_≡_, refl, sym, ap, _∙_}
 use mathlib.Core.List.{List}
-use Prim.Native.Nat.{ℕ, _+_, _-_, _≤_, _<_}
+use Prim.Native.Nat.{ℕ, _+_, _-_, _/_, _≤_, _<_}
 use native.Mathlib.Omega.{arith}
 use borrow.Author.Needs.{needs}
 use borrow.Author.Tests.{not-false}
 use denote.Ref.{now}
+use lib.Dec.{T}
 use lib.ListN.{length}
 use Rattle.syntax.specs.declared.segment.Scanned.the-variants.{End}
 use Rattle.syntax.specs.Segment.{segmentAt}
-use Rattle.syntax.specs.Ends.{end-within}
-use Rattle.placing.specs.declared.Place.{Place}
-use Rattle.placing.specs.declared.Stepped.the-variants.{Placed}
+use Rattle.placing.specs.Walks.{entry-in}
+use Rattle.placing.specs.Tables.{tableOf}
+use Rattle.hints.specs.Told.{right}
+use Rattle.hints.specs.Laws.{Stood}
+use Rattle.hints.specs.Packing.{placeOf}
+use Rattle.hints.specs.Onward.{Onward}
 use Rattle.steps.specs.State.{movedState}
 use Rattle.interchange.specs.Room.{roomSize}
-use Rattle.interchange.specs.Moves.{Moved, moved-none, moved-as}
-use Rattle.interchange.specs.Runs.{moved-inside}
+use Rattle.interchange.specs.Moves.{Moved, moved-as}
+use Rattle.interchange.specs.Heads.{Bytes, headAt, head-mark, head-capitals, tag-number}
+use Rattle.interchange.specs.Packs.{Packs, Tells}
+use Rattle.interchange.specs.Runs.{countedOf, counted-step, moved-start, moved-here, own-both, own-few, onward-capitals, moved-told}
 
 abbrev Inv-loop : tie.InvT-loop
-Inv-loop s table hints room₀ st place₀ segments₀ at₀ numbers₀ room place segments at numbers =
-    Moved s st at₀ numbers₀ room₀ (movedState st place segments) at numbers room × (numbers ≤ roomSize)
+Inv-loop s table hints room₀ period st last first row₀ counts₀ at₀ numbers₀ room row counts at numbers =
+    Moved s st at₀ numbers₀ room₀ (movedState st (placeOf row counts) (countedOf (st .segments) ((numbers - first) / 3))) at numbers room
+    × (numbers ≤ roomSize)
+    × (first ≤ numbers)
+    × (row < length hints)
+    × Stood table (placeOf row counts)
+    × (counts < 18446744073709551616)
 
 abbrev μ-loop : tie.MeasureT-loop
-μ-loop s table hints room₀ st place₀ segments₀ at₀ numbers₀ room place segments at numbers = roomSize - numbers
+μ-loop s table hints room₀ period st last first row₀ counts₀ at₀ numbers₀ room row counts at numbers = roomSize - numbers
 
 -- where the loop stands
 module _ (o : tie.At-loop Inv-loop μ-loop) where
   abbrev start : tie.Start Inv-loop μ-loop
-  start = o .before .before .before .before .before .before
+  start = o .before .before .before .before .before .before .before .before .before
 
   abbrev list : List ℕ
   list = now (start .args .s)
 
--- the segment that was found
-module _ (t : tie.After-tag-at Inv-loop μ-loop) where
+  hinted : (length (now (start .args .hints)) ≡ length (now (start .args .table))) × T (right (now (start .args .table)) (now (start .args .hints)))
+  hinted =
+      let a = start .args in
+      own-both (a .from .state .message) (now (a .table)) (now (a .hints)) (start .pre .1) (start .pre .2)
+
+  size : length (o .loop .room) ≡ roomSize
+  size = o .loop .inv .0 .sized ∙ start .pre .5
+
+-- the head that was read
+module _ (h : tie.After-head-at Inv-loop μ-loop) where
+  abbrev at-head : tie.At-loop Inv-loop μ-loop
+  at-head = h .before .before .before
+
+-- the place that was told
+module _ (e : tie.Else4 Inv-loop μ-loop) where
+  abbrev head : tie.After-head-at Inv-loop μ-loop
+  head = e .before .before .before
+
   abbrev own : tie.At-loop Inv-loop μ-loop
-  own = t .before .before .before .before .before .before
+  own = at-head head
 
-  abbrev last : ℕ
-  last = t .before .before .end .given .0 .0
+  abbrev next : tie.After-next-place Inv-loop μ-loop
+  next = e .before .before
 
-  ended : segmentAt (list own) (own .loop .at) ≡ End last
-  ended = sym (t .before .before .before .before .read-segment .ensures .0) ∙ t .before .before .end .given .1
+  told : Tells (now (start own .args .table)) (own .loop .row) (own .loop .counts) (head .head-at .result / 256) (next .next-place .result .row) (next .next-place .result .counts)
+  told = next .next-place .ensures (not-false (next .next-place .result .told) (e .if4 .left))
 
-  within : (own .loop .at + 3 ≤ last) × (last < length (list own))
-  within = end-within (list own) (own .loop .at) last ended
+pack-requires : tie.Need-pack-requires Inv-loop μ-loop
+pack-requires c κs = search needs
 
-  size : length (own .loop .room) ≡ roomSize
-  size = own .loop .inv .0 .sized ∙ start own .pre .4
+stay-requires : tie.Need-stay-requires Inv-loop μ-loop
+stay-requires c κs = search needs
+
+returns : tie.Need-returns Inv-loop μ-loop
+returns c =
+    let b = c .before .before .before .before .before .before .before in
+    let a = b .args in
+    let r = c .stay .result in
+    let e = c .stay .ensures in
+    let l = b .pre .6 in
+    (moved-here (now (a .s)) (a .from .state) (a .from .at) (a .from .numbers) (now (a .room)) (r .place) (r .segments) (r .at) (r .numbers) (e .0) (e .1) (e .2) (e .3), omega (arith, e .3))
+
+stay-requires-2 : tie.Need-stay-requires-2 Inv-loop μ-loop
+stay-requires-2 c κs = search needs
+
+returns-2 : tie.Need-returns-2 Inv-loop μ-loop
+returns-2 c =
+    let b = c .before .before .before .before .before .before .before .before .before in
+    let a = b .args in
+    let r = c .stay2 .result in
+    let e = c .stay2 .ensures in
+    let l = b .pre .6 in
+    (moved-here (now (a .s)) (a .from .state) (a .from .at) (a .from .numbers) (now (a .room)) (r .place) (r .segments) (r .at) (r .numbers) (e .0) (e .1) (e .2) (e .3), omega (arith, e .3))
+
+sub-last : tie.Need-sub-last Inv-loop μ-loop
+sub-last c = omega arith
 
 loop-holds : tie.Need-loop-holds Inv-loop μ-loop
 loop-holds c =
-    let a = c .before .before .before .before .before .args in
-    (moved-none (now (a .s)) (a .from .state) (a .from .at) (a .from .numbers) (now (a .room)), c .before .before .before .before .before .pre .5)
+    let k = c .before .before .before in
+    let b = k .before .before .before .before .before in
+    let a = b .args in
+    let p = b .pre in
+    let r = k .pack .result in
+    let q = k .pack .ensures (not-false (r .told) (c .if2 .left)) in
+    let w = own-both (a .from .state .message) (now (a .table)) (now (a .hints)) (p .1) (p .2) .0 in
+    let i = q .inside in
+    (moved-start (now (a .s)) (a .from .state) (a .from .at) (a .from .numbers) (now (a .room)) (placeOf (r .row) (r .counts)) (q .same), p .6, omega arith, omega arith, q .stood, q .fits)
 
-read-segment-requires : tie.Need-read-segment-requires Inv-loop μ-loop
-read-segment-requires c κs = search needs
+head-at-requires : tie.Need-head-at-requires Inv-loop μ-loop
+head-at-requires c κs = omega arith
 
-enum-known-end : tie.Need-enum-known-end Inv-loop μ-loop
-enum-known-end c = search needs
+next-place-requires : tie.Need-next-place-requires Inv-loop μ-loop
+next-place-requires c κs =
+    let o = at-head c in
+    let h = hinted o in
+    (o .loop .inv .3, h .0, h .1, o .loop .inv .4)
 
-same-length : tie.Need-same-length Inv-loop μ-loop
-same-length c = c .before .before .before .loop .inv .0 .sized
-
-returns : tie.Need-returns Inv-loop μ-loop
-returns c = c .before .before .before .loop .inv
-
-tag-at-requires : tie.Need-tag-at-requires Inv-loop μ-loop
-tag-at-requires c κs = search needs
-
-same-length-2 : tie.Need-same-length-2 Inv-loop μ-loop
-same-length-2 c = own (c .before) .loop .inv .0 .sized
-
-returns-2 : tie.Need-returns-2 Inv-loop μ-loop
-returns-2 c = own (c .before) .loop .inv
-
-quick-step-requires : tie.Need-quick-step-requires Inv-loop μ-loop
-quick-step-requires c κs = search needs
-
-enum-known-next : tie.Need-enum-known-next Inv-loop μ-loop
-enum-known-next c = search needs
-
-enum-told : tie.Need-enum-told Inv-loop μ-loop
-enum-told c = search needs
-
-same-length-3 : tie.Need-same-length-3 Inv-loop μ-loop
-same-length-3 c = own (c .before .before .before .before) .loop .inv .0 .sized
-
-returns-3 : tie.Need-returns-3 Inv-loop μ-loop
-returns-3 c = own (c .before .before .before .before) .loop .inv
-
-group-requires : tie.Need-group-requires Inv-loop μ-loop
-group-requires c κs = search needs
+end-at-requires : tie.Need-end-at-requires Inv-loop μ-loop
+end-at-requires c κs =
+    let h = head c in
+    let o = own c in
+    let a = start o .args in
+    let b = h .head-at .ensures .1 in
+    let w : o .loop .at + 4 ≤ length (list o) = omega arith in
+    (w, head-capitals (list o) (o .loop .at) b (rw (h .head-at .ensures .0) at (onward-capitals (a .from .state .message) (now (a .table)) (start o .pre .1) (o .loop .row) (o .loop .counts) (h .head-at .result / 256) (next c .next-place .result .row) (next c .next-place .result .counts) (told c .on))), rw (h .head-at .ensures .0) (head-mark (list o) (o .loop .at) b))
 
 is-good-requires : tie.Need-is-good-requires Inv-loop μ-loop
-is-good-requires c κs = ended (c .before .before .before .before .before .before)
+is-good-requires c κs = c .before .end-at .ensures (c .if5 .left)
 
-same-length-4 : tie.Need-same-length-4 Inv-loop μ-loop
-same-length-4 c = own (c .before .before .before .before .before .before .before .before) .loop .inv .0 .sized
+mul-group : tie.Need-mul-group Inv-loop μ-loop
+mul-group c =
+    let e = c .before .before .before .before in
+    let t = told e .inside in
+    let a = start (own e) .args in
+    let f = own-few (a .from .state .message) (now (a .table)) (start (own e) .pre .1) in
+    omega arith
 
-returns-4 : tie.Need-returns-4 Inv-loop μ-loop
-returns-4 c = own (c .before .before .before .before .before .before .before .before) .loop .inv
+index-1-group : tie.Need-index-1-group Inv-loop μ-loop
+index-1-group c = told (c .before .before .before .before) .inside
+
+index-2-group : tie.Need-index-2-group Inv-loop μ-loop
+index-2-group c = search needs
 
 cast-put-row : tie.Need-cast-put-row Inv-loop μ-loop
 cast-put-row c =
-    let t = c .before .before .before .before .before .before .before .before .before in
-    let w = within t in
-    let p = start (own t) .pre .3 in
+    let e = c .before .before .before .before .before .before in
+    let o = own e in
+    let p = start o .pre .4 in
+    let w : o .loop .at + 4 ≤ length (list o) = omega arith in
     omega arith
 
 put-row-requires : tie.Need-put-row-requires Inv-loop μ-loop
 put-row-requires c κs =
-    let t = c .before .before .before .before .before .before .before .before .before in
-    let w = size t in
-    let l = t .before .before .before .before .before .loop-test .taken in
+    let e = c .before .before .before .before .before .before in
+    let o = own e in
+    let w = size o in
+    let l = head e .before .before .loop-test .taken in
     (omega arith, refl)
-
-add-numbers : tie.Need-add-numbers Inv-loop μ-loop
-add-numbers c = omega arith
 
 add-at : tie.Need-add-at Inv-loop μ-loop
 add-at c =
-    let t = c .before .before .before .before .before .before .before .before .before .before .before .before in
-    let w = within t in
-    let p = start (own t) .pre .3 in
+    let g = c .before .before .before .before .before .before .before in
+    let o = own (g .before .before) in
+    let p = start o .pre .4 in
+    let l = g .if5 .left in
     omega arith
 
-one-more-requires : tie.Need-one-more-requires Inv-loop μ-loop
-one-more-requires c κs = search needs
+add-numbers : tie.Need-add-numbers Inv-loop μ-loop
+add-numbers c = omega arith
 
 loop-less : tie.Need-loop-less Inv-loop μ-loop
 loop-less c = omega arith
 
 loop-again : tie.Need-loop-again Inv-loop μ-loop
 loop-again c =
-    let d = c .before .before .before in
-    let k = d .before .before .before in
-    let j = k .before in
-    let n = j .before .before in
-    let t = n .before .before .before .before in
-    let o = own t in
+    let d = c .before .before in
+    let x = d .before .before .before in
+    let g = x .before in
+    let f = g .before in
+    let e = f .before .before in
+    let h = head e in
+    let o = own e in
     let a = start o .args in
+    let st = a .from .state in
+    let t = told e in
+    let n = next e .next-place .result in
+    let v = f .before .end-at .result in
+    let b = h .head-at .ensures in
+    let w = size o in
+    let l = h .before .before .loop-test .taken in
+    let z : o .loop .at + 4 ≤ length (list o) = omega arith in
+    let y = hinted o .0 in
+    let u = t .inside in
     let p = start o .pre in
-    let w = size t in
-    let l = t .before .before .before .before .before .loop-test .taken in (
-      moved-as (now (a .s)) (ap (movedState (a .from .state) (n .next .given .0 .0)) (c .one-more .ensures)) refl
-          (moved-inside (now (a .s)) (a .from .state) (a .from .at) (a .from .numbers) (now (a .room)) (a .from .state) (p .0)
-          (o .loop .place) (o .loop .segments) (o .loop .at) (o .loop .numbers) (o .loop .room) (o .loop .inv .0)
-          (last t) (ended t) (now (a .table)) (p .1) (t .tag-at .result) (t .tag-at .ensures) (n .before .before .before .if1 .left)
-          (n .next .given .0 .0) (sym (p .2 (o .loop .place) (t .tag-at .result)) ∙ sym (n .before .before .quick-step .ensures .0) ∙ n .next .given .1) (j .group .result) (j .group .ensures)
-          (sym (k .is-good .ensures) ∙ not-false (k .is-good .result) (d .before .before .if2 .left))
+    let i = o .loop .inv in (
+      moved-as (list o) (ap (movedState st (placeOf (n .row) (n .counts))) (counted-step (st .segments) (a .from .numbers) (o .loop .numbers) (i .2))) refl
+          (moved-told (list o) st (a .from .at) (a .from .numbers) (now (a .room)) st (p .0) (now (a .table)) (p .1)
+          (o .loop .row) (o .loop .counts) (countedOf (st .segments) ((o .loop .numbers - a .from .numbers) / 3)) (o .loop .at) (o .loop .numbers) (o .loop .room) (i .0)
+          v (f .before .end-at .ensures (f .if5 .left)) (h .head-at .result / 256) (ap (λ q. q / 256) (b .0) ∙ tag-number (list o) (o .loop .at) (b .1) z)
+          (n .row) (n .counts) (t .on)
+          (a .period) (p .3) (sym (g .is-good .ensures) ∙ not-false (g .is-good .result) (x .if6 .left))
+          _ (sym (entry-in (now (a .table)) (n .row) 4 (omega arith)))
           (omega arith) (d .put-row .last .0) (d .put-row .ensures)),
       omega arith,
+      omega arith,
+      omega arith,
+      t .on .stood,
+      t .fits,
     )
 
-same-length-5 : tie.Need-same-length-5 Inv-loop μ-loop
-same-length-5 c = c .before .loop .inv .0 .sized
+unpack-requires : tie.Need-unpack-requires Inv-loop μ-loop
+unpack-requires c κs = search needs
 
-returns-5 : tie.Need-returns-5 Inv-loop μ-loop
-returns-5 c = c .before .loop .inv
+sub-counted : tie.Need-sub-counted Inv-loop μ-loop
+sub-counted c = c .before .before .loop .inv .2
+
+counted-requires : tie.Need-counted-requires Inv-loop μ-loop
+counted-requires c κs = search needs
+
+same-length : tie.Need-same-length Inv-loop μ-loop
+same-length c = c .before .before .before .loop .inv .0 .sized
+
+returns-3 : tie.Need-returns-3 Inv-loop μ-loop
+returns-3 c =
+    let i = c .before .before .before .loop .inv in
+    (moved-as (list (c .before .before .before)) (rw (c .before .unpack .ensures, c .counted .ensures)) refl (i .0), i .1)
 
 pub run-spec : {M : Type 1} → statement M
 run-spec =
@@ -176,29 +249,28 @@ run-spec =
     (tie.spec
     Inv-loop
     μ-loop
-    loop-holds
-    read-segment-requires
-    enum-known-end
-    same-length
+    pack-requires
+    stay-requires
     returns
-    tag-at-requires
-    same-length-2
+    stay-requires-2
     returns-2
-    quick-step-requires
-    enum-known-next
-    enum-told
-    same-length-3
-    returns-3
-    group-requires
+    sub-last
+    loop-holds
+    head-at-requires
+    next-place-requires
+    end-at-requires
     is-good-requires
-    same-length-4
-    returns-4
+    mul-group
+    index-1-group
+    index-2-group
     cast-put-row
     put-row-requires
-    add-numbers
     add-at
-    one-more-requires
+    add-numbers
     loop-less
     loop-again
-    same-length-5
-    returns-5)
+    unpack-requires
+    sub-counted
+    counted-requires
+    same-length
+    returns-3)

@@ -1,11 +1,11 @@
--- `hints::tables::words_between` meets its contract. Assumes nothing.
+-- `hints::tables::rows_between` meets its contract. Assumes nothing.
 use mathlib.Core.Path.{sym}
 use native.Mathlib.Omega.{arith}
 use denote.Ref.{now}
 use Rattle.laws.specs.Lists.{between-none, between-past, between-all}
 use borrow.Author.Needs.{needs}
-use Rattle.hints.proofs.tables.words_between.Statement.{statement}
-use Rattle.hints.proofs.tables.words_between.Tie as tie
+use Rattle.hints.proofs.tables.rows_between.Statement.{statement}
+use Rattle.hints.proofs.tables.rows_between.Tie as tie
 
 sub-result : tie.Need-sub-result
 sub-result c = search needs
@@ -67,8 +67,8 @@ part-result-end-4 c = search needs
 returns-4 : tie.Need-returns-4
 returns-4 c = search needs
 
-pub words-between-spec : {M : Type 1} → statement M
-words-between-spec =
+pub rows-between-spec : {M : Type 1} → statement M
+rows-between-spec =
     tie.close
     (tie.spec
     sub-result

@@ -1,0 +1,53 @@
+//! What a segment begins with, its tag and the byte behind it, and where it ends.
+
+use syntax::segment::quick_end;
+ghost use mathlib.Core.Path.{_≡_};
+ghost use mathlib.Core.Bool.{true};
+ghost use Prim.Native.Nat.{_+_, _<_, _≤_};
+ghost use lib.ListN.{length, getD};
+ghost use Rattle.syntax.specs.declared.segment.Scanned.the-variants.{End};
+ghost use Rattle.syntax.specs.Segment.{segmentAt};
+ghost use Rattle.interchange.specs.Heads.{fourAt, headAt, Bytes, capitals};
+
+fn wide(b: u8) -> u32
+    ensures { λ r. ⌜ r ≡ b ⌝ }
+{
+    b as u32
+}
+
+// Four bytes as they stand in memory, so that they are read at once.
+fn four_at(s: &[u8], at: usize) -> u32
+    requires { ⌜ at + 4 ≤ length (now s) ⌝ }
+    ensures { λ r. ⌜ (r ≡ fourAt (now (s .entry)) at) × Bytes (now (s .entry)) at ⌝ }
+{
+    wide(s[at])
+        + wide(s[at + 1]) * 0x100
+        + wide(s[at + 2]) * 0x1_0000
+        + wide(s[at + 3]) * 0x100_0000
+}
+
+/// The four bytes from an offset on as one number, the first highest.
+pub(crate) fn head_at(s: &[u8], at: usize) -> u32
+    requires { ⌜ at + 4 ≤ length (now s) ⌝ }
+    ensures { λ r. ⌜ (r ≡ headAt (now (s .entry)) at) × Bytes (now (s .entry)) at ⌝ }
+{
+    let four = four_at(s, at);
+    four % 256 * 0x100_0000
+        + four / 0x100 % 256 * 0x1_0000
+        + four / 0x1_0000 % 256 * 0x100
+        + four / 0x100_0000
+}
+
+/// The end of a segment by the byte behind its tag, where it is small; else the input's length.
+pub(crate) fn end_at(s: &[u8], at: usize, mark: u32) -> usize
+    requires { ⌜ (at + 4 ≤ length (now s)) × (capitals (now s) at ≡ true) × (mark ≡ getD (now s) (at + 3) 0) ⌝ }
+    ensures { λ r. ⌜ (r < length (now (s .entry)) → segmentAt (now (s .entry)) at ≡ End r) ⌝ }
+{
+    if mark == 43 {
+        return quick_end(s, at);
+    }
+    if mark == 39 {
+        return at + 3;
+    }
+    s.len()
+}
