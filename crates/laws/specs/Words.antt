@@ -72,6 +72,23 @@ zero-word (b ∷ l) =
     (λ q. rw (ne-eqb (wordOf l * 256 + b) 0 (λ f. eqb-false (wordOf l) 0 q (omega arith)), p) (sym q ∙ zero-word l)))
     (λ p. rw (ne-eqb (wordOf l * 256 + b) 0 (λ f. eqb-false b 0 p (omega arith)), p))
 
+-- two rows of bytes with the same number are the same
+abbrev pub Same : List ℕ → List ℕ → Type 0
+Same [] [] = Unit
+Same [] (b ∷ k) = ⊥
+Same (a ∷ l) [] = ⊥
+Same (a ∷ l) (b ∷ k) = (a ≡ b) × Same l k
+
+pub same-word : (l k : List ℕ) → Rows l k → wordOf l ≡ wordOf k → Same l k
+unfolding wordOf
+same-word [] [] h e = tt
+same-word [] (b ∷ k) h e = absurd h
+same-word (a ∷ l) [] h e = absurd h
+same-word (a ∷ l) (b ∷ k) h e =
+    let p = h .0 in
+    let q = h .1 in
+    (omega arith, same-word l k (h .2) (omega arith))
+
 -- bits gathered are 0 where all that were gathered are
 pub or-zero : (a x : ℕ) → eqb (bitOr a x) 0 ≡ both (eqb a 0) (eqb x 0)
 or-zero a x =

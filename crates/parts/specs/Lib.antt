@@ -1,3 +1,5 @@
 pub mod Places
 pub mod Cuts
 pub mod Located
+pub mod Plain
+pub mod Walked

@@ -1,10 +1,12 @@
 //! The parts of a segment, as places in the lent slice.
 
+mod ends;
+
+use crate::ends::piece_end;
 ghost use mathlib.Core.Path.{_≡_};
 ghost use mathlib.Core.Bool.{false};
 ghost use lib.Dec.{eqb, leb};
 ghost use Rattle.parts.specs.Places.{absent, bytesOf, pieceAt, countedAt, elementAt, occurrenceAt, componentAt, partAt, repeats};
-ghost use Rattle.parts.specs.Cuts.{cutEnd};
 
 /// The bytes from one index up to and without another. Absent where there are none.
 pub struct Part {
@@ -26,30 +28,6 @@ impl Part {
     {
         self.to <= self.from
     }
-}
-
-// Where the piece that starts at `from` ends: at the first byte that stands as the mark, or with the part.
-fn piece_end(s: &[u8], from: usize, to: usize, mark: u8) -> usize
-    ensures { λ r. ⌜ r ≡ cutEnd (now (s .entry)) from to mark ⌝ }
-{
-    let mut i = from;
-    let mut released = false;
-    while i < to {
-        if s.len() <= i {
-            return i;
-        }
-        let b = s[i];
-        if released {
-            released = false;
-        } else {
-            if b == mark {
-                return i;
-            }
-            released = b == b'?';
-        }
-        i += 1;
-    }
-    i
 }
 
 // The n-th piece of a part cut at a mark, counted from 0.

@@ -14,7 +14,6 @@ use Rattle.parts.proofs.is_repeated.Tie as tie
 use Rattle.parts.proofs.is_repeated.Reads as reads
 use Rattle.parts.proofs.is_repeated.Lts as lts
 use Rattle.parts.proofs.element.Reads as element-reads
-use Rattle.parts.proofs.piece_end.Reads as piece-end-reads
 
 element-requires : tie.Need-element-requires
 element-requires c κs = search needs

@@ -15,7 +15,6 @@ use Rattle.parts.proofs.piece.Tie as tie
 use Rattle.parts.proofs.piece.Reads as reads
 use Rattle.parts.proofs.piece.Lts as lts
 use Rattle.parts.proofs.Part.none.Reads as none-reads
-use Rattle.parts.proofs.piece_end.Reads as piece-end-reads
 
 abbrev Inv-loop : tie.InvT-loop
 Inv-loop s mark n to from₀ left₀ from left = spanOf from (pieces mark (between s from to)) left ≡ spanOf from₀ (pieces mark (between s from₀ to)) n

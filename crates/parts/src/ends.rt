@@ -1,0 +1,102 @@
+//! Where a piece of a part ends. Runs of text with no mark and no release in them are passed eight bytes at a time.
+
+use bytes::Eight;
+use bytes::differing;
+use bytes::eight_at;
+use bytes::wide_byte;
+ghost use mathlib.Core.Path.{_≡_};
+ghost use Prim.Native.Nat.{_≤_};
+ghost use lib.Dec.{eqb};
+ghost use Rattle.parts.specs.Cuts.{cutEnd};
+ghost use Rattle.parts.specs.Plain.{plainBits};
+ghost use Rattle.parts.specs.Walked.{WalkTold};
+
+// The highest bit of each of eight bytes, all other bits, the lowest, and eight times `?`.
+const HIGH: usize = 0x8080_8080_8080_8080;
+
+const LOW: usize = 0x7f7f_7f7f_7f7f_7f7f;
+
+const ONES: usize = 0x0101_0101_0101_0101;
+
+const RELEASES: usize = 0x3f3f_3f3f_3f3f_3f3f;
+
+// How far a walk byte by byte came.
+enum Walked {
+    /// The piece ends here.
+    Ends(usize),
+    /// It goes on from here, where nothing is released.
+    Goes(usize),
+}
+
+// Whether no byte of eight is that of eight marks, or a `?`.
+fn are_plain(word: usize, marks: usize) -> bool
+    ensures { λ r. ⌜ r ≡ eqb (plainBits word marks) 9259542123273814144 ⌝ }
+{
+    differing(word, marks, LOW) & differing(word, RELEASES, LOW) == HIGH
+}
+
+// Past plain text, eight bytes by eight: a piece that starts at `from` ends where one does that starts here.
+fn pass_plain(s: &[u8], from: usize, to: usize, mark: u8) -> usize
+    ensures { λ r. ⌜ (from ≤ r) × (cutEnd (now (s .entry)) r to mark ≡ cutEnd (now (s .entry)) from to mark) ⌝ }
+{
+    let marks = wide_byte(mark) * ONES;
+    let mut i = from;
+    while i < to {
+        if to - i < 8 {
+            return i;
+        }
+        let Eight::Word(word) = eight_at(s, i) else {
+            return i;
+        };
+        if !are_plain(word, marks) {
+            return i;
+        }
+        i += 8;
+    }
+    i
+}
+
+// Byte by byte to the end of the piece that starts at `from`, or past eight bytes and a release at their end.
+fn walk(s: &[u8], from: usize, to: usize, mark: u8) -> Walked
+    ensures { λ r. ⌜ WalkTold (now (s .entry)) from to mark r ⌝ }
+{
+    let mut i = from;
+    let mut released = false;
+    while i < to {
+        if s.len() <= i {
+            return Walked::Ends(i);
+        }
+        let b = s[i];
+        if released {
+            released = false;
+        } else {
+            if b == mark {
+                return Walked::Ends(i);
+            }
+            if 8 <= i - from {
+                return Walked::Goes(i);
+            }
+            released = b == b'?';
+        }
+        i += 1;
+    }
+    Walked::Ends(i)
+}
+
+// Where the piece that starts at `from` ends: at the first byte that stands as the mark, or with the part. Most are short, so a walk
+// comes first.
+pub(crate) fn piece_end(s: &[u8], from: usize, to: usize, mark: u8) -> usize
+    ensures { λ r. ⌜ r ≡ cutEnd (now (s .entry)) from to mark ⌝ }
+{
+    let mut i = from;
+    loop {
+        match walk(s, i, to, mark) {
+            Walked::Ends(end) => {
+                return end;
+            }
+            Walked::Goes(next) => {
+                i = pass_plain(s, next, to, mark);
+            }
+        }
+    }
+}
