@@ -5,3 +5,4 @@ pub mod Extents
 pub mod Ways
 pub mod Laws
 pub mod Tables
+pub mod Numbers
