@@ -1,6 +1,7 @@
 pub mod Rows
 pub mod Services
 pub mod Search
+pub mod Inner
 pub mod Extents
 pub mod Ways
 pub mod Laws
