@@ -109,6 +109,10 @@ module _ (d : List ℕ) (k : ℕ) (o : List ℕ) (h : 75 * k + 75 ≤ length d) 
       let e : 75 * k + 75 - 75 * k ≡ length o = omega arith in
       rw (lt-ltb k (length d / 75) (omega arith), e) (put-take d (75 * k) o (omega arith))
 
+pub ordered-length : (d : List ℕ) (k : ℕ) (o : List ℕ) → length (ordered d k o) ≡ length d
+unfolding ordered
+ordered-length d k o = choose (ltb k (length d / 75)) (λ q. rw q (length-put d (75 * k) o)) (λ q. rw q)
+
 -- orders before it stay as they were
 order-front : (x y : List ℕ) (k : ℕ) → take (75 * k + 75) x ≡ take (75 * k + 75) y → orderAt x k ≡ orderAt y k
 unfolding orderAt
