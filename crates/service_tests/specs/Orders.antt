@@ -96,6 +96,19 @@ module _ (first : ℕ) (s rows : List ℕ) (look : List ℕ → Known) where
   count-more : (v : Service) (t w : Totals) → testOne first s rows look v t ≡ done w → w .services ≡ t .services + 1
   count-more v t w e = ap (λ (x : Totals). x .services) (passed first s rows look v t w e .1)
 
+  pub services-count : (l : List Service) (t u : Totals) → testAll first s rows look l t ≡ done u → u .services ≡ t .services + length l
+  unfolding testAll
+  services-count [] t u e = ap (λ (x : Totals). x .services) (sym (done-is e)) ∙ omega arith
+  services-count (v ∷ vs) t u e = count-by (λ w. services-count vs w u) (testOne first s rows look v t) refl e
+    where
+      count-by : ((w : Totals) → testAll first s rows look vs w ≡ done u → u .services ≡ w .services + length vs) → (x : Answer Totals) → testOne first s rows look v t ≡ x
+          → thenTest (testAll first s rows look vs) x ≡ done u → u .services ≡ t .services + suc (length vs)
+      count-by again (refused m at) q r = absurd (refused≢done r)
+      count-by again (done w) q r =
+          let c = count-more v t w q in
+          let b = again w r in
+          omega arith
+
   -- orders before those that are kept now stay
   orders-keep : (l : List Service) (t : Totals) (d : List ℕ) (j : ℕ) → j < t .services → orderAt (ordersAll first s rows look l t d) j ≡ orderAt d j
   unfolding ordersAll
@@ -110,16 +123,16 @@ module _ (first : ℕ) (s rows : List ℕ) (look : List ℕ → Known) where
           again w (ordered d (t .services) (orderOf first s rows v)) (omega arith) ∙ order-other d (t .services) (orderOf first s rows v) j h
 
   pub orders-put : (l : List Service) (t u : Totals) (d room : List ℕ) → testAll first s rows look l t ≡ done u → 75 * (t .services + length l) ≤ length d
-      → (putOrders (ordersAll first s rows look l t d) (t .services) (length l) room ≡ putsIn first s rows l room) × (u .services ≡ t .services + length l)
+      → putOrders (ordersAll first s rows look l t d) (t .services) (length l) room ≡ putsIn first s rows l room
   unfolding testAll ordersAll putsIn putOrders
-  orders-put [] t u d room e h = (refl, ap (λ (x : Totals). x .services) (sym (done-is e)) ∙ omega arith)
+  orders-put [] t u d room e h = refl
   orders-put (v ∷ vs) t u d room e h = put-by (λ w b. orders-put vs w u b (putBytes first s rows v room)) (testOne first s rows look v t) refl e
     where
       put-by : ((w : Totals) (b : List ℕ) → testAll first s rows look vs w ≡ done u → 75 * (w .services + length vs) ≤ length b
-          → (putOrders (ordersAll first s rows look vs w b) (w .services) (length vs) (putBytes first s rows v room) ≡ putsIn first s rows vs (putBytes first s rows v room)) × (u .services ≡ w .services + length vs))
+          → putOrders (ordersAll first s rows look vs w b) (w .services) (length vs) (putBytes first s rows v room) ≡ putsIn first s rows vs (putBytes first s rows v room))
           → (x : Answer Totals) → testOne first s rows look v t ≡ x → thenTest (testAll first s rows look vs) x ≡ done u
-          → (putOrders (thenOrder (λ w. ordersAll first s rows look vs w (ordered d (t .services) (orderOf first s rows v))) d x) (t .services) (suc (length vs)) room
-          ≡ putsIn first s rows vs (putBytes first s rows v room)) × (u .services ≡ t .services + suc (length vs))
+          → putOrders (thenOrder (λ w. ordersAll first s rows look vs w (ordered d (t .services) (orderOf first s rows v))) d x) (t .services) (suc (length vs)) room
+          ≡ putsIn first s rows vs (putBytes first s rows v room)
       put-by again (refused m at) q r = absurd (refused≢done r)
       put-by again (done w) q r =
           let c = count-more v t w q in
@@ -128,7 +141,7 @@ module _ (first : ℕ) (s rows : List ℕ) (look : List ℕ → Known) where
           let l₁ = ordered-length d (t .services) o in
           let b = again w d₁ r (omega arith) in
           let a : orderAt (ordersAll first s rows look vs w d₁) (t .services) ≡ o = orders-keep vs w d₁ (t .services) (omega arith) ∙ order-same d (t .services) o (omega arith) (order-size first s rows v) in
-          (ap (λ (z : List ℕ). putOrders (ordersAll first s rows look vs w d₁) (t .services + 1) (length vs) (putOrder z room)) a
+          ap (λ (z : List ℕ). putOrders (ordersAll first s rows look vs w d₁) (t .services + 1) (length vs) (putOrder z room)) a
           ∙ ap (putOrders (ordersAll first s rows look vs w d₁) (t .services + 1) (length vs)) (order-enters first s rows v room)
           ∙ ap (λ (k : ℕ). putOrders (ordersAll first s rows look vs w d₁) k (length vs) (putBytes first s rows v room)) (sym c)
-          ∙ b .0, omega arith)
+          ∙ b

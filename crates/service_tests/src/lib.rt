@@ -128,7 +128,14 @@ fn join_one(days: &mut [u8], first: usize, s: &[u8], at: usize) -> bool
 }
 
 // The same for the POPs among rows, up to the first that is not: each is read once, to be tested and joined.
-fn join_window(days: &mut [u8], first: usize, s: &[u8], rows: &[u32], from: usize, to: usize) -> Window
+fn join_window(
+    days: &mut [u8],
+    first: usize,
+    s: &[u8],
+    rows: &[u32],
+    from: usize,
+    to: usize,
+) -> Window
     requires { ⌜ length (now days) ≡ 64 ⌝ }
     ensures told { λ r. ⌜ windowFound r ≡ firstOutside first (now (s .entry)) (periodsFrom (now (rows .entry)) from to) ⌝ }
     ensures left { λ r. ⌜ (windowFound r ≡ none → now (days .exit) ≡ joinAll (now (days .entry)) first (map (bodyAt (now (s .entry))) (periodsFrom (now (rows .entry)) from to))) ⌝ }

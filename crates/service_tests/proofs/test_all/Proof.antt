@@ -192,7 +192,7 @@ returns-2 c =
     let a = start f .args in
     let x = r .refusal2 .given .0 .0 in
     let e = one-refused (now (a .s)) (now (a .rows)) (service f) (a .first) (lookAt (now (a .room))) (own f .loop .totals) (x .number) (x .position)
-        (sym (ap services.testedAnswer (r .refusal2 .given .1)) ∙ t .test-number .ensures .0) in (
+    (sym (ap services.testedAnswer (r .refusal2 .given .1)) ∙ t .test-number .ensures .0) in (
       all-stop (a .first) (now (a .s)) (now (a .rows)) (lookAt (now (a .room))) (remaining f) (own f .loop .totals) (service f) (rest f) (next f .rest) (x .number) (x .position) e
           ∙ own f .loop .inv .2,
       sym (orders-stop (a .first) (now (a .s)) (now (a .rows)) (lookAt (now (a .room))) (remaining f) (own f .loop .totals) (own f .loop .orders) (service f) (rest f) (next f .rest) (x .number) (x .position) e)
