@@ -105,14 +105,15 @@ fn mark_weekdays(days: &mut [u8], at: usize, first: usize, n: usize, week: u8)
 {
     let lead = 8 - at % 8;
     mark_bits(days, at, eight_days(week, first), shorter(lead, n));
-    let mut k = lead;
+    let last = (at + n) / 8;
+    let mut i = (at + lead) / 8;
     let mut eight = eight_days(week, first + lead);
-    while k + 8 <= n {
-        let i = (at + k) / 8;
+    while i < last {
         days[i] = days[i] | eight;
         eight = next_eight(eight);
-        k += 8;
+        i += 1;
     }
+    let k = 8 * i - at;
     if n <= k {
         return;
     }

@@ -1,6 +1,10 @@
 //! What an account's room holds of a number, and what a service makes of it: on any bytes.
 
+mod orders;
+
 use joining::join_period;
+pub use orders::put_order;
+pub use orders::put_orders;
 use parts::Part;
 use parts::bytes_of;
 use services::Found;
@@ -38,7 +42,7 @@ pub enum Known {
 }
 
 // The number of a service after release, as it stands in a slot.
-fn number_of(s: &[u8], part: Part) -> [u8; 10]
+pub(crate) fn number_of(s: &[u8], part: Part) -> [u8; 10]
     ensures { λ r. ⌜ r ≡ numberBytes (plain (bytesOf (now (s .entry)) part)) ⌝ }
 {
     let mut number = [0u8; 10];
@@ -93,7 +97,7 @@ pub fn days_of(first: usize, s: &[u8], rows: &[u32], from: usize, to: usize) -> 
 }
 
 // A pending entry: its flag, and its calendar.
-fn entry_of(flag: u8, days: [u8; 64]) -> [u8; 65]
+pub(crate) fn entry_of(flag: u8, days: [u8; 64]) -> [u8; 65]
     ensures { λ r. ⌜ r ≡ flag ∷ days ⌝ }
 {
     let mut entry = [0u8; 65];
@@ -113,7 +117,7 @@ fn new_slot(number: [u8; 10], entry: [u8; 65]) -> [u8; 140]
 }
 
 // From where on a room's bytes are all 0: behind its used slots, else at its end.
-fn end_of(room: &[u8]) -> usize
+pub(crate) fn end_of(room: &[u8]) -> usize
     ensures { λ r. ⌜ Ends (now (room .entry)) r ⌝ }
 {
     let end = slots::used(room) * SLOT;
@@ -157,7 +161,7 @@ fn insert_slot(room: &mut [u8], at: usize, slot: [u8; 140], end: usize) -> usize
 }
 
 // Sets the pending entry of a number, in its slot or in a new one. Takes and answers from where on the bytes are all 0.
-fn put_service(room: &mut [u8], number: [u8; 10], entry: [u8; 65], end: usize) -> usize
+pub(crate) fn put_service(room: &mut [u8], number: [u8; 10], entry: [u8; 65], end: usize) -> usize
     requires { ⌜ Ends (now room) end ⌝ }
     ensures left { λ _. ⌜ now (room .exit) ≡ putIn (now (room .entry)) number entry ⌝ }
     ensures zeros { λ r. ⌜ Ends (now (room .exit)) r ⌝ }

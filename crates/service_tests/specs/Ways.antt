@@ -4,7 +4,7 @@ use Prim.Native.Nat.{ℕ, _+_, _-_, _≤_, _<_}
 use mathlib.Core.Path.{_≡_, sym, ap, _∙_}
 use mathlib.Core.Bool.{Bool, true, false, not}
 use mathlib.Core.List.{List, [], _∷_}
-use mathlib.Core.Option.{none, some}
+use mathlib.Core.Option.{Option, none, some}
 use native.Mathlib.Omega.{arith}
 use lib.Dec.{ltb}
 use borrow.Author.Tests.{lt-leb, le-leb, ltb-true, ltb-false}
@@ -24,7 +24,7 @@ use Rattle.service_tests.specs.declared.Totals.{Totals}
 use Rattle.service_entries.specs.declared.Known.{Known}
 use Rattle.service_entries.specs.declared.Known.the-variants as known
 use Rattle.stages.specs.Stage.{numberIn, outsideBy, firstOutside}
-use Rattle.service_tests.specs.Tests.{unknownBy, adds, drops, removals, testKnown, testOne, testAll}
+use Rattle.service_tests.specs.Tests.{unknownBy, adds, drops, removals, testKnown, testInside, testOne, testAll}
 use Rattle.service_tests.specs.Passed.{refused-again, passed}
 
 -- ---- periods and their window
@@ -125,17 +125,11 @@ module _ (s rows : List ℕ) (v : Service) where
         (λ r. absurd (refused≢done (rw (p, r) at q))))
 
     module _ (g : done tt ≡ testedOf s rows v) where
-      pub one-outside : (at : ℕ) → some at ≡ firstOutside first s (periodsOf rows v) → refused 13 at ≡ testOne first s rows look v t
+      pub one-tested : (w : Option ℕ) → w ≡ firstOutside first s (periodsOf rows v) → testInside w (testKnown (v .removal) (v .prd) (look (numberIn s v)) t) ≡ testOne first s rows look v t
       unfolding testOne
-      one-outside at o =
-          let w = tested-good (sym g) in
-          rw (w .0, w .1, ← o)
-
-      pub one-inside : none ≡ firstOutside first s (periodsOf rows v) → (a : Answer Totals) → a ≡ testKnown (v .removal) (v .prd) (look (numberIn s v)) t → a ≡ testOne first s rows look v t
-      unfolding testOne
-      one-inside o a q =
-          let w = tested-good (sym g) in
-          rw (w .0, w .1, ← o) q
+      one-tested w o =
+          let k = tested-good (sym g) in
+          rw (k .0, k .1, o)
 
 adds-few : (removal : Bool) (k : Known) → adds removal k ≤ 1
 adds-few true k = omega arith

@@ -4,11 +4,14 @@ mod numbers;
 
 use crate::numbers::mark_of;
 use crate::numbers::set_mark;
+use joining::Joined;
+use joining::join_period;
 use parts::bytes_of;
 use period::Period;
 use period::read_period;
 use service_entries::Known;
 use service_entries::held;
+use service_entries::put_order;
 use services::Found;
 use services::FoundPeriod;
 use services::Service;
@@ -20,18 +23,21 @@ use services::test_service;
 use syntax::segment::Refusal;
 ghost use mathlib.Core.Path.{_≡_};
 ghost use mathlib.Core.Bool.{not};
+ghost use mathlib.Core.List.{map};
+ghost use mathlib.Core.Option.{none};
 ghost use Prim.Native.Nat.{_≤_, _<_};
 ghost use Rattle.laws.specs.Choice.{both};
 ghost use Rattle.syntax.specs.Segment.{bodyAt};
 ghost use Rattle.period.specs.Period.{periodOf};
-ghost use Rattle.joining.specs.Joined.{inWindow};
-ghost use lib.ListN.{set};
+ghost use Rattle.joining.specs.Joined.{inWindow, daysJoined, joinAll};
+ghost use lib.ListN.{length, set};
 ghost use Rattle.answers.specs.Answers.{done, refused};
 ghost use Rattle.services.specs.Services as services;
 ghost use Rattle.services.specs.Services.{periodsFrom, servicesOf};
-ghost use Rattle.stages.specs.Stage.{numberIn, outsideBy, firstOutside};
-ghost use Rattle.service_tests.specs.Tests.{windowFound, totalsAnswer, unknownBy, adds, drops, removals, testKnown, testOne, testAll, noTotals};
+ghost use Rattle.stages.specs.Stage.{numberIn, outsideBy, firstOutside, daysOf};
+ghost use Rattle.service_tests.specs.Tests.{windowFound, totalsAnswer, unknownBy, adds, drops, removals, testKnown, testInside, testAll, noTotals};
 ghost use Rattle.service_tests.specs.Marks.{markOf, Marked};
+ghost use Rattle.service_tests.specs.Orders.{ordersAll};
 ghost use Rattle.service_entries.specs.Room.{lookAt};
 
 /// What the services of an interchange come to.
@@ -100,6 +106,64 @@ pub fn test_window(first: usize, s: &[u8], rows: &[u32], from: usize, to: usize)
             }
         }
     }
+}
+
+// The days of a service over the window, where none of its POPs goes past it.
+struct Days {
+    window: Window,
+    days: [u8; 64],
+}
+
+// 13: joins the days of the POP at an offset into a calendar of the window; whether it is not wholly in the window.
+fn join_one(days: &mut [u8], first: usize, s: &[u8], at: usize) -> bool
+    requires { ⌜ length (now days) ≡ 64 ⌝ }
+    ensures told { λ r. ⌜ r ≡ outsideBy first (periodOf (bodyAt (now (s .entry)) at)) ⌝ }
+    ensures left { λ _. ⌜ now (days .exit) ≡ daysJoined (now (days .entry)) first (bodyAt (now (s .entry)) at) ⌝ }
+{
+    match join_period(days, first, s, segment_at(s, at)) {
+        Joined::Outside => true,
+        Joined::Done => false,
+        Joined::WrongPeriod(_) => false,
+    }
+}
+
+// The same for the POPs among rows, up to the first that is not: each is read once, to be tested and joined.
+fn join_window(
+    days: &mut [u8],
+    first: usize,
+    s: &[u8],
+    rows: &[u32],
+    from: usize,
+    to: usize,
+) -> Window
+    requires { ⌜ length (now days) ≡ 64 ⌝ }
+    ensures told { λ r. ⌜ windowFound r ≡ firstOutside first (now (s .entry)) (periodsFrom (now (rows .entry)) from to) ⌝ }
+    ensures left { λ r. ⌜ (windowFound r ≡ none → now (days .exit) ≡ joinAll (now (days .entry)) first (map (bodyAt (now (s .entry))) (periodsFrom (now (rows .entry)) from to))) ⌝ }
+{
+    let mut i = from;
+    loop {
+        match next_period(rows, i, to) {
+            FoundPeriod::Pop(k, at) => {
+                if join_one(days, first, s, at) {
+                    return Window::Outside(at);
+                }
+                i = k + 1;
+            }
+            FoundPeriod::NoMore => {
+                return Window::Inside;
+            }
+        }
+    }
+}
+
+// The same into a calendar of its own.
+fn join_days(first: usize, s: &[u8], rows: &[u32], from: usize, to: usize) -> Days
+    ensures told { λ r. ⌜ windowFound (r .window) ≡ firstOutside first (now (s .entry)) (periodsFrom (now (rows .entry)) from to) ⌝ }
+    ensures left { λ r. ⌜ (windowFound (r .window) ≡ none → r .days ≡ daysOf first (now (s .entry)) (periodsFrom (now (rows .entry)) from to)) ⌝ }
+{
+    let mut days = [0u8; 64];
+    let window = join_window(&mut days, first, s, rows, from, to);
+    Days { window, days }
 }
 
 // What a refusal is.
@@ -190,26 +254,27 @@ fn test_number(marks: &mut [u8], s: &[u8], rows: &[u32], service: Service) -> se
 }
 
 // Tests a service that passes 11 and 12 for 13 and 14, and counts it.
-fn test_one(
-    room: &[u8],
-    first: usize,
-    s: &[u8],
-    rows: &[u32],
-    service: Service,
-    totals: Totals,
-) -> Tested
-    requires { ⌜ (services.testedOf (now s) (now rows) service ≡ done tt) × (totals .services < 18446744073709551615) × (totals .added < 18446744073709551615) × (totals .dropped < 18446744073709551615) × (totals .removals < 18446744073709551615) ⌝ }
-    ensures { λ r. ⌜ totalsAnswer r ≡ testOne first (now (s .entry)) (now (rows .entry)) (lookAt (now (room .entry))) service totals ⌝ }
+fn test_one(room: &[u8], s: &[u8], service: Service, window: Window, totals: Totals) -> Tested
+    requires { ⌜ (totals .services < 18446744073709551615) × (totals .added < 18446744073709551615) × (totals .dropped < 18446744073709551615) × (totals .removals < 18446744073709551615) ⌝ }
+    ensures { λ r. ⌜ totalsAnswer r ≡ testInside (windowFound window) (testKnown (service .removal) (service .prd) (lookAt (now (room .entry)) (numberIn (now (s .entry)) service)) totals) ⌝ }
 {
-    match test_window(first, s, rows, service.from, service.to) {
+    match window {
         Window::Inside => test_known(room, s, service, totals),
         Window::Outside(at) => refuse(13, at),
     }
 }
 
-/// Tests the services of n rows in order, all against the room as it stands.
-pub fn test_all(room: &[u8], first: usize, s: &[u8], rows: &[u32], n: usize) -> Tested
-    ensures { λ r. ⌜ totalsAnswer r ≡ testAll first (now (s .entry)) (now (rows .entry)) (lookAt (now (room .entry))) (servicesOf (now (s .entry)) (now (rows .entry)) n) noTotals ⌝ }
+/// Tests the services of n rows in order, all against the room as it stands, and keeps an order for each that passes.
+pub fn test_all(
+    orders: &mut [u8],
+    room: &[u8],
+    first: usize,
+    s: &[u8],
+    rows: &[u32],
+    n: usize,
+) -> Tested
+    ensures told { λ r. ⌜ totalsAnswer r ≡ testAll first (now (s .entry)) (now (rows .entry)) (lookAt (now (room .entry))) (servicesOf (now (s .entry)) (now (rows .entry)) n) noTotals ⌝ }
+    ensures left { λ _. ⌜ now (orders .exit) ≡ ordersAll first (now (s .entry)) (now (rows .entry)) (lookAt (now (room .entry))) (servicesOf (now (s .entry)) (now (rows .entry)) n) noTotals (now (orders .entry)) ⌝ }
 {
     let mut marks = [0u8; 16384];
     let mut i = 0;
@@ -222,15 +287,21 @@ pub fn test_all(room: &[u8], first: usize, s: &[u8], rows: &[u32], n: usize) -> 
     loop {
         match next_service(s, rows, n, i) {
             Found::At(service) => match test_number(&mut marks, s, rows, service) {
-                services::Tested::Good => match test_one(room, first, s, rows, service, totals) {
-                    Tested::Passed(more) => {
-                        i = service.to;
-                        totals = more;
+                services::Tested::Good => {
+                    let joined = join_days(first, s, rows, service.from, service.to);
+                    let window = joined.window;
+                    let days = joined.days;
+                    match test_one(room, s, service, window, totals) {
+                        Tested::Passed(more) => {
+                            put_order(orders, totals.services, s, service, days);
+                            i = service.to;
+                            totals = more;
+                        }
+                        Tested::Refused(refusal) => {
+                            return Tested::Refused(refusal);
+                        }
                     }
-                    Tested::Refused(refusal) => {
-                        return Tested::Refused(refusal);
-                    }
-                },
+                }
                 services::Tested::Refused(refusal) => {
                     return Tested::Refused(refusal);
                 }

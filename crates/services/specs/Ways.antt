@@ -1,6 +1,6 @@
 -- The ways through the code, a law for each; what a call answered has a name of its own.
 -- Assumes nothing.
-use Prim.Native.Nat.{ℕ, _+_, _-_, _≤_, _<_}
+use Prim.Native.Nat.{ℕ, _+_, _-_, _/_, _≤_, _<_}
 use mathlib.Core.Path.{_≡_, refl, sym, ap, subst, _∙_}
 use mathlib.Core.Bool.{Bool, true, false, not}
 use mathlib.Core.List.{List, [], _∷_}
@@ -23,12 +23,13 @@ use Rattle.parts.specs.declared.Part.{Part}
 use Rattle.parts.specs.Places.{bytesOf, partAt}
 use Rattle.parts.specs.Located.{part-bytes}
 use Rattle.values.specs.Values.{sameText}
-use Rattle.messages.specs.Tags.{MSD, UIT}
+use Rattle.messages.specs.Tags.{MSD, POP, UIT}
 use Rattle.services.specs.declared.Service.{Service}
 use Rattle.services.specs.declared.Found.the-variants as found
 use Rattle.services.specs.declared.FoundPeriod.the-variants as period
 use Rattle.services.specs.Rows.{offsetAt, isRow, rowCount, firstFrom}
-use Rattle.services.specs.Search.{first-past, first-here, first-on, first-bounds, first-skips, first-through, some-holds, list-none, list-some, list-skip}
+use Rattle.services.specs.Search.{row-inner, first-past, first-here, first-on, first-bounds, first-skips, first-through, some-holds, list-none, list-some, list-skip}
+use Rattle.services.specs.Inner.{Passes, passes-first}
 use Rattle.services.specs.Extents.{Reaches, reach-end, reach-removes}
 use Rattle.services.specs.Services.{isService, isPeriodRow, segmentOf, serviceNumber, saysNumber, saysRemoval, serviceEnd, removes, serviceAt, nextService, nextPeriod, hasPeriod, isWrong, isSameService, isTwice, testedOf, servicesFrom, periodsFrom, countOn, countedOf}
 
@@ -50,6 +51,10 @@ module _ (s : List ℕ) (i : ℕ) where
     pub body-goes : (getD s i 0 ≡ terminator → ⊥) → i + length (firstPiece terminator false (drop i s)) ≡ i + 1 + length (firstPiece terminator (eqb (getD s i 0) releaseMark) (drop (i + 1) s))
     unfolding firstPiece
     body-goes q = rw (drop-here s i h, ne-eqb (getD s i 0) terminator q) (omega arith)
+
+-- a search for a period leaves out the rows of groups inside its own
+pub period-pass : (rows : List ℕ) (i to r : ℕ) → to ≤ length rows / 3 → Passes rows 5 i to r → firstFrom (isPeriodRow rows) r to ≡ firstFrom (isPeriodRow rows) i to
+period-pass rows i to r h p = passes-first rows (isPeriodRow rows) 5 i to r p (λ j l g. row-inner rows 4 POP j (omega arith) (λ e. omega arith))
 
 -- where a segment stands
 pub segment-is : (s : List ℕ) (at to : ℕ) → to ≡ at + length (bodyAt s at) → record { from = at; to = to } ≡ segmentOf s at

@@ -1,11 +1,13 @@
 //! The services of an accepted interchange, one by one, and the tests 11 and 12 (document 01, "The register", Stage).
 //! The rows are those that the reader wrote: three numbers each, offset, group and tag. Any other numbers do no harm.
 
+mod numbers;
 mod rows;
 mod segments;
 
 use crate::rows::first_row;
 use crate::rows::offset_of;
+use crate::rows::period_row;
 use crate::rows::reach_of;
 use crate::rows::row_count;
 use crate::segments::end_of;
@@ -13,7 +15,6 @@ use crate::segments::number_at;
 use crate::segments::says_number;
 use crate::segments::says_removal;
 use messages::MSD;
-use messages::POP;
 use messages::PRD;
 use parts::Part;
 use parts::bytes_of;
@@ -113,7 +114,7 @@ pub fn next_period(rows: &[u32], i: usize, to: usize) -> FoundPeriod
     ensures { λ r. ⌜ r ≡ nextPeriod (now (rows .entry)) i to ⌝ }
 {
     let count = row_count(rows, to);
-    let k = first_row(rows, i, count, 4, POP);
+    let k = period_row(rows, i, count);
     if count <= k {
         return FoundPeriod::NoMore;
     }
@@ -136,7 +137,7 @@ fn has_period(rows: &[u32], from: usize, to: usize) -> bool
     ensures { λ r. ⌜ r ≡ hasPeriod (now (rows .entry)) from to ⌝ }
 {
     let count = row_count(rows, to);
-    first_row(rows, from, count, 4, POP) < count
+    period_row(rows, from, count) < count
 }
 
 /// 11: whether the number is wrong, or a POP is missing or present wrongly.

@@ -1,11 +1,14 @@
 //! Rows in a buffer: three numbers each, offset, group and tag.
 
+use messages::POP;
 use messages::PRD;
 use messages::UIT;
 ghost use mathlib.Core.Path.{_≡_};
-ghost use Prim.Native.Nat.{_/_, _≤_, _<_};
-ghost use lib.ListN.{length};
+ghost use Prim.Native.Nat.{_+_, _*_, _/_, _≤_, _<_};
+ghost use lib.ListN.{length, getD};
 ghost use Rattle.services.specs.Rows.{offsetAt, isRow, rowCount, firstFrom};
+ghost use Rattle.services.specs.Services.{isPeriodRow};
+ghost use Rattle.services.specs.Inner.{Passes};
 ghost use Rattle.services.specs.Extents.{endsService, Reaches};
 
 /// How far the rows of a service go.
@@ -41,6 +44,39 @@ pub(crate) fn offset_of(rows: &[u32], i: usize) -> usize
     0
 }
 
+// The group of row i.
+fn group_of(rows: &[u32], i: usize) -> u32
+    requires { ⌜ i < length (now rows) / 3 ⌝ }
+    ensures { λ r. ⌜ r ≡ getD (now (rows .entry)) (3 * i + 1) 0 ⌝ }
+{
+    rows[3 * i + 1]
+}
+
+// Past rows that are all of a group or of later ones: most rows of a service are of groups inside it. Four at a time, so that up to three
+// of them may be left.
+fn past_inner(rows: &[u32], from: usize, to: usize, group: u32) -> usize
+    requires { ⌜ (from ≤ to) × (to ≤ length (now rows) / 3) ⌝ }
+    ensures { λ r. ⌜ Passes (now (rows .entry)) group from to r ⌝ }
+{
+    let mut i = from;
+    while i + 4 <= to {
+        if group_of(rows, i) < group {
+            return i;
+        }
+        if group_of(rows, i + 1) < group {
+            return i + 1;
+        }
+        if group_of(rows, i + 2) < group {
+            return i + 2;
+        }
+        if group_of(rows, i + 3) < group {
+            return i + 3;
+        }
+        i += 4;
+    }
+    i
+}
+
 // Whether row i has a group and a tag.
 fn is_row(rows: &[u32], i: usize, group: u32, tag: u32) -> bool
     requires { ⌜ i < length (now rows) / 3 ⌝ }
@@ -67,6 +103,25 @@ pub(crate) fn first_row(rows: &[u32], from: usize, to: usize, group: u32, tag: u
     i
 }
 
+// The first POP of group 4 from a row on; where there is none before row `to`, `to` or the row itself.
+pub(crate) fn period_row(rows: &[u32], from: usize, to: usize) -> usize
+    requires { ⌜ to ≤ length (now rows) / 3 ⌝ }
+    ensures { λ r. ⌜ r ≡ firstFrom (isPeriodRow (now (rows .entry))) from to ⌝ }
+{
+    let mut i = from;
+    while i < to {
+        i = past_inner(rows, i, to, 5);
+        if to <= i {
+            return i;
+        }
+        if is_row(rows, i, 4, POP) {
+            return i;
+        }
+        i += 1;
+    }
+    i
+}
+
 // Whether the rows of a service before row i end there.
 fn is_end(rows: &[u32], i: usize) -> bool
     requires { ⌜ i < length (now rows) / 3 ⌝ }
@@ -78,7 +133,7 @@ fn is_end(rows: &[u32], i: usize) -> bool
     is_row(rows, i, 0, UIT)
 }
 
-// How far the rows of a service go, from the one after its PRD's on, of n rows: one pass, in which most rows are of groups inside it.
+// How far the rows of a service go, from the one after its PRD's on, of n rows: one pass.
 pub(crate) fn reach_of(rows: &[u32], from: usize, n: usize) -> Extent
     requires { ⌜ n ≤ length (now rows) / 3 ⌝ }
     ensures { λ r. ⌜ Reaches (now (rows .entry)) from n (r .own) (r .to) ⌝ }
@@ -86,7 +141,11 @@ pub(crate) fn reach_of(rows: &[u32], from: usize, n: usize) -> Extent
     let mut own = from;
     let mut i = from;
     while i < n {
-        if rows[3 * i + 1] < 3 {
+        i = past_inner(rows, i, n, 3);
+        if n <= i {
+            return Extent { own, to: i };
+        }
+        if group_of(rows, i) < 3 {
             if is_end(rows, i) {
                 return Extent { own, to: i };
             }

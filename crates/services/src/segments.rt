@@ -1,5 +1,7 @@
 //! What a PRD and an MSD say, found by their offsets.
 
+use crate::numbers::is_product;
+use crate::numbers::plain_end;
 use crate::segment_at;
 use parts::Part;
 use parts::bytes_of;
@@ -35,6 +37,13 @@ pub(crate) fn end_of(s: &[u8], from: usize) -> usize
 pub(crate) fn number_at(s: &[u8], at: usize) -> Part
     ensures { λ r. ⌜ r ≡ serviceNumber (now (s .entry)) at ⌝ }
 {
+    if is_product(s, at) {
+        let from = at + 4;
+        let to = plain_end(s, from);
+        if to < s.len() {
+            return Part { from, to };
+        }
+    }
     part_at(s, segment_at(s, at), 1, 1, 1)
 }
 

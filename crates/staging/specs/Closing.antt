@@ -1,6 +1,6 @@
 -- The ways through the code that stages in a room, and through the code that lends it.
 -- Assumes nothing.
-use Prim.Native.Nat.{ℕ, _+_, _-_, _/_, _≤_, _<_}
+use Prim.Native.Nat.{ℕ, _+_, _-_, _*_, _/_, _≤_, _<_, min}
 use mathlib.Core.Path.{_≡_, refl, sym, ap, _∙_}
 use mathlib.Core.Bool.{Bool, true, false}
 use mathlib.Core.List.{List, [], _∷_}
@@ -23,10 +23,12 @@ use Rattle.rooms.specs.Views.{roomStart, roomEnd, view-good, written-back, lent
 use Rattle.service_tests.specs.declared.Totals.{Totals}
 use Rattle.service_tests.specs.Tests.{counted, testAll, noTotals}
 use Rattle.service_tests.specs.Passed.{passed-first}
+use Rattle.service_tests.specs.Orders.{ordersAll, services-count, orders-put}
 use Rattle.services.specs.declared.Service.{Service}
 use Rattle.stages.specs.Stage.{numberIn, stageServices, stageBy, stageOf}
 use Rattle.service_entries.specs.declared.Known.{Known}
 use Rattle.service_entries.specs.Room.{lookAt, removesIn, putsIn}
+use Rattle.service_entries.specs.Orders.{putOrders}
 use Rattle.service_entries.specs.Front.{used-within}
 use Rattle.staging.specs.Room.{roomTests, roomFits, roomAnswer, roomAfter}
 use Rattle.staging.specs.Staged.{staged-room}
@@ -92,6 +94,16 @@ module _ (room : List ℕ) (first : ℕ) (s rows : List ℕ) (n : ℕ) where
     pub room-done : b ≡ true → (mid last : List ℕ) → mid ≡ removesIn s (servicesOf s rows n) room → last ≡ putsIn first s rows (servicesOf s rows n) mid
         → Left (roomTests room first s rows n) (done (u .services)) last
     room-done q mid last a d = rw (← e, ← f, q) (refl, d ∙ ap (putsIn first s rows (servicesOf s rows n)) a)
+
+    -- the orders that were kept of them put the same
+    pub room-ordered : b ≡ true → (d kept mid last : List ℕ) → kept ≡ ordersAll first s rows (lookAt room) (servicesOf s rows n) noTotals d → length d ≡ 19200 → u .services ≤ 256
+        → mid ≡ removesIn s (servicesOf s rows n) room → last ≡ putOrders kept 0 (min (u .services) (length kept / 75)) mid → length kept ≡ 19200
+        → Left (roomTests room first s rows n) (done (u .services)) last
+    room-ordered q d kept mid last k l h a p m =
+        let c = services-count first s rows (lookAt room) (servicesOf s rows n) noTotals u (sym e) in
+        let z : min (u .services) (length kept / 75) ≡ length (servicesOf s rows n) = omega arith in
+        let o = orders-put first s rows (lookAt room) (servicesOf s rows n) noTotals u d mid (sym e) (omega arith) in
+        room-done q mid last a (p ∙ ap (λ (x : ℕ). putOrders kept 0 x mid) z ∙ ap (λ (x : List ℕ). putOrders x 0 (length (servicesOf s rows n)) mid) k ∙ o)
 
 -- ---- in a register
 

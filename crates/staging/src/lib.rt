@@ -7,6 +7,7 @@ use rooms::first_day;
 use rooms::room_end;
 use rooms::room_start;
 use service_entries::put_all;
+use service_entries::put_orders;
 use service_entries::remove_all;
 use service_tests::Tested;
 use service_tests::Totals;
@@ -24,6 +25,9 @@ ghost use Rattle.staging.specs.Few.{Rows};
 ghost use Rattle.staging.specs.Room.{stagedAnswer, roomTests, roomFits, roomAnswer, roomAfter};
 
 const SLOT: usize = 140;
+
+// How many orders are kept: as many as a register has slots, so that none is missing where the services fit.
+const ORDERS: usize = 256;
 
 /// What came of staging an interchange.
 pub enum Staged {
@@ -67,7 +71,8 @@ fn stage_room(room: &mut [u8], first: usize, s: &[u8], rows: &[u32], n: usize) -
     ensures told { λ r. ⌜ stagedAnswer r ≡ roomAnswer (now (room .entry)) (now (s .entry)) (roomTests (now (room .entry)) first (now (s .entry)) (now (rows .entry)) n) ⌝ }
     ensures left { λ _. ⌜ now (room .exit) ≡ roomAfter (now (room .entry)) first (now (s .entry)) (now (rows .entry)) n (roomTests (now (room .entry)) first (now (s .entry)) (now (rows .entry)) n) ⌝ }
 {
-    match test_all(room, first, s, rows, n) {
+    let mut orders = [0u8; 19200];
+    match test_all(&mut orders, room, first, s, rows, n) {
         Tested::Refused(refusal) => Staged::Refused(refusal),
         Tested::Passed(totals) => {
             if !fits(room, totals) {
@@ -77,7 +82,11 @@ fn stage_room(room: &mut [u8], first: usize, s: &[u8], rows: &[u32], n: usize) -
                 });
             }
             remove_any(room, s, rows, n, totals.removals);
-            put_all(room, first, s, rows, n);
+            if ORDERS < totals.services {
+                put_all(room, first, s, rows, n);
+                return Staged::Done(totals.services);
+            }
+            put_orders(room, &orders, totals.services);
             Staged::Done(totals.services)
         }
     }

@@ -1,32 +1,40 @@
 -- `test_all` meets its contract.
 -- Assumes nothing.
 use mathlib.Core.Path.{_≡_, refl, sym, ap, subst, _∙_}
-use mathlib.Core.List.{List}
+use mathlib.Core.List.{List, _∷_, _++_}
 use Prim.Native.Nat.{ℕ, _-_, _≤_, _<_}
 use native.Mathlib.Omega.{arith}
 use borrow.Author.Needs.{needs}
 use denote.Ref.{now}
+use lib.ListN.{length}
+use Rattle.answers.specs.Answers.{done}
 use Rattle.services.specs.declared.Service.{Service}
 use Rattle.services.specs.Rows.{rowCount}
 use Rattle.services.specs.Services as services
-use Rattle.services.specs.Services.{servicesFrom, servicesOf}
+use Rattle.services.specs.Services.{periodsOf, servicesFrom, servicesOf}
 use Rattle.services.specs.Ways.{Next, next-found, next-gone}
-use Rattle.service_entries.specs.Room.{lookAt}
+use Rattle.stages.specs.Stage.{numberIn, daysOf}
+use Rattle.service_entries.specs.Room.{numberBytes, lookAt}
+use Rattle.service_entries.specs.Orders.{flagOf, ordered}
 use Rattle.service_tests.specs.declared.Totals.{Totals}
-use Rattle.service_tests.specs.Tests.{totalsAnswer, testAll, noTotals}
+use Rattle.service_tests.specs.Tests.{totalsAnswer, windowFound, testOne, testAll, noTotals}
 use Rattle.service_tests.specs.Marks.{Marked, marked-start, marked-to, marked-on}
-use Rattle.service_tests.specs.Ways.{one-refused, one-more, all-done, all-on, all-stop}
+use Rattle.service_tests.specs.Passed.{passed}
+use Rattle.service_tests.specs.Orders.{ordersAll, orders-done, orders-on, orders-stop}
+use Rattle.service_tests.specs.Ways.{one-refused, one-tested, one-more, all-done, all-on, all-stop}
 use Rattle.service_tests.proofs.test_all.Statement.{statement}
 use Rattle.service_tests.proofs.test_all.Tie as tie
 
 abbrev Inv-loop : tie.InvT-loop
-Inv-loop room first s rows n marks₀ i₀ totals₀ marks i totals =
+Inv-loop orders₀ room first s rows n marks₀ i₀ totals₀ orders marks i totals =
     ((totals .services ≤ i) × (totals .added ≤ i) × (totals .dropped ≤ i) × (totals .removals ≤ i))
     × Marked marks s rows i
     × (testAll first s rows (lookAt room) (servicesFrom s rows (rowCount rows n) i) totals ≡ testAll first s rows (lookAt room) (servicesOf s rows n) noTotals)
+    × (ordersAll first s rows (lookAt room) (servicesFrom s rows (rowCount rows n) i) totals orders ≡ ordersAll first s rows (lookAt room) (servicesOf s rows n) noTotals orders₀)
+    × (length orders ≡ length orders₀)
 
 abbrev μ-loop : tie.MeasureT-loop
-μ-loop room first s rows n marks₀ i₀ totals₀ marks i totals = rowCount rows n - i
+μ-loop orders₀ room first s rows n marks₀ i₀ totals₀ orders marks i totals = rowCount rows n - i
 
 -- the service that was found
 module _ (f : tie.After-service Inv-loop μ-loop) where
@@ -34,7 +42,7 @@ module _ (f : tie.After-service Inv-loop μ-loop) where
   own = f .before .before .before
 
   abbrev start : tie.Start Inv-loop μ-loop
-  start = own .before .before .before .before
+  start = own .before .before .before .before .before
 
   abbrev service : Service
   service = f .service .given .0 .0
@@ -54,10 +62,33 @@ module _ (f : tie.After-service Inv-loop μ-loop) where
 abbrev found : tie.After-test-number Inv-loop μ-loop → tie.After-service Inv-loop μ-loop
 found t = t .before .before .before
 
+abbrev numbered : tie.After-test-one Inv-loop μ-loop → tie.After-test-number Inv-loop μ-loop
+numbered o = o .before .before .before .before .before .before
+
+-- and tested for the rest
+module _ (o : tie.After-test-one Inv-loop μ-loop) where
+  abbrev at : tie.After-service Inv-loop μ-loop
+  at = found (numbered o)
+
+  tested : totalsAnswer (o .test-one .result) ≡ testOne (start at .args .first) (now (start at .args .s)) (now (start at .args .rows)) (lookAt (now (start at .args .room))) (service at) (own at .loop .totals)
+  tested =
+      let j = o .before .before in
+      let a = start at .args in
+      o .test-one .ensures
+      ∙ one-tested (now (a .s)) (now (a .rows)) (service at) (a .first) (lookAt (now (a .room))) (own at .loop .totals)
+      (sym (sym (numbered o .test-number .ensures .0) ∙ ap services.testedAnswer (j .before .enum-told .given .1))) (windowFound (j .join-days .result .window)) (j .join-days .ensures .0)
+
+  days-joined : (u : Totals) → totalsAnswer (o .test-one .result) ≡ done u → o .before .before .join-days .result .days ≡ daysOf (start at .args .first) (now (start at .args .s)) (periodsOf (now (start at .args .rows)) (service at))
+  days-joined u e =
+      let j = o .before .before in
+      let a = start at .args in
+      let p = passed (a .first) (now (a .s)) (now (a .rows)) (lookAt (now (a .room))) (service at) (own at .loop .totals) u (sym tested ∙ e) .0 in
+      j .join-days .ensures .1 (j .join-days .ensures .0 ∙ p .inside)
+
 loop-holds : tie.Need-loop-holds Inv-loop μ-loop
 loop-holds c =
-    let a = c .before .before .before .args in
-    ((omega arith, omega arith, omega arith, omega arith), marked-start (now (a .s)) (now (a .rows)), refl)
+    let a = c .before .before .before .before .args in
+    ((omega arith, omega arith, omega arith, omega arith), marked-start (now (a .s)) (now (a .rows)), refl, refl, refl)
 
 next-service-requires : tie.Need-next-service-requires Inv-loop μ-loop
 next-service-requires c κs = search needs
@@ -83,57 +114,75 @@ few : (t : Totals) (i : ℕ) → (t .services ≤ i) × (t .added ≤ i) × (t .
     → (t .services < 18446744073709551615) × (t .added < 18446744073709551615) × (t .dropped < 18446744073709551615) × (t .removals < 18446744073709551615)
 few t i v h = (omega arith, omega arith, omega arith, omega arith)
 
+join-days-requires : tie.Need-join-days-requires Inv-loop μ-loop
+join-days-requires c κs = search needs
+
 test-one-requires : tie.Need-test-one-requires Inv-loop μ-loop
 test-one-requires c κs =
-    let t = c .before .before .before in
-    let f = found t in
+    let f = found (c .before .before .before .before .before) in
     let w = next f in
     let k = start f .fits .n in
-    let b = few (own f .loop .totals) (own f .loop .i) (own f .loop .inv .0) (omega arith) in
-    (sym (t .test-number .ensures .0) ∙ ap services.testedAnswer (c .enum-told .given .1), b .0, b .1, b .2, b .3)
+    few (own f .loop .totals) (own f .loop .i) (own f .loop .inv .0) (omega arith)
 
 enum-known-more : tie.Need-enum-known-more Inv-loop μ-loop
 enum-known-more c = search needs
 
+put-order-requires : tie.Need-put-order-requires Inv-loop μ-loop
+put-order-requires c κs = search needs
+
 loop-less : tie.Need-loop-less Inv-loop μ-loop
 loop-less c =
-    let w = next (found (c .before .before .before .before .before .before .before)) in
+    let w = next (found (numbered (c .before .before .before .before .before .before .before))) in
     omega arith
 
 loop-again : tie.Need-loop-again Inv-loop μ-loop
 loop-again c =
-    let m = c .before in
+    let q = c .before .before in
+    let m = q .before .before .before in
     let o = m .before .before in
-    let t = o .before .before .before .before in
+    let t = numbered o in
     let f = found t in
     let a = start f .args in
-    let v = own f .loop .inv in
+    let l = own f .loop in
+    let v = l .inv in
     let w = next f in
     let u = m .more .given .0 .0 in
-    let e = sym (ap totalsAnswer (m .more .given .1)) ∙ o .test-one .ensures in
-    let h = one-more (a .first) (now (a .s)) (now (a .rows)) (lookAt (now (a .room))) (service f) (own f .loop .totals) u e in (
+    let e = sym (ap totalsAnswer (m .more .given .1)) ∙ tested o in
+    let h = one-more (a .first) (now (a .s)) (now (a .rows)) (lookAt (now (a .room))) (service f) (l .totals) u e in
+    let d = ap (λ (x : List ℕ). ordered (l .orders) (l .totals .services) (numberBytes (numberIn (now (a .s)) (service f)) ++ (flagOf (service f .removal) ∷ x))) (days-joined o u (ap totalsAnswer (m .more .given .1))) in (
       (omega arith, omega arith, omega arith, omega arith),
       subst (λ (l : List ℕ). Marked l (now (a .s)) (now (a .rows)) (service f .to)) (sym (t .test-number .ensures .1))
-          (marked-on (own f .loop .marks) (now (a .s)) (now (a .rows)) (own f .loop .i) (v .1) (a .n) (service f) w),
-      all-on (a .first) (now (a .s)) (now (a .rows)) (lookAt (now (a .room))) (remaining f) (own f .loop .totals) (service f) (rest f) (w .rest) u e ∙ v .2,
+          (marked-on (l .marks) (now (a .s)) (now (a .rows)) (l .i) (v .1) (a .n) (service f) w),
+      all-on (a .first) (now (a .s)) (now (a .rows)) (lookAt (now (a .room))) (remaining f) (l .totals) (service f) (rest f) (w .rest) u e ∙ v .2,
+      orders-on (a .first) (now (a .s)) (now (a .rows)) (lookAt (now (a .room))) (remaining f) (l .totals) (l .orders) (service f) (rest f) (w .rest) u (q .put-order .last .0) e (q .put-order .ensures ∙ d) ∙ v .3,
+      q .put-order .kept .0 ∙ v .4,
     )
 
 enum-known-refusal : tie.Need-enum-known-refusal Inv-loop μ-loop
 enum-known-refusal c = search needs
 
+same-length : tie.Need-same-length Inv-loop μ-loop
+same-length c = own (found (numbered (c .before .before .before))) .loop .inv .4
+
 returns : tie.Need-returns Inv-loop μ-loop
 returns c =
     let r = c .before in
     let o = r .before .before in
-    let f = found (o .before .before .before .before) in
+    let f = found (numbered o) in
     let a = start f .args in
     let x = r .refusal .given .0 .0 in
-    all-stop (a .first) (now (a .s)) (now (a .rows)) (lookAt (now (a .room))) (remaining f) (own f .loop .totals) (service f) (rest f) (next f .rest) (x .number) (x .position)
-    (sym (ap totalsAnswer (r .refusal .given .1)) ∙ o .test-one .ensures)
-    ∙ own f .loop .inv .2
+    let e = sym (ap totalsAnswer (r .refusal .given .1)) ∙ tested o in (
+      all-stop (a .first) (now (a .s)) (now (a .rows)) (lookAt (now (a .room))) (remaining f) (own f .loop .totals) (service f) (rest f) (next f .rest) (x .number) (x .position) e
+          ∙ own f .loop .inv .2,
+      sym (orders-stop (a .first) (now (a .s)) (now (a .rows)) (lookAt (now (a .room))) (remaining f) (own f .loop .totals) (own f .loop .orders) (service f) (rest f) (next f .rest) (x .number) (x .position) e)
+          ∙ own f .loop .inv .3,
+    )
 
 enum-known-refusal-2 : tie.Need-enum-known-refusal-2 Inv-loop μ-loop
 enum-known-refusal-2 c = search needs
+
+same-length-2 : tie.Need-same-length-2 Inv-loop μ-loop
+same-length-2 c = own (found (c .before .before .before .before)) .loop .inv .4
 
 returns-2 : tie.Need-returns-2 Inv-loop μ-loop
 returns-2 c =
@@ -142,22 +191,30 @@ returns-2 c =
     let f = found t in
     let a = start f .args in
     let x = r .refusal2 .given .0 .0 in
-    all-stop (a .first) (now (a .s)) (now (a .rows)) (lookAt (now (a .room))) (remaining f) (own f .loop .totals) (service f) (rest f) (next f .rest) (x .number) (x .position)
-    (one-refused (now (a .s)) (now (a .rows)) (service f) (a .first) (lookAt (now (a .room))) (own f .loop .totals) (x .number) (x .position)
-    (sym (ap services.testedAnswer (r .refusal2 .given .1)) ∙ t .test-number .ensures .0))
-    ∙ own f .loop .inv .2
+    let e = one-refused (now (a .s)) (now (a .rows)) (service f) (a .first) (lookAt (now (a .room))) (own f .loop .totals) (x .number) (x .position)
+    (sym (ap services.testedAnswer (r .refusal2 .given .1)) ∙ t .test-number .ensures .0) in (
+      all-stop (a .first) (now (a .s)) (now (a .rows)) (lookAt (now (a .room))) (remaining f) (own f .loop .totals) (service f) (rest f) (next f .rest) (x .number) (x .position) e
+          ∙ own f .loop .inv .2,
+      sym (orders-stop (a .first) (now (a .s)) (now (a .rows)) (lookAt (now (a .room))) (remaining f) (own f .loop .totals) (own f .loop .orders) (service f) (rest f) (next f .rest) (x .number) (x .position) e)
+          ∙ own f .loop .inv .3,
+    )
 
 enum-told-2 : tie.Need-enum-told-2 Inv-loop μ-loop
 enum-told-2 c = search needs
+
+same-length-3 : tie.Need-same-length-3 Inv-loop μ-loop
+same-length-3 c = c .before .before .before .loop .inv .4
 
 returns-3 : tie.Need-returns-3 Inv-loop μ-loop
 returns-3 c =
     let n = c .before .before in
     let o = n .before in
-    let a = o .before .before .before .before .args in
-    all-done (a .first) (now (a .s)) (now (a .rows)) (lookAt (now (a .room))) (servicesFrom (now (a .s)) (now (a .rows)) (rowCount (now (a .rows)) (a .n)) (o .loop .i)) (o .loop .totals)
-    (next-gone (now (a .s)) (now (a .rows)) (a .n) (o .loop .i) (sym (n .next-service .ensures) ∙ c .enum-told2 .given .1))
-    ∙ o .loop .inv .2
+    let a = o .before .before .before .before .before .args in
+    let left = servicesFrom (now (a .s)) (now (a .rows)) (rowCount (now (a .rows)) (a .n)) (o .loop .i) in
+    let g = next-gone (now (a .s)) (now (a .rows)) (a .n) (o .loop .i) (sym (n .next-service .ensures) ∙ c .enum-told2 .given .1) in (
+      all-done (a .first) (now (a .s)) (now (a .rows)) (lookAt (now (a .room))) left (o .loop .totals) g ∙ o .loop .inv .2,
+      sym (orders-done (a .first) (now (a .s)) (now (a .rows)) (lookAt (now (a .room))) left (o .loop .totals) (o .loop .orders) g) ∙ o .loop .inv .3,
+    )
 
 pub test-all-spec : {M : Type 1} → statement M
 test-all-spec =
@@ -171,13 +228,18 @@ test-all-spec =
     slice-aggregate-test-number
     test-number-requires
     enum-told
+    join-days-requires
     test-one-requires
     enum-known-more
+    put-order-requires
     loop-less
     loop-again
     enum-known-refusal
+    same-length
     returns
     enum-known-refusal-2
+    same-length-2
     returns-2
     enum-told-2
+    same-length-3
     returns-3)

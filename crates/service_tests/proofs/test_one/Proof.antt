@@ -2,15 +2,13 @@
 -- Assumes nothing.
 use mathlib.Core.Path.{sym, ap, _∙_}
 use denote.Ref.{now}
+use Rattle.stages.specs.Stage.{numberIn}
 use Rattle.service_entries.specs.Room.{lookAt}
-use Rattle.service_tests.specs.Tests.{windowFound, totalsAnswer}
-use Rattle.service_tests.specs.Ways.{one-outside, one-inside}
+use Rattle.service_tests.specs.declared.Window.{Window}
+use Rattle.service_tests.specs.Tests.{windowFound, testKnown, testInside}
 use borrow.Author.Needs.{needs}
 use Rattle.service_tests.proofs.test_one.Statement.{statement}
 use Rattle.service_tests.proofs.test_one.Tie as tie
-
-test-window-requires : tie.Need-test-window-requires
-test-window-requires c κs = search needs
 
 enum-told : tie.Need-enum-told
 enum-told c = search needs
@@ -18,38 +16,25 @@ enum-told c = search needs
 test-known-requires : tie.Need-test-known-requires
 test-known-requires c κs = search needs
 
-enum-known-at : tie.Need-enum-known-at
-enum-known-at c = search needs
+enum-known-window : tie.Need-enum-known-window
+enum-known-window c = search needs
 
 refuse-requires : tie.Need-refuse-requires
 refuse-requires c κs = search needs
 
 returns : tie.Need-returns
 returns c =
-    let w = c .before .before .before in
-    let i = w .before .before .before .before in
-    let a = i .args in
-    one-inside (now (a .s)) (now (a .rows)) (a .service) (a .first) (lookAt (now (a .room))) (a .totals) (sym (i .pre .0))
-    (sym (ap windowFound (c .before .enum-told .given .1)) ∙ w .test-window .ensures) (totalsAnswer (c .test-known .result)) (c .test-known .ensures)
+    let e = c .before in
+    let a = e .before .before .before .before .args in
+    c .test-known .ensures ∙ sym (ap (λ (w : Window). testInside (windowFound w) (testKnown (a .service .removal) (a .service .prd) (lookAt (now (a .room)) (numberIn (now (a .s)) (a .service))) (a .totals))) (e .enum-told .given .1))
 
 returns-2 : tie.Need-returns-2
 returns-2 c =
-    let h = c .before .before in
-    let w = h .before .before in
-    let i = w .before .before .before .before in
-    let a = i .args in
-    c .refuse .ensures
-    ∙ one-outside (now (a .s)) (now (a .rows)) (a .service) (a .first) (lookAt (now (a .room))) (a .totals) (sym (i .pre .0))
-    (h .at .given .0 .0) (sym (ap windowFound (h .at .given .1)) ∙ w .test-window .ensures)
+    let e = c .before .before in
+    let a = e .before .before .before .before .args in
+    c .refuse .ensures ∙ sym (ap (λ (w : Window). testInside (windowFound w) (testKnown (a .service .removal) (a .service .prd) (lookAt (now (a .room)) (numberIn (now (a .s)) (a .service))) (a .totals))) (e .window .given .1))
 
 pub test-one-spec : {M : Type 1} → statement M
 test-one-spec =
     tie.close
-    (tie.spec
-    test-window-requires
-    enum-told
-    test-known-requires
-    enum-known-at
-    refuse-requires
-    returns
-    returns-2)
+    (tie.spec enum-told test-known-requires enum-known-window refuse-requires returns returns-2)
