@@ -5,8 +5,9 @@ use bytes::differing;
 use bytes::eight_at;
 use bytes::wide_byte;
 ghost use mathlib.Core.Path.{_≡_};
-ghost use Prim.Native.Nat.{_≤_};
+ghost use Prim.Native.Nat.{_≤_, min};
 ghost use lib.Dec.{eqb};
+ghost use lib.ListN.{length};
 ghost use Rattle.parts.specs.Cuts.{cutEnd};
 ghost use Rattle.parts.specs.Plain.{plainBits};
 ghost use Rattle.parts.specs.Walked.{WalkTold};
@@ -56,31 +57,41 @@ fn pass_plain(s: &[u8], from: usize, to: usize, mark: u8) -> usize
     i
 }
 
-// Byte by byte to the end of the piece that starts at `from`, or past eight bytes and a release at their end.
-fn walk(s: &[u8], from: usize, to: usize, mark: u8) -> Walked
-    ensures { λ r. ⌜ WalkTold (now (s .entry)) from to mark r ⌝ }
+// The smaller of two numbers.
+fn least(a: usize, b: usize) -> usize
+    ensures { λ r. ⌜ r ≡ min a b ⌝ }
 {
+    if a < b { a } else { b }
+}
+
+// Byte by byte to the end of the piece that starts at `from`, or past eight bytes and what a release at their end releases.
+fn walk(s: &[u8], from: usize, end: usize, mark: u8) -> Walked
+    requires { ⌜ end ≤ length (now s) ⌝ }
+    ensures { λ r. ⌜ WalkTold (now (s .entry)) from end mark r ⌝ }
+{
+    if end <= from {
+        return Walked::Ends(from);
+    }
+    let stop = from + least(end - from, 8);
     let mut i = from;
-    let mut released = false;
-    while i < to {
-        if s.len() <= i {
+    while i < stop {
+        let b = s[i];
+        if b == mark {
             return Walked::Ends(i);
         }
-        let b = s[i];
-        if released {
-            released = false;
-        } else {
-            if b == mark {
-                return Walked::Ends(i);
+        if b == b'?' {
+            if end - i < 2 {
+                return Walked::Ends(end);
             }
-            if 8 <= i - from {
-                return Walked::Goes(i);
-            }
-            released = b == b'?';
+            i += 2;
+            continue;
         }
         i += 1;
     }
-    Walked::Ends(i)
+    if end <= i {
+        return Walked::Ends(i);
+    }
+    Walked::Goes(i)
 }
 
 // Where the piece that starts at `from` ends: at the first byte that stands as the mark, or with the part. Most are short, so a walk
@@ -88,14 +99,15 @@ fn walk(s: &[u8], from: usize, to: usize, mark: u8) -> Walked
 pub(crate) fn piece_end(s: &[u8], from: usize, to: usize, mark: u8) -> usize
     ensures { λ r. ⌜ r ≡ cutEnd (now (s .entry)) from to mark ⌝ }
 {
+    let end = least(s.len(), to);
     let mut i = from;
     loop {
-        match walk(s, i, to, mark) {
-            Walked::Ends(end) => {
-                return end;
+        match walk(s, i, end, mark) {
+            Walked::Ends(at) => {
+                return at;
             }
             Walked::Goes(next) => {
-                i = pass_plain(s, next, to, mark);
+                i = pass_plain(s, next, end, mark);
             }
         }
     }

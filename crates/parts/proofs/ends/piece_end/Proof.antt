@@ -1,38 +1,43 @@
 -- `piece_end` meets its contract.
 -- Assumes nothing.
-use mathlib.Core.Path.{_≡_, refl, _∙_}
+use mathlib.Core.Path.{_≡_, refl, ap, _∙_}
 use mathlib.Core.List.{List}
 use Prim.Native.Nat.{ℕ, _-_, _<_}
 use native.Mathlib.Omega.{arith}
 use borrow.Author.Needs.{needs}
 use denote.Ref.{now}
 use Rattle.parts.specs.Cuts.{cutEnd}
-use Rattle.parts.specs.Walked.{ends-known, goes-known}
+use Rattle.parts.specs.Walked.{ends-known, goes-known, cut-least}
 use Rattle.parts.proofs.ends.piece_end.Statement.{statement}
 use Rattle.parts.proofs.ends.piece_end.Tie as tie
 
 abbrev Inv-loop : tie.InvT-loop
-Inv-loop s from to mark i₀ i = cutEnd s i to mark ≡ cutEnd s from to mark
+Inv-loop s from to mark end i₀ i = cutEnd s i end mark ≡ cutEnd s from end mark
 
 abbrev μ-loop : tie.MeasureT-loop
-μ-loop s from to mark i₀ i = to - i
+μ-loop s from to mark end i₀ i = end - i
+
+least-requires : tie.Need-least-requires Inv-loop μ-loop
+least-requires c κs = search needs
 
 loop-holds : tie.Need-loop-holds Inv-loop μ-loop
 loop-holds c = refl
 
 walk-requires : tie.Need-walk-requires Inv-loop μ-loop
-walk-requires c κs = search needs
+walk-requires c κs = omega (arith, c .before .least .ensures)
 
-enum-known-end : tie.Need-enum-known-end Inv-loop μ-loop
-enum-known-end c = search needs
+enum-known-at : tie.Need-enum-known-at Inv-loop μ-loop
+enum-known-at c = search needs
 
 returns : tie.Need-returns Inv-loop μ-loop
 returns c =
     let e = c .before in
     let w = e .before .before in
     let o = w .before in
-    let a = o .before .before .args in
-    ends-known (now (a .s)) (o .loop .i) (a .to) (a .mark) (w .walk .ensures) (e .end .given .1) ∙ o .loop .inv
+    let l = o .before in
+    let a = l .before .before .args in
+    ends-known (now (a .s)) (o .loop .i) (l .least .result) (a .mark) (w .walk .ensures) (e .at .given .1) ∙ o .loop .inv
+    ∙ ap (λ (x : ℕ). cutEnd (now (a .s)) (a .from) x (a .mark)) (l .least .ensures) ∙ cut-least (now (a .s)) (a .from) (a .to) (a .mark)
 
 enum-known-next : tie.Need-enum-known-next Inv-loop μ-loop
 enum-known-next c = search needs
@@ -46,19 +51,19 @@ module _ (t : tie.After-known-told2 Inv-loop μ-loop) where
   own = t .before .before .before .before
 
   abbrev list : List ℕ
-  list = now (own .before .before .args .s)
+  list = now (own .before .before .before .args .s)
 
-  abbrev to : ℕ
-  to = own .before .before .args .to
+  abbrev end : ℕ
+  end = own .before .least .result
 
   abbrev mark : ℕ
-  mark = own .before .before .args .mark
+  mark = own .before .before .before .args .mark
 
   abbrev next : ℕ
   next = t .before .next .given .0 .0
 
-  went : (own .loop .i < next) × (next < to) × (cutEnd list next to mark ≡ cutEnd list (own .loop .i) to mark)
-  went = goes-known list (own .loop .i) to mark (t .before .before .before .walk .ensures) (t .before .next .given .1)
+  went : (own .loop .i < next) × (next < end) × (cutEnd list next end mark ≡ cutEnd list (own .loop .i) end mark)
+  went = goes-known list (own .loop .i) end mark (t .before .before .before .walk .ensures) (t .before .next .given .1)
 
 loop-less : tie.Need-loop-less Inv-loop μ-loop
 loop-less c =
@@ -74,9 +79,10 @@ piece-end-spec =
     (tie.spec
     Inv-loop
     μ-loop
+    least-requires
     loop-holds
     walk-requires
-    enum-known-end
+    enum-known-at
     returns
     enum-known-next
     pass-plain-requires
