@@ -29,7 +29,7 @@ use Rattle.stages.specs.Stage.{numberIn, stageServices, stageBy, stageOf}
 use Rattle.service_entries.specs.declared.Known.{Known}
 use Rattle.service_entries.specs.Room.{lookAt, removesIn, putsIn}
 use Rattle.service_entries.specs.Orders.{putOrders}
-use Rattle.service_entries.specs.Front.{used-within}
+use Rattle.records.specs.Read.{used-within}
 use Rattle.staging.specs.Room.{roomTests, roomFits, roomAnswer, roomAfter}
 use Rattle.staging.specs.Staged.{staged-room}
 use Rattle.stages.specs.Kept.{reading-named}
