@@ -5,5 +5,6 @@ pub mod Steps
 pub mod Strings
 pub mod Dated
 pub mod Elements
+pub mod Second
 pub mod Facts
 pub mod Written

@@ -4,6 +4,7 @@ use crate::Fault;
 use crate::Period;
 use crate::elements::Element;
 use crate::elements::find_element;
+use crate::elements::find_second;
 use crate::elements::is_repeated;
 use crate::elements::text_in;
 use crate::forms::Formed;
@@ -37,7 +38,7 @@ pub(crate) fn read_any(s: &[u8], segment: Part) -> Period
     let Span::Days(from, count) = read_dates(text_in(s, first, 2)) else {
         return Period::Wrong(Fault::BadDates);
     };
-    let second = find_element(s, segment, 2);
+    let second = find_second(s, segment, first);
     let days = text_in(s, first, 4);
     let weekdays = text_in(s, second, 1);
     match read_form(days, weekdays, count) {

@@ -30,6 +30,25 @@ pub(crate) fn find_element(s: &[u8], segment: Part, e: usize) -> Element
     Element { whole, once }
 }
 
+// The second element, found from the end of the first, which need not be passed again.
+pub(crate) fn find_second(s: &[u8], segment: Part, first: Element) -> Element
+    requires { ⌜ first ≡ elementFound (now s) segment 1 ⌝ }
+    ensures { λ r. ⌜ r ≡ elementFound (now (s .entry)) segment 2 ⌝ }
+{
+    let whole = first.whole;
+    if whole.from == 0 {
+        return find_element(s, segment, 2);
+    }
+    find_element(
+        s,
+        Part {
+            from: whole.to,
+            to: segment.to,
+        },
+        1,
+    )
+}
+
 // Component c of the first occurrence as written.
 pub(crate) fn text_in(s: &[u8], found: Element, c: usize) -> &[u8]
     ensures { λ r. ⌜ now r ≡ textIn (now (s .entry)) found c ⌝ }

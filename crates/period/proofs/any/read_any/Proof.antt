@@ -51,7 +51,7 @@ module _ (m : tie.After-read-form) where
   told =
       sym (m .read-form .ensures
       ∙ ap (λ (t : List ℕ). formedOf n (plain t) (plain (now (m .before .text-in3 .result)))) (m .before .before .text-in2 .ensures ∙ text-in (list own) (place own) 1 4 (own .before .before .find-element .ensures))
-      ∙ ap (λ (t : List ℕ). formedOf n (dayText (g own)) (plain t)) (m .before .text-in3 .ensures ∙ text-in (list own) (place own) 2 1 (m .before .before .before .find-element2 .ensures)))
+      ∙ ap (λ (t : List ℕ). formedOf n (dayText (g own)) (plain t)) (m .before .text-in3 .ensures ∙ text-in (list own) (place own) 2 1 (m .before .before .before .find-second .ensures)))
 
 -- what the rest says
 module _ (k : tie.After-is-rest-good) where
@@ -60,7 +60,7 @@ module _ (k : tie.After-is-rest-good) where
 
   rest : restGood (g (own form-read)) ≡ k .is-rest-good .result
   rest =
-      sym (k .is-rest-good .ensures ∙ rest-in (list (own form-read)) (place (own form-read)) (own form-read .before .before .find-element .ensures) (form-read .before .before .before .find-element2 .ensures))
+      sym (k .is-rest-good .ensures ∙ rest-in (list (own form-read)) (place (own form-read)) (own form-read .before .before .find-element .ensures) (form-read .before .before .before .find-second .ensures))
 
 find-element-requires : tie.Need-find-element-requires
 find-element-requires c κs = search needs
@@ -82,8 +82,8 @@ returns c =
     let d = c .before .before in
     wrong-dates (g d) (dates d ∙ c .enum-told .given .1)
 
-find-element-requires-2 : tie.Need-find-element-requires-2
-find-element-requires-2 c κs = search needs
+find-second-requires : tie.Need-find-second-requires
+find-second-requires c κs = c .before .before .before .before .before .find-element .ensures
 
 text-in-requires-2 : tie.Need-text-in-requires-2
 text-in-requires-2 c κs = search needs
@@ -130,7 +130,7 @@ read-any-spec =
     enum-known-from
     enum-told
     returns
-    find-element-requires-2
+    find-second-requires
     text-in-requires-2
     text-in-requires-3
     read-form-requires
