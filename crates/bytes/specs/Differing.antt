@@ -1,11 +1,11 @@
 -- Which of eight bytes differ from a pattern's by too much: their highest bits.
 -- Assumes nothing.
-use mathlib.Core.Path.{_≡_, refl, ap, _∙_}
-use mathlib.Core.List.{List, [], _∷_}
-use Prim.Native.Nat.{ℕ, _+_, _*_, _<_}
+use mathlib.Core.Path.{_≡_}
+use mathlib.Core.List.{List}
+use Prim.Native.Nat.{ℕ, _+_, _<_}
 use native.Mathlib.Omega.{arith}
-use lib.Bits.{bitAnd, bitOr, bitXor, and-le-r, or-lt, xor-lt, and-block, or-block, xor-block}
-use Rattle.laws.specs.Words.{wordOf}
+use lib.Bits.{bitAnd, bitOr, bitXor, and-le-r, or-lt, xor-lt}
+use Rattle.laws.specs.Words.{wordBy, Every, Byte, add-word, and-word, or-word, xor-word}
 
 -- the highest bits s of the bytes that differ too much, where r has the other bits
 abbrev pub highOf : ℕ → ℕ → ℕ → ℕ → ℕ → ℕ
@@ -14,52 +14,32 @@ highOf w p q r s = bitAnd (bitOr (bitXor w p) (bitAnd (bitXor w p) r + q)) s
 unfoldable pub differsOf : ℕ → ℕ → ℕ → ℕ
 differsOf w p q = highOf w p (bitAnd q 9187201950435737471) 9187201950435737471 9259542123273814144
 
--- ---- byte by byte
+-- ---- byte by byte: each by its pattern, and by what may be added to their difference before its highest bit is set
 
-module _ (w p q r s b c d : ℕ) (hb : b < 256) (hc : c < 256) (hd : d < 128) where
-  x-small : bitXor b c < 256
-  x-small = xor-lt 8 b c hb hc
+module _ {A : Type 0} {P : A → Type 0} (byte pattern room : A → ℕ)
+    (b : (a : A) → P a → Byte (byte a)) (c : (a : A) → P a → Byte (pattern a)) (d : (a : A) → P a → room a < 128) where
+  abbrev apart : A → ℕ
+  apart a = bitXor (byte a) (pattern a)
 
-  sum-small : bitAnd (bitXor b c) 127 + d < 256
-  sum-small = let l = and-le-r (bitXor b c) 127 in omega arith
+  abbrev sum : A → ℕ
+  sum a = bitAnd (apart a) 127 + room a
 
-  sum-is : bitAnd (bitXor w p) r * 256 + bitAnd (bitXor b c) 127 + (q * 256 + d) ≡ (bitAnd (bitXor w p) r + q) * 256 + (bitAnd (bitXor b c) 127 + d)
-  sum-is = omega arith
+  apart-byte : (a : A) → P a → Byte (apart a)
+  apart-byte a h = xor-lt 8 (byte a) (pattern a) (b a h) (c a h)
 
-  high-step : highOf (w * 256 + b) (p * 256 + c) (q * 256 + d) (r * 256 + 127) (s * 256 + 128) ≡ highOf w p q r s * 256 + highOf b c d 127 128
-  high-step =
-      ap (λ (y : ℕ). bitAnd (bitOr y (bitAnd y (r * 256 + 127) + (q * 256 + d))) (s * 256 + 128)) (xor-block 8 w p b c hb hc)
-      ∙ ap (λ (y : ℕ). bitAnd (bitOr (bitXor w p * 256 + bitXor b c) (y + (q * 256 + d))) (s * 256 + 128)) (and-block 8 (bitXor w p) r (bitXor b c) 127 x-small (omega arith))
-      ∙ ap (λ (y : ℕ). bitAnd (bitOr (bitXor w p * 256 + bitXor b c) y) (s * 256 + 128)) sum-is
-      ∙ ap (λ (y : ℕ). bitAnd y (s * 256 + 128)) (or-block 8 (bitXor w p) (bitAnd (bitXor w p) r + q) (bitXor b c) (bitAnd (bitXor b c) 127 + d) x-small sum-small)
-      ∙ and-block 8 (bitOr (bitXor w p) (bitAnd (bitXor w p) r + q)) s (bitOr (bitXor b c) (bitAnd (bitXor b c) 127 + d)) 128 (or-lt 8 (bitXor b c) (bitAnd (bitXor b c) 127 + d) x-small sum-small) (omega arith)
+  sum-byte : (a : A) → P a → Byte (sum a)
+  sum-byte a h = let l = and-le-r (apart a) 127 in let k = d a h in omega arith
 
--- bytes with those of a pattern, and what may be added to their difference before its highest bit is set
-pub record Wanted : Type 0 where
-  pub byte : ℕ
-  pub pattern : ℕ
-  pub room : ℕ
+  either-byte : (a : A) → P a → Byte (bitOr (apart a) (sum a))
+  either-byte a h = or-lt 8 (apart a) (sum a) (apart-byte a h) (sum-byte a h)
 
-module _ (f : Wanted → ℕ) where
-  abbrev pub row : List Wanted → List ℕ
-  row [] = []
-  row (a ∷ l) = f a ∷ row l
-
-abbrev pub Fit : List Wanted → Type 0
-Fit [] = Unit
-Fit (a ∷ l) = (a .byte < 256) × (a .pattern < 256) × (a .room < 128) × Fit l
-
-abbrev pub high : Wanted → ℕ
-high a = highOf (a .byte) (a .pattern) (a .room) 127 128
-
-abbrev pub words : (Wanted → ℕ) → List Wanted → ℕ
-words f l = wordOf (row f l)
-
-pub high-words : (l : List Wanted) → Fit l
-    → highOf (words (λ a. a .byte) l) (words (λ a. a .pattern) l) (words (λ a. a .room) l) (words (λ a. 127) l) (words (λ a. 128) l) ≡ words high l
-unfolding wordOf
-high-words [] h = refl
-high-words (a ∷ l) h =
-    high-step (words (λ a. a .byte) l) (words (λ a. a .pattern) l) (words (λ a. a .room) l) (words (λ a. 127) l) (words (λ a. 128) l)
-    (a .byte) (a .pattern) (a .room) (h .0) (h .1) (h .2)
-    ∙ ap (λ (y : ℕ). y * 256 + high a) (high-words l (h .3))
+  pub high-words : {l : List A} → Every P l
+      → highOf (wordBy byte l) (wordBy pattern l) (wordBy room l) (wordBy (λ _. 127) l) (wordBy (λ _. 128) l) ≡ wordBy (λ a. highOf (byte a) (pattern a) (room a) 127 128) l
+  high-words {l} r =
+      rw (
+        xor-word byte pattern b c r,
+        and-word apart (λ _. 127) apart-byte (λ a h. omega arith) r,
+        add-word (λ a. bitAnd (apart a) 127) room l,
+        or-word apart sum apart-byte sum-byte r,
+      )
+      (and-word (λ a. bitOr (apart a) (sum a)) (λ _. 128) either-byte (λ a h. omega arith) r)

@@ -1,11 +1,11 @@
 -- Eight bytes of a list as one number.
 -- Assumes nothing.
-use mathlib.Core.Path.{_≡_, subst, _∙_}
+use mathlib.Core.Path.{_≡_, subst}
 use mathlib.Core.List.{List}
 use Prim.Native.Nat.{ℕ, _+_, _≤_, _<_}
-use native.Mathlib.Omega.{arith}
 use lib.ListN.{length, getD}
-use Rattle.laws.specs.Words.{wordOf, eightAt, row, row-sum}
+use Rattle.laws.specs.Words.{wordOf, Every, none, one, Byte}
+use Rattle.laws.specs.Eight.{eightAt}
 use Rattle.bytes.specs.declared.Eight.{Eight}
 use Rattle.bytes.specs.declared.Eight.the-variants.{Word, Fewer}
 
@@ -33,30 +33,11 @@ eights-known s at t e = subst (EightTold s at) e t
 pub fewer-known : (s : List ℕ) (at : ℕ) {r : Eight} → EightTold s at r → r ≡ Fewer → length s < at + 8
 fewer-known s at t e = subst (EightTold s at) e t
 
--- the bytes read one by one, the last first
-abbrev Read : ℕ → ℕ → Type 0
-Read r b = (r ≡ b) × (r < 256)
+-- it is known by its bytes, and they by it
+pub eights-of : (s : List ℕ) (at : ℕ) {w : ℕ} → at + 8 ≤ length s → w ≡ wordOf (eightAt s at) → Every Byte (eightAt s at) → Eights s at w
+eights-of s at h e (one b₀ (one b₁ (one b₂ (one b₃ (one b₄ (one b₅ (one b₆ (one b₇ none)))))))) =
+    record { inside = h; is = e; byte₀ = b₀; byte₁ = b₁; byte₂ = b₂; byte₃ = b₃; byte₄ = b₄; byte₅ = b₅; byte₆ = b₆; byte₇ = b₇ }
 
-module _ (s : List ℕ) (at : ℕ) {a b c d e f g h : ℕ}
-    (pa : Read a (getD s (at + 7) 0)) (pb : Read b (getD s (at + 6) 0)) (pc : Read c (getD s (at + 5) 0)) (pd : Read d (getD s (at + 4) 0))
-    (pe : Read e (getD s (at + 3) 0)) (pf : Read f (getD s (at + 2) 0)) (pg : Read g (getD s (at + 1) 0)) (ph : Read h (getD s at 0)) where
-  row-is : row a b c d e f g h ≡ wordOf (eightAt s at)
-  unfolding wordOf
-  row-is =
-      row-sum a b c d e f g h (pb .1) (pc .1) (pd .1) (pe .1) (pf .1) (pg .1) (ph .1)
-      ∙ omega (arith, pa .0, pb .0, pc .0, pd .0, pe .0, pf .0, pg .0, ph .0)
-
-  pub row-eights : at + 8 ≤ length s → Eights s at (row a b c d e f g h)
-  row-eights l =
-      record {
-        inside = l;
-        is = row-is;
-        byte₀ = omega (arith, ph .0, ph .1);
-        byte₁ = omega (arith, pg .0, pg .1);
-        byte₂ = omega (arith, pf .0, pf .1);
-        byte₃ = omega (arith, pe .0, pe .1);
-        byte₄ = omega (arith, pd .0, pd .1);
-        byte₅ = omega (arith, pc .0, pc .1);
-        byte₆ = omega (arith, pb .0, pb .1);
-        byte₇ = omega (arith, pa .0, pa .1);
-      }
+pub eights-bytes : (s : List ℕ) (at : ℕ) {w : ℕ} → Eights s at w → Every Byte (eightAt s at)
+eights-bytes s at e =
+    one (e .byte₀) (one (e .byte₁) (one (e .byte₂) (one (e .byte₃) (one (e .byte₄) (one (e .byte₅) (one (e .byte₆) (one (e .byte₇) none)))))))

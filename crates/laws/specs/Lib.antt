@@ -9,3 +9,4 @@ pub mod Decimal
 pub mod Digits
 pub mod Filled
 pub mod Words
+pub mod Eight

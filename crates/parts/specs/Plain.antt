@@ -7,13 +7,14 @@ use Prim.Native.Nat.{ℕ, _+_, _-_, _*_, _≤_, _<_}
 use native.Mathlib.Omega.{arith}
 use lib.Bits.{bitAnd, bitOr, bitXor, and-le-r, and-zero-r, xor-self}
 use lib.Dec.{eqb}
-use lib.ListN.{length, getD, take, drop}
+use lib.ListN.{length, take, drop}
 use lib.Seq.{take-append-add}
 use borrow.Author.Tests.{ne-eqb, eqb-true}
 use Rattle.laws.specs.Lists.{between}
-use Rattle.laws.specs.Words.{wordOf, eightAt, paired, and-word, same-word, drop-eight}
-use Rattle.bytes.specs.Eights.{Eights}
-use Rattle.bytes.specs.Differing.{highOf, differsOf, Wanted, row, high, words, high-words}
+use Rattle.laws.specs.Words.{wordBy, wordOf, Every, none, one, Byte, and-word, same-word}
+use Rattle.laws.specs.Eight.{eightAt, drop-eight}
+use Rattle.bytes.specs.Eights.{Eights, eights-bytes}
+use Rattle.bytes.specs.Differing.{highOf, differsOf, high-words}
 use Rattle.syntax.specs.Pieces.{firstPiece}
 use Rattle.parts.specs.Cuts.{cutEnd}
 
@@ -44,65 +45,50 @@ module _ (s : List ℕ) (i b c : ℕ) (g : i + 8 ≤ length s) (h : i + 8 ≤ b)
 abbrev pub plainBits : ℕ → ℕ → ℕ
 plainBits w marks = bitAnd (differsOf w marks 9187201950435737471) (differsOf w 4557430888798830399 9187201950435737471)
 
-abbrev against : ℕ → ℕ → Wanted
-against m b = record { byte = b; pattern = m; room = 127 }
+-- a byte's highest bit, set where it is not the mark
+abbrev apart : ℕ → ℕ → ℕ
+apart m b = highOf b m 127 127 128
 
-mark-differs : (m : ℕ) → high (against m m) ≡ 0
-mark-differs m = rw (xor-self m)
+mark-apart : (m : ℕ) → apart m m ≡ 0
+mark-apart m = rw (xor-self m)
 
-byte-plain : (m b : ℕ) → bitAnd (high (against m b)) (high (against 63 b)) ≡ 128 → (b ≡ m → ⊥) × (b ≡ 63 → ⊥)
+byte-plain : (m b : ℕ) → bitAnd (apart m b) (apart 63 b) ≡ 128 → (b ≡ m → ⊥) × (b ≡ 63 → ⊥)
 byte-plain m b e = (
   (λ q.
-      let k : bitAnd (high (against m b)) (high (against 63 b)) ≡ 0 = ap (λ (x : ℕ). bitAnd (high (against m x)) (high (against 63 b))) q ∙ ap (λ (x : ℕ). bitAnd x (high (against 63 b))) (mark-differs m) in
+      let k : bitAnd (apart m b) (apart 63 b) ≡ 0 = ap (λ (x : ℕ). bitAnd (apart m x) (apart 63 b)) q ∙ ap (λ (x : ℕ). bitAnd x (apart 63 b)) (mark-apart m) in
       omega arith),
   (λ q.
-      let k : bitAnd (high (against m b)) (high (against 63 b)) ≡ 0 = ap (λ (x : ℕ). bitAnd (high (against m b)) (high (against 63 x))) q ∙ and-zero-r (high (against m b)) in
+      let k : bitAnd (apart m b) (apart 63 b) ≡ 0 = ap (λ (x : ℕ). bitAnd (apart m b) (apart 63 x)) q ∙ and-zero-r (apart m b) in
       omega arith),
 )
 
-high-small : (a : Wanted) → high a < 256
-high-small a = let l = and-le-r (bitOr (bitXor (a .byte) (a .pattern)) (bitAnd (bitXor (a .byte) (a .pattern)) 127 + a .room)) 128 in omega arith
+apart-byte : (m b : ℕ) → Byte (apart m b)
+apart-byte m b = let l = and-le-r (bitOr (bitXor b m) (bitAnd (bitXor b m) 127 + 127)) 128 in omega arith
 
-both-small : (a b : Wanted) → bitAnd (high a) (high b) < 256
-both-small a b = let l = and-le-r (high a) (high b) in let k = high-small b in omega arith
+both-byte : (m b : ℕ) → Byte (bitAnd (apart m b) (apart 63 b))
+both-byte m b = let l = and-le-r (apart m b) (apart 63 b) in let k = apart-byte 63 b in omega arith
 
-module _ (s : List ℕ) (i m : ℕ) (h : m < 256) where
-  abbrev rowOf : ℕ → List Wanted
-  rowOf k = against k (getD s i 0) ∷ against k (getD s (i + 1) 0) ∷ against k (getD s (i + 2) 0) ∷ against k (getD s (i + 3) 0) ∷ against k (getD s (i + 4) 0) ∷ against k (getD s (i + 5) 0) ∷ against k (getD s (i + 6) 0) ∷ against k (getD s (i + 7) 0) ∷ []
+each-plain : (m : ℕ) {l : List ℕ} → Every (λ b. bitAnd (apart m b) (apart 63 b) ≡ 128) l → Plain m l
+each-plain m none = tt
+each-plain m (one {a} {l} e r) = let p = byte-plain m a e in (p .0, p .1, each-plain m r)
 
-  mark-word : m * 72340172838076673 ≡ wordOf (m ∷ m ∷ m ∷ m ∷ m ∷ m ∷ m ∷ m ∷ [])
-  unfolding wordOf
-  mark-word = omega arith
+module _ {l : List ℕ} (r : Every Byte l) where
+  abbrev apartFrom : ℕ → ℕ
+  apartFrom m = highOf (wordOf l) (wordBy (λ _. m) l) (wordBy (λ _. 127) l) (wordBy (λ _. 127) l) (wordBy (λ _. 128) l)
 
-  module _ {w : ℕ} (e : Eights s i w) where
-    differs-from : (k : ℕ) → k < 256 → differsOf w (wordOf (k ∷ k ∷ k ∷ k ∷ k ∷ k ∷ k ∷ k ∷ [])) 9187201950435737471 ≡ words high (rowOf k)
-    unfolding differsOf wordOf
-    differs-from k g =
-        ap (λ (y : ℕ). highOf y (wordOf (k ∷ k ∷ k ∷ k ∷ k ∷ k ∷ k ∷ k ∷ [])) 9187201950435737471 9187201950435737471 9259542123273814144) (e .is)
-        ∙ high-words (rowOf k) (e .byte₀, g, omega arith, (e .byte₁, g, omega arith, (e .byte₂, g, omega arith, (e .byte₃, g, omega arith, (e .byte₄, g, omega arith, (e .byte₅, g, omega arith, (e .byte₆, g, omega arith, (e .byte₇, g, omega arith, tt))))))))
+  apart-words : (m : ℕ) → m < 256 → apartFrom m ≡ wordBy (apart m) l
+  apart-words m h = high-words (λ b. b) (λ _. m) (λ _. 127) (λ b k. k) (λ b k. h) (λ b k. omega arith) r
 
-    plain-row : plainBits w (m * 72340172838076673) ≡ wordOf (paired bitAnd (row high (rowOf m)) (row high (rowOf 63)))
-    unfolding wordOf
-    plain-row =
-        ap₂ bitAnd (ap (λ (y : ℕ). differsOf w y 9187201950435737471) mark-word ∙ differs-from m h) (differs-from 63 (omega arith))
-        ∙ and-word (row high (rowOf m)) (row high (rowOf 63))
-        (high-small (against m (getD s i 0)), high-small (against 63 (getD s i 0)), (high-small (against m (getD s (i + 1) 0)), high-small (against 63 (getD s (i + 1) 0)), (high-small (against m (getD s (i + 2) 0)), high-small (against 63 (getD s (i + 2) 0)), (high-small (against m (getD s (i + 3) 0)), high-small (against 63 (getD s (i + 3) 0)), (high-small (against m (getD s (i + 4) 0)), high-small (against 63 (getD s (i + 4) 0)), (high-small (against m (getD s (i + 5) 0)), high-small (against 63 (getD s (i + 5) 0)), (high-small (against m (getD s (i + 6) 0)), high-small (against 63 (getD s (i + 6) 0)), (high-small (against m (getD s (i + 7) 0)), high-small (against 63 (getD s (i + 7) 0)), tt))))))))
+  plain-bytes : (m : ℕ) → m < 256 → bitAnd (apartFrom m) (apartFrom 63) ≡ wordBy (λ _. 128) l → Plain m l
+  plain-bytes m h q =
+      let e = ap₂ bitAnd (apart-words m h) (apart-words 63 (omega arith)) ∙ and-word (apart m) (apart 63) (λ b k. apart-byte m b) (λ b k. apart-byte 63 b) r in
+      each-plain m (same-word (λ b. bitAnd (apart m b) (apart 63 b)) (λ _. 128) (λ b k. both-byte m b) (λ b k. omega arith) r (sym e ∙ q))
 
-    pub plain-eight : plainBits w (m * 72340172838076673) ≡ 9259542123273814144 → Plain m (eightAt s i)
-    unfolding wordOf
-    plain-eight q =
-        let k = same-word (paired bitAnd (row high (rowOf m)) (row high (rowOf 63))) (128 ∷ 128 ∷ 128 ∷ 128 ∷ 128 ∷ 128 ∷ 128 ∷ 128 ∷ [])
-        (both-small (against m (getD s i 0)) (against 63 (getD s i 0)), omega arith, (both-small (against m (getD s (i + 1) 0)) (against 63 (getD s (i + 1) 0)), omega arith, (both-small (against m (getD s (i + 2) 0)) (against 63 (getD s (i + 2) 0)), omega arith, (both-small (against m (getD s (i + 3) 0)) (against 63 (getD s (i + 3) 0)), omega arith, (both-small (against m (getD s (i + 4) 0)) (against 63 (getD s (i + 4) 0)), omega arith, (both-small (against m (getD s (i + 5) 0)) (against 63 (getD s (i + 5) 0)), omega arith, (both-small (against m (getD s (i + 6) 0)) (against 63 (getD s (i + 6) 0)), omega arith, (both-small (against m (getD s (i + 7) 0)) (against 63 (getD s (i + 7) 0)), omega arith, tt))))))))
-        (sym plain-row ∙ q) in
-        let p₀ = byte-plain m (getD s i 0) (k .0) in
-        let p₁ = byte-plain m (getD s (i + 1) 0) (k .1 .0) in
-        let p₂ = byte-plain m (getD s (i + 2) 0) (k .1 .1 .0) in
-        let p₃ = byte-plain m (getD s (i + 3) 0) (k .1 .1 .1 .0) in
-        let p₄ = byte-plain m (getD s (i + 4) 0) (k .1 .1 .1 .1 .0) in
-        let p₅ = byte-plain m (getD s (i + 5) 0) (k .1 .1 .1 .1 .1 .0) in
-        let p₆ = byte-plain m (getD s (i + 6) 0) (k .1 .1 .1 .1 .1 .1 .0) in
-        let p₇ = byte-plain m (getD s (i + 7) 0) (k .1 .1 .1 .1 .1 .1 .1 .0) in
-        (p₀ .0, p₀ .1, (p₁ .0, p₁ .1, (p₂ .0, p₂ .1, (p₃ .0, p₃ .1, (p₄ .0, p₄ .1, (p₅ .0, p₅ .1, (p₆ .0, p₆ .1, (p₇ .0, p₇ .1, tt))))))))
+plain-eight : (s : List ℕ) (i m : ℕ) → m < 256 → {w : ℕ} → Eights s i w → plainBits w (m * 72340172838076673) ≡ 9259542123273814144 → Plain m (eightAt s i)
+unfolding differsOf wordBy
+plain-eight s i m h e q =
+    let k : m * 72340172838076673 ≡ wordBy (λ _. m) (eightAt s i) = omega arith in
+    plain-bytes (eights-bytes s i e) m h (sym (ap₂ plainBits (e .is) k) ∙ q)
 
 pub pass-eight : (s : List ℕ) (i b : ℕ) {w r m : ℕ} → Eights s i w → (r ≡ m) × (r < 256) → eqb (plainBits w (r * 72340172838076673)) 9259542123273814144 ≡ true
     → i + 8 ≤ b → cutEnd s (i + 8) b m ≡ cutEnd s i b m

@@ -10,11 +10,11 @@ use lib.Bits.{bitOr}
 use lib.Dec.{eqb, leb}
 use lib.ListN.{length, getD}
 use borrow.Author.Tests.{le-leb, eq-eqb, eqb-true, leb-true}
-use Rattle.laws.specs.Choice.{pick, both, all, both-parts}
+use Rattle.laws.specs.Choice.{pick, both, both-parts}
 use Rattle.laws.specs.Sweep.{agree}
-use Rattle.laws.specs.Words.{wordOf, isZero, zero-word, or-zero}
+use Rattle.laws.specs.Words.{wordBy, Every, none, one, Byte, isZero, zero-word, or-zero}
 use Rattle.bytes.specs.Eights.{Eights}
-use Rattle.bytes.specs.Differing.{highOf, differsOf, Wanted, row, high, high-words}
+use Rattle.bytes.specs.Differing.{highOf, differsOf, high-words}
 use Rattle.dates.specs.Days.{isDate, dayNumber}
 use Rattle.dates.specs.Dates.{date, madeOf, dayOf, valid, number}
 use Rattle.dates.specs.Text.{isDigit, twoDigits, digitsAt, dateAt}
@@ -23,12 +23,37 @@ use Rattle.dates.specs.declared.Made.the-variants.{Valid}
 use Rattle.dates.specs.declared.Number.{Number}
 use Rattle.dates.specs.declared.Number.the-variants.{Day, NoDay}
 
+-- a byte with that of a pattern, and what may be added to their difference before its highest bit is set
+record Wanted : Type 0 where
+  pub byte : ℕ
+  pub pattern : ℕ
+  pub room : ℕ
+
+abbrev Fits : Wanted → Type 0
+Fits a = Byte (a .byte) × Byte (a .pattern) × (a .room < 128)
+
+abbrev high : Wanted → ℕ
+high a = highOf (a .byte) (a .pattern) (a .room) 127 128
+
+wanted-words : {l : List Wanted} → Every Fits l
+    → highOf (wordBy (λ a. a .byte) l) (wordBy (λ a. a .pattern) l) (wordBy (λ a. a .room) l) (wordBy (λ _. 127) l) (wordBy (λ _. 128) l) ≡ wordBy high l
+wanted-words r = high-words (λ a. a .byte) (λ a. a .pattern) (λ a. a .room) (λ a h. h .0) (λ a h. h .1) (λ a h. h .2) r
+
 -- a byte that does not differ too much from `0` is a digit, and one that does not differ from a mark is the mark
 abbrev digit : ℕ → Wanted
 digit b = record { byte = b; pattern = 48; room = 118 }
 
 abbrev mark : ℕ → ℕ → Wanted
 mark m b = record { byte = b; pattern = m; room = 127 }
+
+digit-fits : {b : ℕ} → Byte b → Fits (digit b)
+digit-fits h = (h, omega arith, omega arith)
+
+hyphen-fits : {b : ℕ} → Byte b → Fits (mark 45 b)
+hyphen-fits h = (h, omega arith, omega arith)
+
+stroke-fits : {b : ℕ} → Byte b → Fits (mark 47 b)
+stroke-fits h = (h, omega arith, omega arith)
 
 is-digit : (b : ℕ) → b < 256 → isZero (high (digit b)) ≡ isDigit b
 is-digit b h = agree (λ b. isZero (high (digit b))) isDigit 256 tt b h
@@ -44,30 +69,30 @@ module _ (g : List ℕ) where
   first = digit (getD g 8 0) ∷ digit (getD g 9 0) ∷ digit (getD g 10 0) ∷ digit (getD g 11 0) ∷ mark 45 (getD g 12 0) ∷ digit (getD g 13 0) ∷ digit (getD g 14 0) ∷ mark 45 (getD g 15 0) ∷ []
 
   pub first-is : {w : ℕ} → Eights g 8 w → eqb (differsOf w 3256155501228994608 9184658779889104502) 0 ≡ both (isDigit (getD g 8 0)) (both (isDigit (getD g 9 0)) (both (isDigit (getD g 10 0)) (both (isDigit (getD g 11 0)) (both (eqb (getD g 12 0) 45) (both (isDigit (getD g 13 0)) (both (isDigit (getD g 14 0)) (both (eqb (getD g 15 0) 45) (true))))))))
-  unfolding differsOf wordOf
+  unfolding differsOf wordBy
   first-is {w} e =
       ap (λ (y : ℕ). eqb (highOf y 3256155501228994608 9184658779889104502 9187201950435737471 9259542123273814144) 0) (e .is)
-      ∙ ap isZero (high-words first (e .byte₀, omega arith, omega arith, (e .byte₁, omega arith, omega arith, (e .byte₂, omega arith, omega arith, (e .byte₃, omega arith, omega arith, (e .byte₄, omega arith, omega arith, (e .byte₅, omega arith, omega arith, (e .byte₆, omega arith, omega arith, (e .byte₇, omega arith, omega arith, tt))))))))) ∙ zero-word (row high first)
+      ∙ ap isZero (wanted-words (one (digit-fits (e .byte₀)) (one (digit-fits (e .byte₁)) (one (digit-fits (e .byte₂)) (one (digit-fits (e .byte₃)) (one (hyphen-fits (e .byte₄)) (one (digit-fits (e .byte₅)) (one (digit-fits (e .byte₆)) (one (hyphen-fits (e .byte₇)) none))))))))) ∙ zero-word high first
       ∙ rw (is-digit (getD g 8 0) (e .byte₀), is-digit (getD g 9 0) (e .byte₁), is-digit (getD g 10 0) (e .byte₂), is-digit (getD g 11 0) (e .byte₃), is-hyphen (getD g 12 0) (e .byte₄), is-digit (getD g 13 0) (e .byte₅), is-digit (getD g 14 0) (e .byte₆), is-hyphen (getD g 15 0) (e .byte₇))
 
   abbrev middle : List Wanted
   middle = digit (getD g 16 0) ∷ digit (getD g 17 0) ∷ mark 47 (getD g 18 0) ∷ digit (getD g 19 0) ∷ digit (getD g 20 0) ∷ digit (getD g 21 0) ∷ digit (getD g 22 0) ∷ mark 45 (getD g 23 0) ∷ []
 
   pub middle-is : {w : ℕ} → Eights g 16 w → eqb (differsOf w 3256155514113830960 9184658741234988662) 0 ≡ both (isDigit (getD g 16 0)) (both (isDigit (getD g 17 0)) (both (eqb (getD g 18 0) 47) (both (isDigit (getD g 19 0)) (both (isDigit (getD g 20 0)) (both (isDigit (getD g 21 0)) (both (isDigit (getD g 22 0)) (both (eqb (getD g 23 0) 45) (true))))))))
-  unfolding differsOf wordOf
+  unfolding differsOf wordBy
   middle-is {w} e =
       ap (λ (y : ℕ). eqb (highOf y 3256155514113830960 9184658741234988662 9187201950435737471 9259542123273814144) 0) (e .is)
-      ∙ ap isZero (high-words middle (e .byte₀, omega arith, omega arith, (e .byte₁, omega arith, omega arith, (e .byte₂, omega arith, omega arith, (e .byte₃, omega arith, omega arith, (e .byte₄, omega arith, omega arith, (e .byte₅, omega arith, omega arith, (e .byte₆, omega arith, omega arith, (e .byte₇, omega arith, omega arith, tt))))))))) ∙ zero-word (row high middle)
+      ∙ ap isZero (wanted-words (one (digit-fits (e .byte₀)) (one (digit-fits (e .byte₁)) (one (stroke-fits (e .byte₂)) (one (digit-fits (e .byte₃)) (one (digit-fits (e .byte₄)) (one (digit-fits (e .byte₅)) (one (digit-fits (e .byte₆)) (one (hyphen-fits (e .byte₇)) none))))))))) ∙ zero-word high middle
       ∙ rw (is-digit (getD g 16 0) (e .byte₀), is-digit (getD g 17 0) (e .byte₁), is-stroke (getD g 18 0) (e .byte₂), is-digit (getD g 19 0) (e .byte₃), is-digit (getD g 20 0) (e .byte₄), is-digit (getD g 21 0) (e .byte₅), is-digit (getD g 22 0) (e .byte₆), is-hyphen (getD g 23 0) (e .byte₇))
 
   abbrev last : List Wanted
   last = digit (getD g 21 0) ∷ digit (getD g 22 0) ∷ mark 45 (getD g 23 0) ∷ digit (getD g 24 0) ∷ digit (getD g 25 0) ∷ mark 45 (getD g 26 0) ∷ digit (getD g 27 0) ∷ digit (getD g 28 0) ∷ []
 
   pub last-is : {w : ℕ} → Eights g 21 w → eqb (differsOf w 3472324997692600368 8536150290498287222) 0 ≡ both (isDigit (getD g 21 0)) (both (isDigit (getD g 22 0)) (both (eqb (getD g 23 0) 45) (both (isDigit (getD g 24 0)) (both (isDigit (getD g 25 0)) (both (eqb (getD g 26 0) 45) (both (isDigit (getD g 27 0)) (both (isDigit (getD g 28 0)) (true))))))))
-  unfolding differsOf wordOf
+  unfolding differsOf wordBy
   last-is {w} e =
       ap (λ (y : ℕ). eqb (highOf y 3472324997692600368 8536150290498287222 9187201950435737471 9259542123273814144) 0) (e .is)
-      ∙ ap isZero (high-words last (e .byte₀, omega arith, omega arith, (e .byte₁, omega arith, omega arith, (e .byte₂, omega arith, omega arith, (e .byte₃, omega arith, omega arith, (e .byte₄, omega arith, omega arith, (e .byte₅, omega arith, omega arith, (e .byte₆, omega arith, omega arith, (e .byte₇, omega arith, omega arith, tt))))))))) ∙ zero-word (row high last)
+      ∙ ap isZero (wanted-words (one (digit-fits (e .byte₀)) (one (digit-fits (e .byte₁)) (one (hyphen-fits (e .byte₂)) (one (digit-fits (e .byte₃)) (one (digit-fits (e .byte₄)) (one (hyphen-fits (e .byte₅)) (one (digit-fits (e .byte₆)) (one (digit-fits (e .byte₇)) none))))))))) ∙ zero-word high last
       ∙ rw (is-digit (getD g 21 0) (e .byte₀), is-digit (getD g 22 0) (e .byte₁), is-hyphen (getD g 23 0) (e .byte₂), is-digit (getD g 24 0) (e .byte₃), is-digit (getD g 25 0) (e .byte₄), is-hyphen (getD g 26 0) (e .byte₅), is-digit (getD g 27 0) (e .byte₆), is-digit (getD g 28 0) (e .byte₇))
 
 -- ---- what then is known

@@ -128,18 +128,15 @@ span-known g t e = subst (spanTold g) e t
 pub period-known : (g : List ℕ) {r : Period} {f n : ℕ} {form : Form} → periodTold g r → r ≡ Good f n form → Good f n form ≡ periodOf g
 period-known g t e = subst (periodTold g) e t
 
--- four bytes as one number
-abbrev pub wordOf : ℕ → ℕ → ℕ → ℕ → ℕ
-wordOf a b c d = a + b * 256 + c * 65536 + d * 16777216
-
 pub record Same (a b c d x y z w : ℕ) : Type 0 where
   pub one : a ≡ x
   pub two : b ≡ y
   pub three : c ≡ z
   pub four : d ≡ w
 
+-- four bytes as one number
 pub record Word (r a b c d : ℕ) : Type 0 where
-  pub is : r ≡ wordOf a b c d
+  pub is : r ≡ a + b * 256 + c * 65536 + d * 16777216
   pub first-byte : a ≤ 255
   pub second-byte : b ≤ 255
   pub third-byte : c ≤ 255
@@ -147,7 +144,8 @@ pub record Word (r a b c d : ℕ) : Type 0 where
 
 pub word-same : {r t a b c d x y z w : ℕ} → Word r a b c d → Word t x y z w → r ≡ t → Same a b c d x y z w
 word-same {r} {t} {a} {b} {c} {d} {x} {y} {z} {w} p q e =
-    let k : wordOf a b c d ≡ wordOf x y z w = sym (p .is) ∙ e ∙ q .is in
+    let k = p .is in
+    let l = q .is in
     let a₁ = p .first-byte in
     let b₁ = p .second-byte in
     let c₁ = p .third-byte in

@@ -11,7 +11,7 @@ pub mod Onward
 pub mod Scan
 pub mod Firsts
 pub mod Ends
-pub mod Words
+pub mod Zeros
 pub mod Passed
 pub mod Found
 pub mod Released

@@ -1,21 +1,22 @@
 -- Runs of bytes that a scan for a segment's end passes over, eight at a time.
 -- Assumes nothing.
-use mathlib.Core.Path.{_≡_, refl, sym, ap, _∙_}
+use mathlib.Core.Path.{_≡_, sym, ap, _∙_}
 use mathlib.Core.Bool.{Bool, true, false, not}
 use mathlib.Core.List.{List, [], _∷_, _++_}
 use Prim.Native.Nat.{ℕ, suc, _+_, _*_, _/_, _^_, _≤_, _<_}
 use native.Mathlib.Omega.{arith}
 use native.Mathlib.Decide.{decLt}
 use lib.Dec.{leb, ltb, eqb, eqb→eq, lit≤}
-use lib.Bits.{bitAnd, bitXor, and-le-r, or-lt, or-disjoint, xor-self, and-block, xor-block}
+use lib.Bits.{bitAnd, bitXor, and-le-r, or-lt, or-disjoint, xor-self}
 use lib.Count.{trailingZeros, trailing-of-zero}
-use lib.ListN.{length, drop, getD}
+use lib.ListN.{length, drop}
 use borrow.Author.Tests.{lt-leb, not-true, ltb-true, eq-eqb}
 use Rattle.laws.specs.Choice.{pick, both, either, choose, both-parts, both-false, false≢true}
-use Rattle.laws.specs.Lists.{drop-here}
 use Rattle.laws.specs.Sweep.{at, agree}
+use Rattle.laws.specs.Words.{wordBy, wordOf, Every, none, one, Byte, word-same, add-word, and-word, xor-word}
+use Rattle.laws.specs.Eight.{eightAt, Word, drop-eight}
 use Rattle.syntax.specs.Bytes.{permittedOf}
-use Rattle.syntax.specs.Words.{wordBy, wordOf, Below, none, one, word-same, by-byte, eightAt, Word, digitsOf, zeros-pass, zeros-stop}
+use Rattle.syntax.specs.Zeros.{digitsOf, zeros-pass, zeros-stop}
 
 -- the bytes that are passed over: those from `(` to `:`, and the letters
 unfoldable pub goes : ℕ → Bool
@@ -62,63 +63,54 @@ passesOf each x = bitAnd (bitAnd (bitAnd (x + each 5) (each 31) + each 122) (x +
 abbrev pub eightTimes : ℕ → ℕ
 eightTimes n = n * 72340172838076673
 
+-- a byte below 128
+abbrev Low : ℕ → Type 0
+Low b = b < 128
+
 same : ℕ → Bool
 same b = eqb (bitXor (passesOf (λ n. n) b) 128) (pick (goes b) 0 128)
 
-stop-byte : (b : ℕ) → b < 128 → bitXor (passesOf (λ n. n) b) 128 ≡ pick (goes b) 0 128
+stop-byte : (b : ℕ) → Low b → bitXor (passesOf (λ n. n) b) 128 ≡ pick (goes b) 0 128
 unfolding same passesOf goes
 stop-byte b h = eqb→eq _ _ (at same 128 tt b h)
 
--- what each step makes of a byte is one
-row : (b : ℕ) → b < 128 → bitAnd (b + 5) 31 < 256
-row b h = let k = and-le-r (b + 5) 31 in omega arith
-
-six : (b : ℕ) → b < 128 → bitAnd (b + 5) 31 + 122 < 256
+-- what each step makes of such a byte is one
+six : (b : ℕ) → Low b → Byte (bitAnd (b + 5) 31 + 122)
 six b h = let k = and-le-r (b + 5) 31 in omega arith
 
-both-below : (b : ℕ) → b < 128 → bitAnd (bitAnd (b + 5) 31 + 122) (b + 88) < 256
+both-below : (b : ℕ) → Low b → Byte (bitAnd (bitAnd (b + 5) 31 + 122) (b + 88))
 both-below b h = let k = and-le-r (bitAnd (b + 5) 31 + 122) (b + 88) in omega arith
 
-passes-below : (b : ℕ) → b < 128 → passesOf (λ n. n) b < 256
+passes-below : (b : ℕ) → Low b → Byte (passesOf (λ n. n) b)
 unfolding passesOf
 passes-below b h = let k = and-le-r (bitAnd (bitAnd (b + 5) 31 + 122) (b + 88)) 128 in omega arith
 
 -- each byte of a word by itself
-module _ {n : ℕ} {l : List ℕ} (r : Below n l) where
-  abbrev each : ℕ → ℕ
-  each m = wordBy (λ _. m) l
-
-  ands : (f g : ℕ → ℕ) → ((b : ℕ) → b < n → f b < 256) → ((b : ℕ) → b < n → g b < 256) → bitAnd (wordBy f l) (wordBy g l) ≡ wordBy (λ b. bitAnd (f b) (g b)) l
-  ands f g p q = by-byte bitAnd refl (and-block 8) f g p q r
-
-  plus : (f : ℕ → ℕ) (m : ℕ) → ((b : ℕ) → b < n → f b < 256) → m < 256 → wordBy f l + each m ≡ wordBy (λ b. f b + m) l
-  plus f m p h = by-byte (λ x y. x + y) refl (λ a b u v g k. omega arith) f (λ _. m) p (λ _ _. h) r
-
-stops-bytes : {l : List ℕ} → Below 128 l → bitXor (passesOf (λ m. wordBy (λ _. m) l) (wordOf l)) (wordBy (λ _. 128) l) ≡ wordBy (λ b. pick (goes b) 0 128) l
+stops-bytes : {l : List ℕ} → Every Low l → bitXor (passesOf (λ m. wordBy (λ _. m) l) (wordOf l)) (wordBy (λ _. 128) l) ≡ wordBy (λ b. pick (goes b) 0 128) l
 unfolding passesOf
 stops-bytes {l} r =
     rw (
-      plus r (λ b. b) 5 (λ b h. omega arith) (omega arith),
-      ands r (λ b. b + 5) (λ _. 31) (λ b h. omega arith) (λ b h. omega arith),
-      plus r (λ b. bitAnd (b + 5) 31) 122 row (omega arith),
-      plus r (λ b. b) 88 (λ b h. omega arith) (omega arith),
-      ands r (λ b. bitAnd (b + 5) 31 + 122) (λ b. b + 88) six (λ b h. omega arith),
-      ands r (λ b. bitAnd (bitAnd (b + 5) 31 + 122) (b + 88)) (λ _. 128) both-below (λ b h. omega arith),
-      by-byte bitXor refl (xor-block 8) (passesOf (λ n. n)) (λ _. 128) passes-below (λ b h. omega arith) r,
+      add-word (λ b. b) (λ _. 5) l,
+      and-word (λ b. b + 5) (λ _. 31) (λ b h. omega arith) (λ b h. omega arith) r,
+      add-word (λ b. bitAnd (b + 5) 31) (λ _. 122) l,
+      add-word (λ b. b) (λ _. 88) l,
+      and-word (λ b. bitAnd (b + 5) 31 + 122) (λ b. b + 88) six (λ b h. omega arith) r,
+      and-word (λ b. bitAnd (bitAnd (b + 5) 31 + 122) (b + 88)) (λ _. 128) both-below (λ b h. omega arith) r,
+      xor-word (passesOf (λ n. n)) (λ _. 128) passes-below (λ b h. omega arith) r,
     )
     (word-same (λ b. bitXor (passesOf (λ n. n) b) 128) (λ b. pick (goes b) 0 128) stop-byte r)
 
 -- where no highest digit is set, all bytes are below 128
-low-byte : (b : ℕ) → b < 256 → bitAnd b 128 ≡ 0 → b < 128
+low-byte : (b : ℕ) → Byte b → bitAnd b 128 ≡ 0 → Low b
 low-byte b h e = ltb-true b 128 (sym (agree (λ b. eqb (bitAnd b 128) 0) (λ b. ltb b 128) 256 tt b h) ∙ eq-eqb (bitAnd b 128) 0 e)
 
-all-low : {l : List ℕ} → Below 256 l → wordBy (λ b. bitAnd b 128) l ≡ 0 → Below 128 l
+all-low : {l : List ℕ} → Every Byte l → wordBy (λ b. bitAnd b 128) l ≡ 0 → Every Low l
 unfolding wordBy
 all-low none e = none
-all-low (one {b} {l} k r) e = one (low-byte b k (omega arith)) (all-low r (omega arith))
+all-low (one {a} {l} k r) e = one (low-byte a k (omega arith)) (all-low r (omega arith))
 
-bytes-low : {l : List ℕ} → Below 256 l → bitAnd (wordOf l) (wordBy (λ _. 128) l) ≡ 0 → Below 128 l
-bytes-low r e = all-low r (sym (ands r (λ b. b) (λ _. 128) (λ b h. h) (λ b h. omega arith)) ∙ e)
+bytes-low : {l : List ℕ} → Every Byte l → bitAnd (wordOf l) (wordBy (λ _. 128) l) ≡ 0 → Every Low l
+bytes-low r e = all-low r (sym (and-word (λ b. b) (λ _. 128) (λ b h. h) (λ b h. omega arith) r) ∙ e)
 
 -- and the word leaves room for the sums
 pub word-low : (x : ℕ) → x < 2 ^ 64 → bitAnd x 9259542123273814144 ≡ 0 → x ≤ 9187201950435737471
@@ -138,18 +130,6 @@ lead (b ∷ l) =
     (λ p. let z = zeros-stop (digitsOf l) w in rw p (omega arith))
 
 module _ (s : List ℕ) (i x : ℕ) (h : i + 8 ≤ length s) (w : Word s i x) (g : bitAnd x 9259542123273814144 ≡ 0) where
-  next : (k : ℕ) → k < 8 → drop (i + k) s ≡ getD s (i + k) 0 ∷ drop (i + suc k) s
-  next k g =
-      let e : i + k + 1 ≡ i + suc k = omega arith in
-      drop-here s (i + k) (omega arith) ∙ rw e
-
-  eight : drop i s ≡ eightAt s i ++ drop (i + 8) s
-  eight =
-      let e : i + 0 ≡ i = omega arith in
-      let z = next 0 (omega arith) in
-      (rw e at z)
-      ∙ rw (next 1 (omega arith), next 2 (omega arith), next 3 (omega arith), next 4 (omega arith), next 5 (omega arith), next 6 (omega arith), next 7 (omega arith))
-
   stops-word : bitXor (passesOf eightTimes x) 9259542123273814144 ≡ wordBy (λ b. pick (goes b) 0 128) (eightAt s i)
   unfolding wordBy passesOf
   stops-word =
@@ -161,7 +141,7 @@ module _ (s : List ℕ) (i x : ℕ) (h : i + 8 ≤ length s) (w : Word s i x) (g
     eight-lead =
         let a = lead (eightAt s i) in
         let b = run-more (eightAt s i) (drop (i + 8) s) in
-        let c = ap passRun eight in
+        let c = ap passRun (drop-eight s i h) in
         let d = ap (λ (y : ℕ). trailingZeros 64 (bitXor y 9259542123273814144)) e ∙ ap (trailingZeros 64) stops-word in
         omega arith
 

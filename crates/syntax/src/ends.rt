@@ -6,7 +6,7 @@ use crate::bytes::wide;
 ghost use mathlib.Core.Path.{_≡_};
 ghost use Prim.Native.Nat.{_+_, _≤_, _<_};
 ghost use lib.ListN.{length, getD};
-ghost use Rattle.syntax.specs.Words.{Word};
+ghost use Rattle.laws.specs.Eight.{Word};
 ghost use Rattle.syntax.specs.Passed.{passesOf, eightTimes};
 ghost use Rattle.syntax.specs.Found.{endFrom};
 
@@ -15,26 +15,26 @@ fn eight_at(s: &[u8], i: usize) -> u64
     requires { ⌜ i + 8 ≤ length (now s) ⌝ }
     ensures { λ r. ⌜ Word (now (s .entry)) i r ⌝ }
 {
-    wide(s[i])
-        | wide(s[i + 1]) * 256
-        | wide(s[i + 2]) * 65536
-        | wide(s[i + 3]) * 16777216
-        | wide(s[i + 4]) * 4294967296
-        | wide(s[i + 5]) * 1099511627776
+    wide(s[i + 7]) * 72057594037927936
         | wide(s[i + 6]) * 281474976710656
-        | wide(s[i + 7]) * 72057594037927936
+        | wide(s[i + 5]) * 1099511627776
+        | wide(s[i + 4]) * 4294967296
+        | wide(s[i + 3]) * 16777216
+        | wide(s[i + 2]) * 65536
+        | wide(s[i + 1]) * 256
+        | wide(s[i])
 }
 
 // 5, 31, 122, 88 and 128, each eight times.
-const FIVE: u64 = 361700864190383365;
+const FIVE: u64 = 0x0505_0505_0505_0505;
 
-const ROW: u64 = 2242545357980376863;
+const ROW: u64 = 0x1f1f_1f1f_1f1f_1f1f;
 
-const FROM_SIX: u64 = 8825501086245354106;
+const FROM_SIX: u64 = 0x7a7a_7a7a_7a7a_7a7a;
 
-const FROM_FORTY: u64 = 6365935209750747224;
+const FROM_FORTY: u64 = 0x5858_5858_5858_5858;
 
-const HIGHEST: u64 = 9259542123273814144;
+const HIGHEST: u64 = 0x8080_8080_8080_8080;
 
 // The highest digit of each of eight bytes below 128, set where the byte is passed over: it is one from `(` to `:`, or a letter. The other
 // permitted bytes, as the space, are too few to be worth telling apart here, and are passed one by one.

@@ -3,7 +3,8 @@
 use native.Mathlib.Omega.{arith}
 use borrow.Author.Needs.{needs}
 use denote.Ref.{now}
-use Rattle.bytes.specs.Eights.{row-eights}
+use Rattle.laws.specs.Eight.{word-row}
+use Rattle.bytes.specs.Eights.{eights-of}
 use Rattle.bytes.proofs.eight_at.Statement.{statement}
 use Rattle.bytes.proofs.eight_at.Tie as tie
 
@@ -117,8 +118,9 @@ returns-3 c =
     let c1 = c2 .before .before in
     let k = c1 .before .before in
     let a = k .before .before .before .args in
-    row-eights (now (a .s)) (a .at) (c1 .wide-byte .ensures) (c2 .wide-byte2 .ensures) (c3 .wide-byte3 .ensures) (c4 .wide-byte4 .ensures)
-    (c5 .wide-byte5 .ensures) (c6 .wide-byte6 .ensures) (c7 .wide-byte7 .ensures) (c .wide-byte8 .ensures) (omega arith)
+    let w = word-row (now (a .s)) (a .at) (c1 .wide-byte .ensures) (c2 .wide-byte2 .ensures) (c3 .wide-byte3 .ensures) (c4 .wide-byte4 .ensures)
+    (c5 .wide-byte5 .ensures) (c6 .wide-byte6 .ensures) (c7 .wide-byte7 .ensures) (c .wide-byte8 .ensures) in
+    eights-of (now (a .s)) (a .at) (omega arith) (w .is) (w .bytes)
 
 pub eight-at-spec : {M : Type 1} → statement M
 eight-at-spec =

@@ -2,7 +2,7 @@
 -- Assumes nothing.
 use mathlib.Core.Path.{_∙_}
 use native.Mathlib.Omega.{arith}
-use Rattle.laws.specs.Words.{row-sum}
+use Rattle.laws.specs.Eight.{row-sum}
 use Rattle.slots.specs.Words.{four, highOf}
 use borrow.Author.Needs.{needs}
 use Rattle.slots.proofs.words.high.Statement.{statement}
