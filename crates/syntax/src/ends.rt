@@ -45,8 +45,8 @@ fn passes_in(x: u64) -> u64
     (((x + FIVE) & ROW) + FROM_SIX) & (x + FROM_FORTY) & HIGHEST
 }
 
-// Past bytes that are passed over, eight at a time, to the first that is not, to eight of which one is not below 128, or to where fewer are left.
-fn run_end(s: &[u8], from: usize) -> usize
+/// Past bytes that are passed over, eight at a time, to the first that is not, to eight of which one is not below 128, or to where fewer are left.
+pub(crate) fn run_end(s: &[u8], from: usize) -> usize
     ensures { λ r. ⌜ (from ≤ r) × (endFrom (now (s .entry)) r ≡ endFrom (now (s .entry)) from) ⌝ }
 {
     if s.len() < 8 {
@@ -89,8 +89,8 @@ fn past_byte(s: &[u8], j: usize) -> usize
     released_end(s, k + 1)
 }
 
-// The same as `find_end`, from a byte on that is not passed over at once.
-fn careful_end(s: &[u8], from: usize) -> usize
+/// The terminator's index where the segment goes on from `from`, is ended and has no byte that is not permitted; else the input's length.
+pub(crate) fn careful_end(s: &[u8], from: usize) -> usize
     ensures { λ r. ⌜ r ≡ endFrom (now (s .entry)) from ⌝ }
 {
     let mut j = from;
@@ -101,18 +101,4 @@ fn careful_end(s: &[u8], from: usize) -> usize
         j = run_end(s, past_byte(s, j));
     }
     s.len()
-}
-
-/// The terminator's index where the segment goes on from `from`, is ended and has no byte that is not permitted; else the input's length.
-/// Mostly the terminator is the first byte that is not passed over.
-pub(crate) fn find_end(s: &[u8], from: usize) -> usize
-    ensures { λ r. ⌜ r ≡ endFrom (now (s .entry)) from ⌝ }
-{
-    let j = run_end(s, from);
-    if j < s.len() {
-        if s[j] == b'\'' {
-            return j;
-        }
-    }
-    careful_end(s, j)
 }

@@ -5,15 +5,18 @@ use crate::bytes::permitted;
 use crate::bytes::released_end;
 use crate::bytes::text_end;
 use crate::bytes::wide;
-use crate::ends::find_end;
+use crate::ends::careful_end;
+use crate::ends::run_end;
 use crate::limits::Counts;
 use crate::marks::is_small;
 ghost use mathlib.Core.Path.{_≡_};
 ghost use mathlib.Core.Bool.{not};
-ghost use lib.ListN.{drop};
+ghost use Prim.Native.Nat.{_+_, _≤_};
+ghost use lib.ListN.{length, drop};
 ghost use Rattle.laws.specs.Choice.{pick, both};
 ghost use Rattle.syntax.specs.Segment.{capital, segmentAt, scannedAnswer, refusalOf, segmentAnswer, tagNumber};
 ghost use Rattle.syntax.specs.Tags.{tagCloses, tagAhead};
+ghost use Rattle.syntax.specs.Found.{endFrom};
 ghost use Rattle.syntax.specs.Quick.{quickEnd};
 
 /// What stands at an offset.
@@ -101,17 +104,13 @@ fn is_tagged(s: &[u8], at: usize) -> bool
     is_tag(s[at], s[at + 1], s[at + 2], s[at + 3])
 }
 
-/// The terminator's index of a segment that has too few characters and marks to pass a limit, its tag with the `+` behind it at an offset; the input's length for any other.
-pub fn quick_end(s: &[u8], at: usize) -> usize
+// The same as `quick_end`, from a byte on before which the segment does not end. In a function of its own, so that little is left where
+// the end is found at once.
+fn small_end(s: &[u8], at: usize, from: usize) -> usize
+    requires { ⌜ (at + 4 ≤ length (now s)) × (endFrom (now s) from ≡ endFrom (now s) (at + 4)) ⌝ }
     ensures { λ r. ⌜ r ≡ quickEnd (now (s .entry)) at ⌝ }
 {
-    if s.len() < 4 {
-        return s.len();
-    }
-    if s.len() - 4 < at {
-        return s.len();
-    }
-    let end = find_end(s, at + 4);
+    let end = careful_end(s, from);
     if end - at <= 34 {
         return end;
     }
@@ -124,6 +123,27 @@ pub fn quick_end(s: &[u8], at: usize) -> usize
     s.len()
 }
 
+/// The terminator's index of a segment that has too few characters and marks to pass a limit, its tag with the `+` behind it at an offset; the input's length for any other.
+pub fn quick_end(s: &[u8], at: usize) -> usize
+    ensures { λ r. ⌜ r ≡ quickEnd (now (s .entry)) at ⌝ }
+{
+    if s.len() < 4 {
+        return s.len();
+    }
+    if s.len() - 4 < at {
+        return s.len();
+    }
+    let j = run_end(s, at + 4);
+    if j < s.len() {
+        if s[j] == b'\'' {
+            if j - at <= 34 {
+                return j;
+            }
+        }
+    }
+    small_end(s, at, j)
+}
+
 /// The segment that starts at an offset. Its end is found first; its parts are counted only where it may pass a limit, or is to be refused.
 pub fn read_segment(s: &[u8], at: usize) -> Scanned
     ensures scan { λ r. ⌜ r ≡ segmentAt (now (s .entry)) at ⌝ }
@@ -133,7 +153,7 @@ pub fn read_segment(s: &[u8], at: usize) -> Scanned
         if s[at + 3] == b'\'' {
             return Scanned::End(at + 3);
         }
-        let end = quick_end(s, at);
+        let end = small_end(s, at, at + 4);
         if end < s.len() {
             return Scanned::End(end);
         }

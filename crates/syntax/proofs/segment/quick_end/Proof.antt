@@ -1,22 +1,18 @@
 -- `quick_end` meets its contract.
 -- Assumes nothing.
-use mathlib.Core.Path.{sym, ap, _∙_}
-use mathlib.Core.Bool.{Bool}
-use mathlib.Core.List.{List}
-use Prim.Native.Nat.{ℕ, _+_, _-_}
+use mathlib.Core.Path.{sym, _∙_}
+use Prim.Native.Nat.{_+_}
 use native.Mathlib.Omega.{arith}
 use denote.Ref.{now}
-use lib.ListN.{length}
-use Rattle.laws.specs.Choice.{pick}
-use Rattle.syntax.specs.Whole.{end-past-start}
-use Rattle.syntax.specs.Quick.{quick-past, quick-none, quick-short, quick-small}
+use Rattle.syntax.specs.Found.{end-quote}
+use Rattle.syntax.specs.Quick.{quick-past, quick-short}
 use borrow.Author.Needs.{needs}
 use Rattle.syntax.proofs.segment.quick_end.Statement.{statement}
 use Rattle.syntax.proofs.segment.quick_end.Tie as tie
 use Rattle.syntax.proofs.segment.quick_end.Reads as reads
 use Rattle.syntax.proofs.segment.quick_end.Lts as lts
-use Rattle.syntax.proofs.ends.find_end.Reads as find-end-reads
-use Rattle.syntax.proofs.marks.is_small.Reads as is-small-reads
+use Rattle.syntax.proofs.ends.run_end.Reads as run-end-reads
+use Rattle.syntax.proofs.segment.small_end.Reads as small-end-reads
 
 returns : tie.Need-returns
 returns c =
@@ -31,59 +27,30 @@ returns-2 c =
     let a = c .before .before .before .args in
     quick-past (now (a .s)) (a .at) (omega arith)
 
-add-find-end : tie.Need-add-find-end
-add-find-end c = search needs
+add-run-end : tie.Need-add-run-end
+add-run-end c = search needs
 
-find-end-requires : tie.Need-find-end-requires
-find-end-requires c κs = search needs
+run-end-requires : tie.Need-run-end-requires
+run-end-requires c κs = search needs
 
--- the input and the offset
-module _ (f : tie.After-find-end) where
-  abbrev list : List ℕ
-  list = now (f .before .before .before .before .args .s)
+shared-slice-read-if4 : tie.Need-shared-slice-read-if4
+shared-slice-read-if4 c = search needs
 
-  abbrev from : ℕ
-  from = f .before .before .before .before .args .at
-
-sub-if3 : tie.Need-sub-if3
-sub-if3 c =
-    let p = end-past-start (list c) (from c + 4) (omega arith) in
-    let e = c .find-end .ensures in
-    omega arith
+sub-if5 : tie.Need-sub-if5
+sub-if5 c = let h = c .before .before .before .run-end .ensures .0 in omega arith
 
 returns-3 : tie.Need-returns-3
 returns-3 c =
-    let f = c .before in
-    quick-short (list f) (from f) (f .find-end .result) (f .find-end .ensures) (c .if3 .taken)
+    let r = c .before .before .before .before in
+    let a = r .before .before .before .before .args in
+    quick-short (now (a .s)) (a .at) (r .run-end .result)
+    (sym (end-quote (now (a .s)) (r .run-end .result) (c .before .before .before .if3 .taken) (c .before .if4 .taken)) ∙ r .run-end .ensures .1) (c .if5 .taken)
+
+small-end-requires : tie.Need-small-end-requires
+small-end-requires c κs = (omega arith, c .before .run-end .ensures .1)
 
 returns-4 : tie.Need-returns-4
-returns-4 c =
-    let f = c .before .before in
-    quick-none (list f) (from f) (f .find-end .result) (f .find-end .ensures) (c .if4 .taken)
-
-sub-is-small : tie.Need-sub-is-small
-sub-is-small c = search needs
-
-part-is-small-start : tie.Need-part-is-small-start
-part-is-small-start c = search needs
-
-part-is-small-end : tie.Need-part-is-small-end
-part-is-small-end c = search needs
-
-is-small-requires : tie.Need-is-small-requires
-is-small-requires c κs = search needs
-
-returns-5 : tie.Need-returns-5
-returns-5 c =
-    let f = c .before .before .before .before .before in
-    ap (λ (b : Bool). pick b (f .find-end .result) (length (list f))) (sym (c .if5 .taken))
-    ∙ quick-small (list f) (from f) (f .find-end .result) (f .find-end .ensures) (c .before .is-small .result) (c .before .is-small .ensures) (omega arith)
-
-returns-6 : tie.Need-returns-6
-returns-6 c =
-    let f = c .before .before .before .before .before in
-    ap (λ (b : Bool). pick b (f .find-end .result) (length (list f))) (sym (c .if5 .left))
-    ∙ quick-small (list f) (from f) (f .find-end .result) (f .find-end .ensures) (c .before .is-small .result) (c .before .is-small .ensures) (omega arith)
+returns-4 c = search needs
 
 pub quick-end-spec : {M : Type 1} → statement M
 quick-end-spec =
@@ -92,14 +59,10 @@ quick-end-spec =
     returns
     sub-if2
     returns-2
-    add-find-end
-    find-end-requires
-    sub-if3
+    add-run-end
+    run-end-requires
+    shared-slice-read-if4
+    sub-if5
     returns-3
-    returns-4
-    sub-is-small
-    part-is-small-start
-    part-is-small-end
-    is-small-requires
-    returns-5
-    returns-6)
+    small-end-requires
+    returns-4)

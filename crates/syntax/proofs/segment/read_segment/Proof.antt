@@ -1,6 +1,6 @@
 -- `read_segment` meets its contract.
 -- Assumes nothing.
-use mathlib.Core.Path.{_≡_, sym, ap, _∙_}
+use mathlib.Core.Path.{_≡_, refl, sym, ap, _∙_}
 use mathlib.Core.Bool.{true}
 use mathlib.Core.List.{List}
 use Prim.Native.Nat.{ℕ, _+_, _≤_}
@@ -19,7 +19,7 @@ use Rattle.syntax.proofs.segment.read_segment.Reads as reads
 use Rattle.syntax.proofs.segment.read_segment.Lts as lts
 use Rattle.syntax.proofs.segment.counted.Reads as counted-reads
 use Rattle.syntax.proofs.segment.is_tagged.Reads as is-tagged-reads
-use Rattle.syntax.proofs.segment.quick_end.Reads as quick-end-reads
+use Rattle.syntax.proofs.segment.small_end.Reads as small-end-reads
 
 is-tagged-requires : tie.Need-is-tagged-requires
 is-tagged-requires c κs = search needs
@@ -52,14 +52,17 @@ returns c =
     let o = c .before .before in
     scan-said (list o) (from o) (whole-bare (list o) (from o) (ahead o) (c .if2 .taken))
 
-quick-end-requires : tie.Need-quick-end-requires
-quick-end-requires c κs = search needs
+add-small-end : tie.Need-add-small-end
+add-small-end c = let h = long (c .before .before) in omega arith
+
+small-end-requires : tie.Need-small-end-requires
+small-end-requires c κs = let h = long (c .before .before) in (h, refl)
 
 returns-2 : tie.Need-returns-2
 returns-2 c =
     let q = c .before in
     let o = q .before .before .before in
-    let e = q .quick-end .ensures in
+    let e = q .small-end .ensures in
     scan-said (list o) (from o)
     (ap End e ∙ sym (quick-whole (list o) (from o) (ahead o) (plus-after (list o) (from o) (ahead o) (q .before .if2 .left)) (omega arith)))
 
@@ -80,7 +83,8 @@ read-segment-spec =
     shared-slice-read-if2
     add-t9
     returns
-    quick-end-requires
+    add-small-end
+    small-end-requires
     returns-2
     counted-requires
     returns-3)
