@@ -2,7 +2,6 @@
 use Prim.Native.Nat.{ℕ}
 use mathlib.Core.List.{List, [], _∷_, map}
 use lib.Dec.{eqb}
-use lib.ListN.{getD}
 use Rattle.laws.specs.Choice.{pick}
 use Rattle.placing.specs.Table.{Table, tagAt}
 use Rattle.hints.specs.Kinds.{rowIn, hintSlot}
@@ -19,7 +18,3 @@ laid t l =
 
 unfoldable pub laidOut : Table → List (List ℕ) → List (List ℕ)
 laidOut t l = map (laid t) l
-
--- the hint for a row and a tag, 0 for none
-abbrev pub hintAt : List (List ℕ) → ℕ → ℕ → ℕ
-hintAt hints row tag = getD (getD hints row []) (hintSlot tag) 0

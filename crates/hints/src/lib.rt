@@ -1,6 +1,6 @@
 //! The placing rule of document 01 by hints: for a row and a tag, the row to which the rule leads, and what becomes of the counts.
-//! A place's counts stand in one number here, fourteen bits a level. A hint is a row and a kind, and a kind three numbers;
-//! each kind has an arm, and so has each number below 32, so that they are looked up with no test.
+//! A place's counts stand in one number here, fourteen bits a level. A hint is a row and a kind, and a kind is three numbers.
+//! Each number below 32 has an arm, so that they are looked up in constant memory with no test.
 pub mod tables;
 
 ghost use mathlib.Core.Path.{_≡_};

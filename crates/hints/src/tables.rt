@@ -4,7 +4,7 @@ ghost use mathlib.Core.Path.{_≡_};
 ghost use Rattle.laws.specs.Lists.{between};
 ghost use Rattle.hints.specs.Hints.{hints, hintsIn};
 
-/// The hints of all types, sixteen for each row of their tables: of a hint's number 32 is the row to which it leads, the rest is its kind.
+/// The hints of all types, sixteen for each row of their tables. A hint is 32 times the row to which it leads, and its kind.
 pub fn hints() -> [[u16; 16]; 104]
     ensures { λ r. ⌜ r ≡ hints ⌝ }
 {

@@ -164,7 +164,7 @@ pub moved-here : (s : List ℕ) (st : State) (at n : ℕ) (room : List ℕ) (q :
 moved-here s st at n room q k at₁ n₁ e f g h = rw (e, f, g, h) (moved-none s st at n room)
 
 -- as many rows of hints as of the table
-pub own-length : (message : MessageType) → length (hintsOf message) ≡ length (tableOf message)
+own-length : (message : MessageType) → length (hintsOf message) ≡ length (tableOf message)
 unfolding skdupdTable tsdupdTable laidOut skdupdHints tsdupdHints skdupdOnward tsdupdOnward
 own-length Skdupd = rw (hinting.skdupd-own, placing.skdupd-own)
 own-length Tsdupd = rw (hinting.tsdupd-own, placing.tsdupd-own)

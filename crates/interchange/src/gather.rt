@@ -71,6 +71,7 @@ fn run_on(
         return stay(from);
     }
     let message = st.message;
+    // A call for each type: called from one place only, `run` would be made a part of its caller and lose its registers.
     match message {
         MessageType::Skdupd => {
             let table = table_of(tables, MessageType::Skdupd);

@@ -132,17 +132,12 @@ pub(crate) fn run(
         if !is_good(s, at, end, to == period) {
             break;
         }
-        let group = table[to][GROUP];
-        put_row(
-            room,
-            numbers,
-            at as u32,
-            Row {
-                offset: at,
-                group,
-                tag,
-            },
-        );
+        let placed = Row {
+            offset: at,
+            group: table[to][GROUP],
+            tag,
+        };
+        put_row(room, numbers, at as u32, placed);
         row = to;
         counts = next.counts;
         at = end + 1;

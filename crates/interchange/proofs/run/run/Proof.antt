@@ -145,19 +145,19 @@ end-at-requires c κs =
 is-good-requires : tie.Need-is-good-requires Inv-loop μ-loop
 is-good-requires c κs = c .before .end-at .ensures (c .if5 .left)
 
-mul-group : tie.Need-mul-group Inv-loop μ-loop
-mul-group c =
+mul-put-row : tie.Need-mul-put-row Inv-loop μ-loop
+mul-put-row c =
     let e = c .before .before .before .before in
     let t = told e .inside in
     let a = start (own e) .args in
     let f = own-few (a .from .state .message) (now (a .table)) (start (own e) .pre .1) in
     omega arith
 
-index-1-group : tie.Need-index-1-group Inv-loop μ-loop
-index-1-group c = told (c .before .before .before .before) .inside
+index-1-put-row : tie.Need-index-1-put-row Inv-loop μ-loop
+index-1-put-row c = told (c .before .before .before .before) .inside
 
-index-2-group : tie.Need-index-2-group Inv-loop μ-loop
-index-2-group c = search needs
+index-2-put-row : tie.Need-index-2-put-row Inv-loop μ-loop
+index-2-put-row c = search needs
 
 cast-put-row : tie.Need-cast-put-row Inv-loop μ-loop
 cast-put-row c =
@@ -260,9 +260,9 @@ run-spec =
     next-place-requires
     end-at-requires
     is-good-requires
-    mul-group
-    index-1-group
-    index-2-group
+    mul-put-row
+    index-1-put-row
+    index-2-put-row
     cast-put-row
     put-row-requires
     add-at
