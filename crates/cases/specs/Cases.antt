@@ -32,6 +32,7 @@ use Rattle.placing.specs.Skdupd.{skdupdTable}
 use Rattle.placing.specs.Tsdupd.{tsdupdTable}
 use Rattle.placing.specs.Tables.{tables, tableIn}
 use Rattle.laws.specs.Decimal.{decimalOn}
+use Rattle.laws.specs.Filled.{filledUp}
 use Rattle.envelope.specs.Envelope.{uibOf, uihOf, trailerOf}
 use Rattle.steps.specs.Step.{opening, betweenMessages, closing, trailing, placed, insideMessage, stepBy}
 use Rattle.interchange.specs.Reader.{turnAt, readOn, readingOf, numbers}
@@ -102,5 +103,5 @@ table =
     ∷ []
 
 pub cases : T (all caseHolds table)
-unfolding table caseHolds comesOf expected permittedOf plainOn firstPiece laterPieces partOf tagged componentFits occurrenceFits elementFits withinLimits wellFormed scanOf sameText leapYear monthLength isDate monthDays yearDays dayNumber weekdayOf madeOf twoDigits digitsAt dateAt goodPeriod daysSpan spanIn dayString risingDays formedOf restGood periodOf runsBy runsIn sameAnswer keeps callHolds lists.joined lists.total spanOf countedAt elementAt withBit withDay entryOf afterOf endOf placesOn reachable firstFit inGroup again laterOnes choicesFrom firstOf stepOf skdupdTable tsdupdTable tables tableIn decimalOn uibOf uihOf trailerOf opening betweenMessages closing trailing placed insideMessage stepBy turnAt readOn readingOf numbers marked windowDays daysJoined joinAll rows.offsetAt rows.isRow rows.firstIn rows.listOf serviceNumber saysRemoval removes serviceAt hasPeriod isWrong saysNumber isSameService isTwice contents.goodNumber contents.isCalendar contents.goodEntries contents.goodRecord contents.comesBefore contents.inOrder contents.goodAccount contents.goodAccounts contents.goodQuotas contents.good written.filledUp written.liveBytes written.pendingBytes written.slotOf written.roomBytes written.roomsBytes lookup changed withdrawOf viewOf withRecords firstOutside daysOf entry enterKnown enter enterAll stageOf inContents
+unfolding table caseHolds comesOf expected permittedOf plainOn firstPiece laterPieces partOf tagged componentFits occurrenceFits elementFits withinLimits wellFormed scanOf sameText leapYear monthLength isDate monthDays yearDays dayNumber weekdayOf madeOf twoDigits digitsAt dateAt goodPeriod daysSpan spanIn dayString risingDays formedOf restGood periodOf runsBy runsIn sameAnswer keeps callHolds lists.joined lists.total spanOf countedAt elementAt withBit withDay entryOf afterOf endOf placesOn reachable firstFit inGroup again laterOnes choicesFrom firstOf stepOf skdupdTable tsdupdTable tables tableIn decimalOn uibOf uihOf trailerOf opening betweenMessages closing trailing placed insideMessage stepBy turnAt readOn readingOf numbers marked windowDays daysJoined joinAll rows.offsetAt rows.isRow rows.firstIn rows.listOf serviceNumber saysRemoval removes serviceAt hasPeriod isWrong saysNumber isSameService isTwice contents.goodNumber contents.isCalendar contents.goodEntries contents.goodRecord contents.comesBefore contents.inOrder contents.goodAccount contents.goodAccounts contents.goodQuotas contents.good filledUp written.liveBytes written.pendingBytes written.slotOf written.roomBytes written.roomsBytes lookup changed withdrawOf viewOf withRecords firstOutside daysOf entry enterKnown enter enterAll stageOf inContents
 cases = tt
