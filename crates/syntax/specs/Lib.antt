@@ -13,6 +13,7 @@ pub mod Firsts
 pub mod Ends
 pub mod Zeros
 pub mod Passed
+pub mod Texts
 pub mod Found
 pub mod Released
 pub mod Few

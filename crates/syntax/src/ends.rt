@@ -10,8 +10,8 @@ ghost use Rattle.laws.specs.Eight.{Word};
 ghost use Rattle.syntax.specs.Passed.{passesOf, eightTimes};
 ghost use Rattle.syntax.specs.Found.{endFrom};
 
-// The eight bytes from an index on as one number, the first the lowest: a flat row of `|`, of which the compiler makes one load.
-fn eight_at(s: &[u8], i: usize) -> u64
+/// The eight bytes from an index on as one number, the first the lowest: a flat row of `|`, of which the compiler makes one load.
+pub(crate) fn eight_at(s: &[u8], i: usize) -> u64
     requires { ⌜ i + 8 ≤ length (now s) ⌝ }
     ensures { λ r. ⌜ Word (now (s .entry)) i r ⌝ }
 {

@@ -1,12 +1,16 @@
 //! Whether a segment has too few characters and marks to pass a limit.
 
+use crate::ends::eight_at;
 ghost use mathlib.Core.Path.{_≡_};
+ghost use mathlib.Core.Bool.{true};
 ghost use Prim.Native.Nat.{_+_, _-_, _≤_, _<_};
 ghost use lib.Dec.{leb};
 ghost use lib.ListN.{length};
 ghost use Rattle.laws.specs.Choice.{pick, both};
 ghost use Rattle.syntax.specs.Bytes.{isMark};
 ghost use Rattle.syntax.specs.Few.{marksIn};
+ghost use Rattle.syntax.specs.Passed.{eightTimes};
+ghost use Rattle.syntax.specs.Texts.{textsOf};
 
 // 1 for `+`, `*` or `:`, 0 for any other byte. The first two differ in the lowest digit only.
 fn mark_of(b: u8) -> u8
@@ -40,13 +44,45 @@ fn next_end(i: usize, n: usize) -> usize
     i + 128
 }
 
-/// Whether a segment has too few characters and marks to pass a limit.
-pub(crate) fn is_small(p: &[u8]) -> bool
-    ensures { λ r. ⌜ r ≡ both (leb (length (now (p .entry))) 512) (leb (marksIn (now (p .entry))) 31) ⌝ }
+// 17, 59, 127 and 128, each eight times.
+const SEVENTEEN: u64 = 0x1111_1111_1111_1111;
+
+const FIFTY_NINE: u64 = 0x3b3b_3b3b_3b3b_3b3b;
+
+const LOWEST: u64 = 0x7f7f_7f7f_7f7f_7f7f;
+
+const HIGHEST: u64 = 0x8080_8080_8080_8080;
+
+// The highest digit of each of eight bytes, set where the byte is no mark; `;` goes for one.
+fn texts_in(x: u64) -> u64
+    ensures { λ r. ⌜ r ≡ textsOf eightTimes x ⌝ }
 {
-    if 512 < p.len() {
+    ((((x | SEVENTEEN) ^ FIFTY_NINE) & LOWEST) + LOWEST) & HIGHEST
+}
+
+// Whether eight bytes by eight so many are seen to be no marks that few of all can be. Their sum is that of the bytes of a number: what it leaves by 255.
+fn has_text(p: &[u8]) -> bool
+    requires { ⌜ length (now p) ≤ 248 ⌝ }
+    ensures { λ r. ⌜ (r ≡ true → marksIn (now (p .entry)) ≤ 31) ⌝ }
+{
+    if p.len() < 8 {
         return false;
     }
+    let last = p.len() - 8;
+    let mut sum: u64 = 0;
+    let mut i = 0;
+    while i <= last {
+        sum += texts_in(eight_at(p, i)) / 128;
+        i += 8;
+    }
+    p.len() <= (sum % 255) as usize + 31
+}
+
+// Whether at most 512 bytes have few marks.
+fn has_few(p: &[u8]) -> bool
+    requires { ⌜ length (now p) ≤ 512 ⌝ }
+    ensures { λ r. ⌜ r ≡ leb (marksIn (now (p .entry))) 31 ⌝ }
+{
     let mut marks: u16 = 0;
     let mut i = 0;
     while i < p.len() {
@@ -55,4 +91,19 @@ pub(crate) fn is_small(p: &[u8]) -> bool
         i = e;
     }
     marks <= 31
+}
+
+/// Whether a segment has too few characters and marks to pass a limit. Most that are looked at have much text and few marks.
+pub(crate) fn is_small(p: &[u8]) -> bool
+    ensures { λ r. ⌜ r ≡ both (leb (length (now (p .entry))) 512) (leb (marksIn (now (p .entry))) 31) ⌝ }
+{
+    if 512 < p.len() {
+        return false;
+    }
+    if p.len() <= 248 {
+        if has_text(p) {
+            return true;
+        }
+    }
+    has_few(p)
 }

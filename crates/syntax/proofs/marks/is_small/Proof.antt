@@ -1,121 +1,38 @@
 -- `is_small` meets its contract.
 -- Assumes nothing.
-use mathlib.Core.Path.{_≡_, ap}
-use mathlib.Core.List.{List}
-use Prim.Native.Nat.{ℕ, _+_, _-_, _≤_}
+use Prim.Native.Nat.{_≤_}
 use native.Mathlib.Omega.{arith}
-use native.Mathlib.Nat.{zero-add}
-use borrow.Author.Needs.{needs}
 use borrow.Author.Tests.{lt-leb, le-leb}
 use denote.Ref.{now}
-use lib.Dec.{leb}
-use lib.ListN.{length, drop}
-use Rattle.laws.specs.Lists.{between, length-between}
-use Rattle.syntax.specs.Few.{marksIn, marks-past, marks-part, marks-length}
+use lib.ListN.{length}
+use Rattle.syntax.specs.Few.{marksIn}
 use Rattle.syntax.proofs.marks.is_small.Statement.{statement}
 use Rattle.syntax.proofs.marks.is_small.Tie as tie
 use Rattle.syntax.proofs.marks.is_small.Reads as reads
 use Rattle.syntax.proofs.marks.is_small.Lts as lts
-use Rattle.syntax.proofs.marks.marks_in.Reads as marks-in-reads
-use Rattle.syntax.proofs.marks.next_end.Reads as next-end-reads
+use Rattle.syntax.proofs.marks.has_few.Reads as has-few-reads
+use Rattle.syntax.proofs.marks.has_text.Reads as has-text-reads
 
-abbrev Inv-loop : tie.InvT-loop
-Inv-loop p marks₀ i₀ marks i = (marks ≤ i) × (i ≤ length p) × (marks + marksIn (drop i p) ≡ marksIn p) × (length p ≤ 512)
-
-abbrev μ-loop : tie.MeasureT-loop
-μ-loop p marks₀ i₀ marks i = length p - i
-
-returns : tie.Need-returns Inv-loop μ-loop
+returns : tie.Need-returns
 returns c = rw (lt-leb _ 512 (c .if1 .taken))
 
-loop-holds : tie.Need-loop-holds Inv-loop μ-loop
-loop-holds c = (omega arith, omega arith, zero-add _, c .if1 .left)
+has-text-requires : tie.Need-has-text-requires
+has-text-requires c κs = c .if2 .taken
 
-next-end-requires : tie.Need-next-end-requires Inv-loop μ-loop
-next-end-requires c κs = search needs
-
-sub-marks-in : tie.Need-sub-marks-in Inv-loop μ-loop
-sub-marks-in c = search needs
-
-part-marks-in-start : tie.Need-part-marks-in-start Inv-loop μ-loop
-part-marks-in-start c = search needs
-
-part-marks-in-end : tie.Need-part-marks-in-end Inv-loop μ-loop
-part-marks-in-end c = search needs
-
-marks-in-requires : tie.Need-marks-in-requires Inv-loop μ-loop
-marks-in-requires c κs = search needs
-
-cast-marks : tie.Need-cast-marks Inv-loop μ-loop
-cast-marks c = omega (arith, c .marks-in .ok)
-
--- a part has no more marks than bytes
-module _ (t : tie.After-marks-in Inv-loop μ-loop) where
-  abbrev own : tie.At-loop Inv-loop μ-loop
-  own = t .before .before .before .before
-
-  abbrev list : List ℕ
-  list = now (own .before .before .before .args .p)
-
-  abbrev e : ℕ
-  e = t .before .before .next-end .result
-
-  few : t .marks-in .result ≤ e - own .loop .i
-  few =
-      let q = t .marks-in .ensures in
-      let m = marks-length (between list (own .loop .i) e) in
-      let l = length-between list (own .loop .i) e (t .before .before .next-end .ensures .1) in
-      omega arith
-
-add-marks : tie.Need-add-marks Inv-loop μ-loop
-add-marks c =
-    let f = few c in
-    let v = own c .loop .inv in
-    let n = c .before .before .next-end .ensures in
-    let x = v .0 in
-    let y = n .1 in
-    let z = v .3 in
-    omega arith
-
-loop-less : tie.Need-loop-less Inv-loop μ-loop
-loop-less c = omega arith
-
-loop-again : tie.Need-loop-again Inv-loop μ-loop
-loop-again c =
-    let f = few c in
-    let v = own c .loop .inv in
-    let n = c .before .before .next-end .ensures in
-    let x = v .0 in
-    let b = n .0 in
-    let m = c .marks-in .ensures in
-    let p = marks-part (list c) (own c .loop .i) (e c) (omega arith) in
-    let q = v .2 in
-    (omega arith, n .1, omega arith, v .3)
-
-returns-2 : tie.Need-returns-2 Inv-loop μ-loop
+returns-2 : tie.Need-returns-2
 returns-2 c =
-    let v = c .before .loop .inv in
+    let p = now (c .before .before .before .before .before .args .p) in
+    let h : length p ≤ 512 = omega arith in
+    rw (le-leb (length p) 512 h, le-leb (marksIn p) 31 (c .before .has-text .ensures (c .if3 .taken)))
+
+has-few-requires : tie.Need-has-few-requires
+has-few-requires c κs = omega arith
+
+returns-3 : tie.Need-returns-3
+returns-3 c =
     let p = now (c .before .before .before .before .args .p) in
-    let e = marks-past p (c .before .loop .i) (c .loop-test .left) in
-    let q = v .2 in
-    let m : c .before .loop .marks ≡ marksIn p = omega arith in
-    rw (le-leb (length p) 512 (v .3)) (ap (λ (x : ℕ). leb x 31) m)
+    let h : length p ≤ 512 = omega arith in
+    rw (le-leb (length p) 512 h) (c .has-few .ensures)
 
 pub is-small-spec : {M : Type 1} → statement M
-is-small-spec =
-    tie.close
-    (tie.spec
-    Inv-loop
-    μ-loop
-    returns
-    loop-holds
-    next-end-requires
-    sub-marks-in
-    part-marks-in-start
-    part-marks-in-end
-    marks-in-requires
-    cast-marks
-    add-marks
-    loop-less
-    loop-again
-    returns-2)
+is-small-spec = tie.close (tie.spec returns has-text-requires returns-2 has-few-requires returns-3)
