@@ -13,12 +13,11 @@ use Rattle.laws.specs.Lists.{drop-here, drop-past}
 use Rattle.laws.specs.Text.{bytes}
 use Rattle.answers.specs.Answers.{done, refused, wrongService, numberTwice}
 use Rattle.syntax.specs.declared.segment.Refusal.{Refusal}
-use Rattle.syntax.specs.declared.segment.Scanned.the-variants.{End}
 use Rattle.syntax.specs.Bytes.{terminator, releaseMark, plain}
 use Rattle.syntax.specs.Pieces.{firstPiece, partOf}
 use Rattle.syntax.specs.Firsts.{first-take}
-use Rattle.syntax.specs.Segment.{bodyAt, segmentAt}
-use Rattle.syntax.specs.Ends.{ended}
+use Rattle.syntax.specs.Segment.{bodyAt}
+use Rattle.syntax.specs.Found.{endFrom, end-body}
 use Rattle.parts.specs.declared.Part.{Part}
 use Rattle.parts.specs.Places.{bytesOf, partAt}
 use Rattle.parts.specs.Located.{part-bytes}
@@ -60,8 +59,8 @@ period-pass rows i to r h p = passes-first rows (isPeriodRow rows) 5 i to r p (�
 pub segment-is : (s : List ℕ) (at to : ℕ) → to ≡ at + length (bodyAt s at) → record { from = at; to = to } ≡ segmentOf s at
 segment-is s at to q = ap (λ (x : ℕ). record { from = at; to = x }) q
 
-pub segment-whole : (s : List ℕ) (at to : ℕ) → segmentAt s at ≡ End to → record { from = at; to = to } ≡ segmentOf s at
-segment-whole s at to q = segment-is s at to (ended s at to q .place)
+pub segment-ended : (s : List ℕ) (at to : ℕ) → to ≡ endFrom s at → to < length s → record { from = at; to = to } ≡ segmentOf s at
+segment-ended s at to q h = segment-is s at to (q ∙ end-body s at (subst (λ (x : ℕ). x < length s) q h))
 
 -- and its bytes
 pub segment-bytes : (s : List ℕ) (at : ℕ) → bytesOf s (segmentOf s at) ≡ bodyAt s at

@@ -18,9 +18,8 @@ use messages::MSD;
 use messages::PRD;
 use parts::Part;
 use parts::bytes_of;
+use syntax::ends::find_end;
 use syntax::segment::Refusal;
-use syntax::segment::Scanned;
-use syntax::segment::read_segment;
 ghost use mathlib.Core.Path.{_≡_};
 ghost use Prim.Native.Nat.{_/_, _≤_, _<_};
 ghost use lib.ListN.{length};
@@ -125,8 +124,12 @@ pub fn next_period(rows: &[u32], i: usize, to: usize) -> FoundPeriod
 pub fn segment_at(s: &[u8], at: usize) -> Part
     ensures { λ r. ⌜ r ≡ segmentOf (now (s .entry)) at ⌝ }
 {
-    if let Scanned::End(to) = read_segment(s, at) {
-        return Part { from: at, to };
+    let found = find_end(s, at);
+    if found < s.len() {
+        return Part {
+            from: at,
+            to: found,
+        };
     }
     let to = end_of(s, at);
     Part { from: at, to }

@@ -111,3 +111,11 @@ module _ (s : List ℕ) (j : ℕ) (h : j < length s) where
     end-released p =
         rw two (end-byte (length s) j 63 (getD s (j + 1) 0 ∷ firstPiece 39 false (drop (j + 1 + 1) s)) fine-question
         ∙ end-byte (length s) (j + 1) (getD s (j + 1) 0) (firstPiece 39 false (drop (j + 1 + 1) s)) p)
+
+-- an end that is found is that of the body
+pub end-body : (s : List ℕ) (at : ℕ) → endFrom s at < length s → endFrom s at ≡ at + length (firstPiece 39 false (drop at s))
+unfolding foundEnd
+end-body s at h =
+    choose (both (all permittedOf (firstPiece 39 false (drop at s))) (ltb (at + length (firstPiece 39 false (drop at s))) (length s)))
+    (λ p. rw p)
+    (λ p. let g = rw p at h in absurd (omega arith))

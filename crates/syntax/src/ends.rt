@@ -90,7 +90,7 @@ fn past_byte(s: &[u8], j: usize) -> usize
 }
 
 /// The terminator's index where the segment goes on from `from`, is ended and has no byte that is not permitted; else the input's length.
-pub(crate) fn careful_end(s: &[u8], from: usize) -> usize
+pub fn find_end(s: &[u8], from: usize) -> usize
     ensures { λ r. ⌜ r ≡ endFrom (now (s .entry)) from ⌝ }
 {
     let mut j = from;

@@ -1,7 +1,7 @@
 //! The syntax floor, ISO 9735 version 4 as document 01 reads it: bytes and segments.
 
 pub mod bytes;
-mod ends;
+pub mod ends;
 mod limits;
 mod marks;
 pub mod segment;

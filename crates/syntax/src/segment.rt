@@ -5,7 +5,7 @@ use crate::bytes::permitted;
 use crate::bytes::released_end;
 use crate::bytes::text_end;
 use crate::bytes::wide;
-use crate::ends::careful_end;
+use crate::ends::find_end;
 use crate::ends::run_end;
 use crate::limits::Counts;
 use crate::marks::is_small;
@@ -110,7 +110,7 @@ fn small_end(s: &[u8], at: usize, from: usize) -> usize
     requires { ⌜ (at + 4 ≤ length (now s)) × (endFrom (now s) from ≡ endFrom (now s) (at + 4)) ⌝ }
     ensures { λ r. ⌜ r ≡ quickEnd (now (s .entry)) at ⌝ }
 {
-    let end = careful_end(s, from);
+    let end = find_end(s, from);
     if end - at <= 34 {
         return end;
     }

@@ -1,4 +1,4 @@
--- `careful_end` meets its contract.
+-- `find_end` meets its contract.
 -- Assumes nothing.
 use mathlib.Core.Path.{_≡_, refl, sym, _∙_}
 use Prim.Native.Nat.{_-_}
@@ -7,10 +7,10 @@ use borrow.Author.Needs.{needs}
 use denote.Ref.{now}
 use lib.ListN.{length}
 use Rattle.syntax.specs.Found.{endFrom, end-past, end-quote}
-use Rattle.syntax.proofs.ends.careful_end.Statement.{statement}
-use Rattle.syntax.proofs.ends.careful_end.Tie as tie
-use Rattle.syntax.proofs.ends.careful_end.Reads as reads
-use Rattle.syntax.proofs.ends.careful_end.Lts as lts
+use Rattle.syntax.proofs.ends.find_end.Statement.{statement}
+use Rattle.syntax.proofs.ends.find_end.Tie as tie
+use Rattle.syntax.proofs.ends.find_end.Reads as reads
+use Rattle.syntax.proofs.ends.find_end.Lts as lts
 use Rattle.syntax.proofs.ends.past_byte.Reads as past-byte-reads
 use Rattle.syntax.proofs.ends.run_end.Reads as run-end-reads
 
@@ -49,8 +49,8 @@ loop-again c = c .run-end .ensures .1 ∙ c .before .past-byte .ensures .1 ∙ c
 returns-2 : tie.Need-returns-2 Inv-loop μ-loop
 returns-2 c = sym (end-past (now (c .before .before .before .args .s)) (c .before .loop .j) (c .loop-test .left)) ∙ c .before .loop .inv
 
-pub careful-end-spec : {M : Type 1} → statement M
-careful-end-spec =
+pub find-end-spec : {M : Type 1} → statement M
+find-end-spec =
     tie.close
     (tie.spec
     Inv-loop
