@@ -60,7 +60,8 @@ fn texts_in(x: u64) -> u64
     ((((x | SEVENTEEN) ^ FIFTY_NINE) & LOWEST) + LOWEST) & HIGHEST
 }
 
-// Whether eight bytes by eight so many are seen to be no marks that few of all can be. Their sum is that of the bytes of a number: what it leaves by 255.
+// Whether at most 31 of the bytes can be marks, as so many others are seen to be none, eight bytes at a time. Each byte of `sum` counts those of its
+// place among the eight; divided by 255, a number leaves the sum of its bytes.
 fn has_text(p: &[u8]) -> bool
     requires { ⌜ length (now p) ≤ 248 ⌝ }
     ensures { λ r. ⌜ (r ≡ true → marksIn (now (p .entry)) ≤ 31) ⌝ }
