@@ -5,7 +5,7 @@ use mathlib.Core.Bool.{Bool}
 use mathlib.Core.List.{List, [], _∷_}
 use Prim.Native.Nat.{ℕ, _+_, _*_, _^_, _<_}
 use native.Mathlib.Omega.{arith}
-use lib.Bits.{bitAnd, bitOr, bitXor, and-block, or-block, xor-block, or-add-and, and-le-l, and-le-r}
+use lib.Bits.{bitAnd, bitOr, bitXor, and-block, or-block, xor-block, or-add-and, xor-add-and, and-le-l, and-le-r}
 use lib.Dec.{eqb}
 use borrow.Author.Tests.{eqb-true, eqb-false, eq-eqb, ne-eqb}
 use Rattle.laws.specs.Choice.{both, all, choose}
@@ -103,3 +103,11 @@ or-zero a x =
     let e = eqb-true a 0 q in
     rw (p, q) (sym (ne-eqb x 0 (λ z. eqb-false (bitOr a x) 0 p (omega arith)))))
     (λ q. rw (p, q)))
+
+-- numbers that differ in no bit are the same
+pub xor-zero : (a x : ℕ) → bitXor a x ≡ 0 → a ≡ x
+xor-zero a x e =
+    let s = xor-add-and a x in
+    let l = and-le-l a x in
+    let r = and-le-r a x in
+    omega arith

@@ -15,6 +15,7 @@ pub mod Zeros
 pub mod Passed
 pub mod Texts
 pub mod Found
+pub mod Ran
 pub mod Released
 pub mod Few
 pub mod Whole

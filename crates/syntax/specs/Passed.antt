@@ -1,19 +1,19 @@
 -- Runs of bytes that a scan for a segment's end passes over, eight at a time.
 -- Assumes nothing.
-use mathlib.Core.Path.{_≡_, sym, ap, _∙_}
+use mathlib.Core.Path.{_≡_, refl, sym, ap, _∙_}
 use mathlib.Core.Bool.{Bool, true, false, not}
 use mathlib.Core.List.{List, [], _∷_, _++_}
-use Prim.Native.Nat.{ℕ, suc, _+_, _*_, _/_, _^_, _≤_, _<_}
+use Prim.Native.Nat.{ℕ, suc, _+_, _*_, _/_, _≤_, _<_}
 use native.Mathlib.Omega.{arith}
 use native.Mathlib.Decide.{decLt}
-use lib.Dec.{leb, ltb, eqb, eqb→eq, lit≤}
-use lib.Bits.{bitAnd, bitXor, and-le-r, or-lt, or-disjoint, xor-self}
+use lib.Dec.{leb, eqb, eqb→eq, lit≤}
+use lib.Bits.{bitAnd, bitXor, and-le-r, xor-lt, xor-self}
 use lib.Count.{trailingZeros, trailing-of-zero}
 use lib.ListN.{length, drop}
-use borrow.Author.Tests.{lt-leb, not-true, ltb-true, eq-eqb}
+use borrow.Author.Tests.{lt-leb, not-true}
 use Rattle.laws.specs.Choice.{pick, both, either, choose, both-parts, both-false, false≢true}
 use Rattle.laws.specs.Sweep.{at, agree}
-use Rattle.laws.specs.Words.{wordBy, wordOf, Every, none, one, Byte, word-same, add-word, and-word, xor-word}
+use Rattle.laws.specs.Words.{wordBy, wordOf, Every, Byte, word-same, add-word, and-word, xor-word, xor-zero}
 use Rattle.laws.specs.Eight.{eightAt, Word, drop-eight}
 use Rattle.syntax.specs.Bytes.{permittedOf}
 use Rattle.syntax.specs.Zeros.{digitsOf, zeros-pass, zeros-stop}
@@ -53,71 +53,74 @@ unfolding passRun
 run-more [] m = omega arith
 run-more (b ∷ l) m = choose (goes b) (λ p. let h = run-more l m in rw p (omega arith)) (λ p. rw p (omega arith))
 
--- The highest digit of a byte below 128, set where it is passed over. In each row of 32 bytes those that are passed over stand from 1 to 26, so that
+-- The highest digit of a byte, set where it is passed over. In each row of 32 bytes those that are passed over stand from 1 to 26, so that
 -- with five added the five lowest digits are 6 or more for them alone; a sum with 122 has its highest digit set from 6 on, and one with 88 from
--- 40 on. `each` gives a number as often as there are bytes: this is done with one byte, or with many at once, as no sum reaches from one to the next.
+-- 40 on; the byte's own highest digit is not set. `each` gives a number as often as there are bytes: this is done with one byte, or with many at
+-- once, as no sum of the seven lowest digits reaches from one to the next.
 unfoldable pub passesOf : (ℕ → ℕ) → ℕ → ℕ
-passesOf each x = bitAnd (bitAnd (bitAnd (x + each 5) (each 31) + each 122) (x + each 88)) (each 128)
+passesOf each x =
+    bitAnd (bitAnd (bitAnd (bitAnd (bitAnd x (each 127) + each 5) (each 31) + each 122) (bitAnd x (each 127) + each 88)) (bitXor x (each 128))) (each 128)
 
 -- a number eight times
 abbrev pub eightTimes : ℕ → ℕ
 eightTimes n = n * 72340172838076673
 
--- a byte below 128
-abbrev Low : ℕ → Type 0
-Low b = b < 128
-
 same : ℕ → Bool
 same b = eqb (bitXor (passesOf (λ n. n) b) 128) (pick (goes b) 0 128)
 
-stop-byte : (b : ℕ) → Low b → bitXor (passesOf (λ n. n) b) 128 ≡ pick (goes b) 0 128
+stop-byte : (b : ℕ) → Byte b → bitXor (passesOf (λ n. n) b) 128 ≡ pick (goes b) 0 128
 unfolding same passesOf goes
-stop-byte b h = eqb→eq _ _ (at same 128 tt b h)
+stop-byte b h = eqb→eq _ _ (at same 256 tt b h)
 
--- what each step makes of such a byte is one
-six : (b : ℕ) → Low b → Byte (bitAnd (b + 5) 31 + 122)
-six b h = let k = and-le-r (b + 5) 31 in omega arith
+-- what each step makes of a byte is one
+low : (b : ℕ) → bitAnd b 127 ≤ 127
+low b = and-le-r b 127
 
-both-below : (b : ℕ) → Low b → Byte (bitAnd (bitAnd (b + 5) 31 + 122) (b + 88))
-both-below b h = let k = and-le-r (bitAnd (b + 5) 31 + 122) (b + 88) in omega arith
+five : (b : ℕ) → Byte b → Byte (bitAnd b 127 + 5)
+five b h = let k = low b in omega arith
 
-passes-below : (b : ℕ) → Low b → Byte (passesOf (λ n. n) b)
+forty : (b : ℕ) → Byte b → Byte (bitAnd b 127 + 88)
+forty b h = let k = low b in omega arith
+
+six : (b : ℕ) → Byte b → Byte (bitAnd (bitAnd b 127 + 5) 31 + 122)
+six b h = let k = and-le-r (bitAnd b 127 + 5) 31 in omega arith
+
+other : (b : ℕ) → Byte b → Byte (bitXor b 128)
+other b h = xor-lt 8 b 128 h (lit≤ tt)
+
+both-below : (b : ℕ) → Byte b → Byte (bitAnd (bitAnd (bitAnd b 127 + 5) 31 + 122) (bitAnd b 127 + 88))
+both-below b h =
+    let k = and-le-r (bitAnd (bitAnd b 127 + 5) 31 + 122) (bitAnd b 127 + 88) in
+    let g = low b in
+    omega arith
+
+three-below : (b : ℕ) → Byte b → Byte (bitAnd (bitAnd (bitAnd (bitAnd b 127 + 5) 31 + 122) (bitAnd b 127 + 88)) (bitXor b 128))
+three-below b h =
+    let k = and-le-r (bitAnd (bitAnd (bitAnd b 127 + 5) 31 + 122) (bitAnd b 127 + 88)) (bitXor b 128) in
+    let g = other b h in
+    omega arith
+
+passes-below : (b : ℕ) → Byte b → Byte (passesOf (λ n. n) b)
 unfolding passesOf
-passes-below b h = let k = and-le-r (bitAnd (bitAnd (b + 5) 31 + 122) (b + 88)) 128 in omega arith
+passes-below b h = let k = and-le-r (bitAnd (bitAnd (bitAnd (bitAnd b 127 + 5) 31 + 122) (bitAnd b 127 + 88)) (bitXor b 128)) 128 in omega arith
 
 -- each byte of a word by itself
-stops-bytes : {l : List ℕ} → Every Low l → bitXor (passesOf (λ m. wordBy (λ _. m) l) (wordOf l)) (wordBy (λ _. 128) l) ≡ wordBy (λ b. pick (goes b) 0 128) l
+stops-bytes : {l : List ℕ} → Every Byte l → bitXor (passesOf (λ m. wordBy (λ _. m) l) (wordOf l)) (wordBy (λ _. 128) l) ≡ wordBy (λ b. pick (goes b) 0 128) l
 unfolding passesOf
 stops-bytes {l} r =
     rw (
-      add-word (λ b. b) (λ _. 5) l,
-      and-word (λ b. b + 5) (λ _. 31) (λ b h. omega arith) (λ b h. omega arith) r,
-      add-word (λ b. bitAnd (b + 5) 31) (λ _. 122) l,
-      add-word (λ b. b) (λ _. 88) l,
-      and-word (λ b. bitAnd (b + 5) 31 + 122) (λ b. b + 88) six (λ b h. omega arith) r,
-      and-word (λ b. bitAnd (bitAnd (b + 5) 31 + 122) (b + 88)) (λ _. 128) both-below (λ b h. omega arith) r,
+      and-word (λ b. b) (λ _. 127) (λ b h. h) (λ b h. omega arith) r,
+      add-word (λ b. bitAnd b 127) (λ _. 5) l,
+      and-word (λ b. bitAnd b 127 + 5) (λ _. 31) five (λ b h. omega arith) r,
+      add-word (λ b. bitAnd (bitAnd b 127 + 5) 31) (λ _. 122) l,
+      add-word (λ b. bitAnd b 127) (λ _. 88) l,
+      and-word (λ b. bitAnd (bitAnd b 127 + 5) 31 + 122) (λ b. bitAnd b 127 + 88) six forty r,
+      xor-word (λ b. b) (λ _. 128) (λ b h. h) (λ b h. omega arith) r,
+      and-word (λ b. bitAnd (bitAnd (bitAnd b 127 + 5) 31 + 122) (bitAnd b 127 + 88)) (λ b. bitXor b 128) both-below other r,
+      and-word (λ b. bitAnd (bitAnd (bitAnd (bitAnd b 127 + 5) 31 + 122) (bitAnd b 127 + 88)) (bitXor b 128)) (λ _. 128) three-below (λ b h. omega arith) r,
       xor-word (passesOf (λ n. n)) (λ _. 128) passes-below (λ b h. omega arith) r,
     )
     (word-same (λ b. bitXor (passesOf (λ n. n) b) 128) (λ b. pick (goes b) 0 128) stop-byte r)
-
--- where no highest digit is set, all bytes are below 128
-low-byte : (b : ℕ) → Byte b → bitAnd b 128 ≡ 0 → Low b
-low-byte b h e = ltb-true b 128 (sym (agree (λ b. eqb (bitAnd b 128) 0) (λ b. ltb b 128) 256 tt b h) ∙ eq-eqb (bitAnd b 128) 0 e)
-
-all-low : {l : List ℕ} → Every Byte l → wordBy (λ b. bitAnd b 128) l ≡ 0 → Every Low l
-unfolding wordBy
-all-low none e = none
-all-low (one {a} {l} k r) e = one (low-byte a k (omega arith)) (all-low r (omega arith))
-
-bytes-low : {l : List ℕ} → Every Byte l → bitAnd (wordOf l) (wordBy (λ _. 128) l) ≡ 0 → Every Low l
-bytes-low r e = all-low r (sym (and-word (λ b. b) (λ _. 128) (λ b h. h) (λ b h. omega arith) r) ∙ e)
-
--- and the word leaves room for the sums
-pub word-low : (x : ℕ) → x < 2 ^ 64 → bitAnd x 9259542123273814144 ≡ 0 → x ≤ 9187201950435737471
-word-low x h e =
-    let a = or-disjoint x 9259542123273814144 e in
-    let b = or-lt 64 x 9259542123273814144 h (lit≤ tt) in
-    omega arith
 
 -- the zeros below the first stop tell of a run that it has at least
 lead : (l : List ℕ) → trailingZeros (digitsOf l) (wordBy (λ b. pick (goes b) 0 128) l) ≤ 8 * passRun l + 7
@@ -129,20 +132,40 @@ lead (b ∷ l) =
     (λ p. let z = zeros-pass (digitsOf l) w in let h = lead l in rw p (omega arith))
     (λ p. let z = zeros-stop (digitsOf l) w in rw p (omega arith))
 
-module _ (s : List ℕ) (i x : ℕ) (h : i + 8 ≤ length s) (w : Word s i x) (g : bitAnd x 9259542123273814144 ≡ 0) where
+-- and where one of the bytes stops, that many are not all the digits there are
+lead-less : (l : List ℕ) → (wordBy (λ b. pick (goes b) 0 128) l ≡ 0 → ⊥) → trailingZeros (digitsOf l) (wordBy (λ b. pick (goes b) 0 128) l) < digitsOf l
+unfolding wordBy trailingZeros
+lead-less [] n = absurd (n refl)
+lead-less (b ∷ l) n =
+    let w = wordBy (λ b. pick (goes b) 0 128) l in
+    choose (goes b)
+    (λ p. let z = zeros-pass (digitsOf l) w in let h = lead-less l (λ e. n (rw p (omega arith))) in rw p (omega arith))
+    (λ p. let z = zeros-stop (digitsOf l) w in rw p (omega arith))
+
+module _ (s : List ℕ) (i x : ℕ) (h : i + 8 ≤ length s) (w : Word s i x) where
   stops-word : bitXor (passesOf eightTimes x) 9259542123273814144 ≡ wordBy (λ b. pick (goes b) 0 128) (eightAt s i)
   unfolding wordBy passesOf
-  stops-word =
-      ap (λ (x : ℕ). bitXor (passesOf eightTimes x) 9259542123273814144) (w .is)
-      ∙ stops-bytes (bytes-low (w .bytes) (ap (λ (x : ℕ). bitAnd x 9259542123273814144) (sym (w .is)) ∙ g))
+  stops-word = ap (λ (x : ℕ). bitXor (passesOf eightTimes x) 9259542123273814144) (w .is) ∙ stops-bytes (w .bytes)
 
   module _ (y : ℕ) (e : y ≡ passesOf eightTimes x) where
-    pub eight-lead : trailingZeros 64 (bitXor y 9259542123273814144) / 8 ≤ passRun (drop i s)
+    abbrev zeros : ℕ
+    zeros = trailingZeros 64 (bitXor y 9259542123273814144)
+
+    told : zeros ≡ trailingZeros 64 (wordBy (λ b. pick (goes b) 0 128) (eightAt s i))
+    told = ap (λ (y : ℕ). trailingZeros 64 (bitXor y 9259542123273814144)) e ∙ ap (trailingZeros 64) stops-word
+
+    pub eight-lead : zeros / 8 ≤ passRun (drop i s)
     eight-lead =
         let a = lead (eightAt s i) in
         let b = run-more (eightAt s i) (drop (i + 8) s) in
         let c = ap passRun (drop-eight s i h) in
-        let d = ap (λ (y : ℕ). trailingZeros 64 (bitXor y 9259542123273814144)) e ∙ ap (trailingZeros 64) stops-word in
+        let d = told in
+        omega arith
+
+    pub eight-inside : (y ≡ 9259542123273814144 → ⊥) → zeros < 64
+    eight-inside n =
+        let d = told in
+        let a = lead-less (eightAt s i) (λ z. n (xor-zero y 9259542123273814144 (ap (λ (y : ℕ). bitXor y 9259542123273814144) e ∙ stops-word ∙ z))) in
         omega arith
 
     pub eight-clear : y ≡ 9259542123273814144 → 8 ≤ passRun (drop i s)

@@ -1,16 +1,20 @@
 -- The end of a segment that has too few characters and marks to pass a limit, which is found without counting its parts.
 -- Assumes nothing.
 use mathlib.Core.Path.{_≡_, sym, ap, _∙_}
-use mathlib.Core.Bool.{Bool, true}
+use mathlib.Core.Bool.{Bool, true, false}
 use mathlib.Core.List.{List}
-use Prim.Native.Nat.{ℕ, _+_, _-_, _≤_, _<_}
+use Prim.Native.Nat.{ℕ, _+_, _-_, _*_, _≤_, _<_}
 use native.Mathlib.Omega.{arith}
-use lib.Dec.{leb}
-use borrow.Author.Tests.{leb-true, le-leb, lt-leb}
+use lib.Dec.{leb, ltb}
+use borrow.Author.Tests.{leb-true, le-leb, lt-leb, lt-ltb, le-ltb, ltb-true}
+use lib.Bits.{bitOr, bitXor, or-add-and, and-le-l, and-le-r}
 use lib.ListN.{length, drop, getD}
-use Rattle.laws.specs.Choice.{pick, both, either, choose}
+use Rattle.laws.specs.Choice.{pick, both, either, choose, false≢true}
 use Rattle.laws.specs.Lists.{between}
+use Rattle.laws.specs.Words.{xor-zero}
 use Rattle.syntax.specs.declared.segment.Scanned.the-variants.{End}
+use Rattle.syntax.specs.declared.segment.Quick.{Quick}
+use Rattle.syntax.specs.declared.segment.Quick.the-variants.{Ends, Unsure}
 use Rattle.syntax.specs.Segment.{capital, segmentAt}
 use Rattle.syntax.specs.Tags.{tagAhead, tag-four}
 use Rattle.syntax.specs.Found.{endFrom, end-past}
@@ -24,6 +28,31 @@ isFew s at e = either (leb (e - at) 34) (both (leb (length (between s at e)) 512
 -- the terminator's index of such a segment whose tag, with the `+` behind it, starts at an offset; the input's length where there is none
 unfoldable pub quickEnd : List ℕ → ℕ → ℕ
 quickEnd s at = pick (isFew s at (endFrom s (at + 4))) (endFrom s (at + 4)) (length s)
+
+-- the same as it is told
+unfoldable pub quickOf : List ℕ → ℕ → Quick
+quickOf s at = pick (ltb (quickEnd s at) (length s)) (Ends (quickEnd s at)) Unsure
+
+module _ (s : List ℕ) (at e : ℕ) (q : e ≡ quickEnd s at) where
+  as-told : pick (ltb e (length s)) (Ends e) Unsure ≡ quickOf s at
+  unfolding quickOf
+  as-told = ap (λ (x : ℕ). pick (ltb x (length s)) (Ends x) Unsure) q
+
+  pub quick-ends : e < length s → Ends e ≡ quickOf s at
+  quick-ends h = rw (lt-ltb e (length s) h) at as-told
+
+  pub quick-unsure : length s ≤ e → Unsure ≡ quickOf s at
+  quick-unsure h = rw (le-ltb e (length s) h) at as-told
+
+-- a terminator and a count of at most 34, in one number
+pub close-two : (b n : ℕ) → leb (bitOr (bitXor b 39 * 256) n) 34 ≡ true → (b ≡ 39) × (n ≤ 34)
+close-two b n q =
+    let h = leb-true (bitOr (bitXor b 39 * 256) n) 34 q in
+    let s = or-add-and (bitXor b 39 * 256) n in
+    let l = and-le-l (bitXor b 39 * 256) n in
+    let r = and-le-r (bitXor b 39 * 256) n in
+    let e : bitXor b 39 ≡ 0 = omega arith in
+    (xor-zero b 39 e, omega arith)
 
 -- an input that ends before that has none
 pub quick-past : (s : List ℕ) (at : ℕ) → length s < at + 4 → length s ≡ quickEnd s at
@@ -56,6 +85,14 @@ pub tag-plus : (s : List ℕ) (at : ℕ) → at + 4 ≤ length s → capital (ge
     → getD s (at + 3) 0 ≡ 43 → tagAhead (drop at s) ≡ true
 tag-plus s at h a b c d = tag-four s at h ∙ rw (a, b, c, d)
 
+endIn : Quick → ℕ
+endIn (Ends e) = e
+endIn Unsure = 0
+
+isSure : Quick → Bool
+isSure (Ends e) = true
+isSure Unsure = false
+
 -- and the segment that they begin is whole where its end is found so
 module _ (s : List ℕ) (at : ℕ) (q : tagAhead (drop at s) ≡ true) where
   whole : (e : ℕ) → e ≡ endFrom s (at + 3) → e < length s → isFew s at e ≡ true → End e ≡ segmentAt s at
@@ -70,3 +107,10 @@ module _ (s : List ℕ) (at : ℕ) (q : tagAhead (drop at s) ≡ true) where
       choose (isFew s at (endFrom s (at + 4)))
       (λ p. rw p (sym (whole (endFrom s (at + 4)) (end-after-plus s at q d) (rw p at h) p)))
       (λ p. let g = rw p at h in absurd (omega arith))
+
+  pub quick-segment : (e : ℕ) → getD s (at + 3) 0 ≡ 43 → quickOf s at ≡ Ends e → segmentAt s at ≡ End e
+  unfolding quickOf endIn isSure
+  quick-segment e d h =
+      choose (ltb (quickEnd s at) (length s))
+      (λ p. quick-whole d (ltb-true (quickEnd s at) (length s) p) ∙ ap End (ap endIn (rw p at h)))
+      (λ p. absurd (false≢true (ap isSure (rw p at h))))

@@ -9,6 +9,15 @@ ghost use lib.ListN.{length, getD};
 ghost use Rattle.laws.specs.Eight.{Word};
 ghost use Rattle.syntax.specs.Passed.{passesOf, eightTimes};
 ghost use Rattle.syntax.specs.Found.{endFrom};
+ghost use Rattle.syntax.specs.Ran.{RunTold};
+
+/// Where a run of bytes that are passed over led.
+pub(crate) enum Run {
+    /// To a byte that is to be looked at.
+    Stops(usize),
+    /// To where fewer than eight bytes are left.
+    Left(usize),
+}
 
 /// The eight bytes from an index on as one number, the first the lowest: a flat row of `|`, of which the compiler makes one load.
 pub(crate) fn eight_at(s: &[u8], i: usize) -> u64
@@ -25,7 +34,9 @@ pub(crate) fn eight_at(s: &[u8], i: usize) -> u64
         | wide(s[i])
 }
 
-// 5, 31, 122, 88 and 128, each eight times.
+// 127, 5, 31, 122, 88 and 128, each eight times.
+const LOWEST: u64 = 0x7f7f_7f7f_7f7f_7f7f;
+
 const FIVE: u64 = 0x0505_0505_0505_0505;
 
 const ROW: u64 = 0x1f1f_1f1f_1f1f_1f1f;
@@ -36,36 +47,42 @@ const FROM_FORTY: u64 = 0x5858_5858_5858_5858;
 
 const HIGHEST: u64 = 0x8080_8080_8080_8080;
 
-// The highest digit of each of eight bytes below 128, set where the byte is passed over: it is one from `(` to `:`, or a letter. The other
+// The highest digit of each of eight bytes, set where the byte is passed over: it is one from `(` to `:`, or a letter. The other
 // permitted bytes, as the space, are too few to be worth telling apart here, and are passed one by one.
 fn passes_in(x: u64) -> u64
-    requires { ⌜ x ≤ 9187201950435737471 ⌝ }
     ensures { λ r. ⌜ r ≡ passesOf eightTimes x ⌝ }
 {
-    (((x + FIVE) & ROW) + FROM_SIX) & (x + FROM_FORTY) & HIGHEST
+    let low = x & LOWEST;
+    (((low + FIVE) & ROW) + FROM_SIX) & (low + FROM_FORTY) & (x ^ HIGHEST) & HIGHEST
 }
 
-/// Past bytes that are passed over, eight at a time, to the first that is not, to eight of which one is not below 128, or to where fewer are left.
-pub(crate) fn run_end(s: &[u8], from: usize) -> usize
-    ensures { λ r. ⌜ (from ≤ r) × (endFrom (now (s .entry)) r ≡ endFrom (now (s .entry)) from) ⌝ }
+/// Past bytes that are passed over, eight at a time, to the first that is not, or to where fewer are left.
+pub(crate) fn run_end(s: &[u8], from: usize) -> Run
+    ensures { λ r. ⌜ RunTold (now (s .entry)) from r ⌝ }
 {
     if s.len() < 8 {
-        return from;
+        return Run::Left(from);
     }
     let last = s.len() - 8;
     let mut i = from;
     while i <= last {
-        let x = eight_at(s, i);
-        if x & HIGHEST != 0 {
-            return i;
-        }
-        let passes = passes_in(x);
+        let passes = passes_in(eight_at(s, i));
         if passes != HIGHEST {
-            return i + (u64::trailing_zeros(passes ^ HIGHEST) / 8) as usize;
+            return Run::Stops(i + (u64::trailing_zeros(passes ^ HIGHEST) / 8) as usize);
         }
         i += 8;
     }
-    i
+    Run::Left(i)
+}
+
+// The same, where it does not matter why the run ended.
+fn pass_run(s: &[u8], from: usize) -> usize
+    ensures { λ r. ⌜ (from ≤ r) × (endFrom (now (s .entry)) r ≡ endFrom (now (s .entry)) from) ⌝ }
+{
+    match run_end(s, from) {
+        Run::Stops(j) => j,
+        Run::Left(j) => j,
+    }
 }
 
 // Past a byte that is no terminator: a release with those that follow it at once, or one byte. The input's length where a byte is not permitted.
@@ -98,7 +115,7 @@ pub fn find_end(s: &[u8], from: usize) -> usize
         if s[j] == b'\'' {
             return j;
         }
-        j = run_end(s, past_byte(s, j));
+        j = pass_run(s, past_byte(s, j));
     }
     s.len()
 }

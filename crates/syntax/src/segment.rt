@@ -5,19 +5,20 @@ use crate::bytes::permitted;
 use crate::bytes::released_end;
 use crate::bytes::text_end;
 use crate::bytes::wide;
+use crate::ends::Run;
 use crate::ends::find_end;
 use crate::ends::run_end;
 use crate::limits::Counts;
 use crate::marks::is_small;
 ghost use mathlib.Core.Path.{_≡_};
-ghost use mathlib.Core.Bool.{not};
+ghost use mathlib.Core.Bool.{true, not};
 ghost use Prim.Native.Nat.{_+_, _≤_};
 ghost use lib.ListN.{length, drop};
 ghost use Rattle.laws.specs.Choice.{pick, both};
 ghost use Rattle.syntax.specs.Segment.{capital, segmentAt, scannedAnswer, refusalOf, segmentAnswer, tagNumber};
 ghost use Rattle.syntax.specs.Tags.{tagCloses, tagAhead};
 ghost use Rattle.syntax.specs.Found.{endFrom};
-ghost use Rattle.syntax.specs.Quick.{quickEnd};
+ghost use Rattle.syntax.specs.Quick.{quickEnd, quickOf};
 
 /// What stands at an offset.
 pub enum Scanned {
@@ -29,6 +30,14 @@ pub enum Scanned {
     Unended,
     /// 6: the tag or a limit.
     Malformed,
+}
+
+/// What a quick look at a segment tells.
+pub enum Quick {
+    /// It is whole, and too small to pass a limit; the terminator's index.
+    Ends(usize),
+    /// It is to be read with care.
+    Unsure,
 }
 
 /// What document 01 answers: a number of its table, and a position in the input.
@@ -104,8 +113,8 @@ fn is_tagged(s: &[u8], at: usize) -> bool
     is_tag(s[at], s[at + 1], s[at + 2], s[at + 3])
 }
 
-// The same as `quick_end`, from a byte on before which the segment does not end. In a function of its own, so that little is left where
-// the end is found at once.
+// The terminator's index of a segment that is told at once, the input's length for any other, from a byte on before which it does not end. In a
+// function of its own, so that little is left where the end is found at once.
 fn small_end(s: &[u8], at: usize, from: usize) -> usize
     requires { ⌜ (at + 4 ≤ length (now s)) × (endFrom (now s) from ≡ endFrom (now s) (at + 4)) ⌝ }
     ensures { λ r. ⌜ r ≡ quickEnd (now (s .entry)) at ⌝ }
@@ -123,25 +132,44 @@ fn small_end(s: &[u8], at: usize, from: usize) -> usize
     s.len()
 }
 
-/// The terminator's index of a segment that has too few characters and marks to pass a limit, its tag with the `+` behind it at an offset; the input's length for any other.
-pub fn quick_end(s: &[u8], at: usize) -> usize
-    ensures { λ r. ⌜ r ≡ quickEnd (now (s .entry)) at ⌝ }
+// Whether a byte is the terminator and the segment before it has at most 34 bytes, in one test.
+fn closes(b: u8, n: usize) -> bool
+    ensures { λ r. ⌜ (r ≡ true → (b ≡ 39) × (n ≤ 34)) ⌝ }
+{
+    ((b ^ b'\'') as usize * 256) | n <= 34
+}
+
+// The same as `quick_end`, from a byte on before which the segment does not end.
+fn careful_end(s: &[u8], at: usize, from: usize) -> Quick
+    requires { ⌜ (at + 4 ≤ length (now s)) × (endFrom (now s) from ≡ endFrom (now s) (at + 4)) ⌝ }
+    ensures { λ r. ⌜ r ≡ quickOf (now (s .entry)) at ⌝ }
+{
+    let end = small_end(s, at, from);
+    if end < s.len() {
+        return Quick::Ends(end);
+    }
+    Quick::Unsure
+}
+
+/// The end of a segment that has too few characters and marks to pass a limit, its tag with the `+` behind it at an offset.
+pub fn quick_end(s: &[u8], at: usize) -> Quick
+    ensures { λ r. ⌜ r ≡ quickOf (now (s .entry)) at ⌝ }
 {
     if s.len() < 4 {
-        return s.len();
+        return Quick::Unsure;
     }
     if s.len() - 4 < at {
-        return s.len();
+        return Quick::Unsure;
     }
-    let j = run_end(s, at + 4);
-    if j < s.len() {
-        if s[j] == b'\'' {
-            if j - at <= 34 {
-                return j;
+    match run_end(s, at + 4) {
+        Run::Stops(j) => {
+            if closes(s[j], j - at) {
+                return Quick::Ends(j);
             }
+            careful_end(s, at, j)
         }
+        Run::Left(j) => careful_end(s, at, j),
     }
-    small_end(s, at, j)
 }
 
 /// The segment that starts at an offset. Its end is found first; its parts are counted only where it may pass a limit, or is to be refused.

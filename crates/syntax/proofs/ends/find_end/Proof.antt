@@ -12,7 +12,7 @@ use Rattle.syntax.proofs.ends.find_end.Tie as tie
 use Rattle.syntax.proofs.ends.find_end.Reads as reads
 use Rattle.syntax.proofs.ends.find_end.Lts as lts
 use Rattle.syntax.proofs.ends.past_byte.Reads as past-byte-reads
-use Rattle.syntax.proofs.ends.run_end.Reads as run-end-reads
+use Rattle.syntax.proofs.ends.pass_run.Reads as pass-run-reads
 
 abbrev Inv-loop : tie.InvT-loop
 Inv-loop s from j₀ j = endFrom s j ≡ endFrom s from
@@ -34,17 +34,17 @@ returns c =
 past-byte-requires : tie.Need-past-byte-requires Inv-loop μ-loop
 past-byte-requires c κs = (omega arith, c .if1 .left)
 
-run-end-requires : tie.Need-run-end-requires Inv-loop μ-loop
-run-end-requires c κs = search needs
+pass-run-requires : tie.Need-pass-run-requires Inv-loop μ-loop
+pass-run-requires c κs = search needs
 
 loop-less : tie.Need-loop-less Inv-loop μ-loop
 loop-less c =
     let p = c .before .past-byte .ensures .0 in
-    let q = c .run-end .ensures .0 in
+    let q = c .pass-run .ensures .0 in
     omega arith
 
 loop-again : tie.Need-loop-again Inv-loop μ-loop
-loop-again c = c .run-end .ensures .1 ∙ c .before .past-byte .ensures .1 ∙ c .before .before .before .before .before .loop .inv
+loop-again c = c .pass-run .ensures .1 ∙ c .before .past-byte .ensures .1 ∙ c .before .before .before .before .before .loop .inv
 
 returns-2 : tie.Need-returns-2 Inv-loop μ-loop
 returns-2 c = sym (end-past (now (c .before .before .before .args .s)) (c .before .loop .j) (c .loop-test .left)) ∙ c .before .loop .inv
@@ -59,7 +59,7 @@ find-end-spec =
     shared-slice-read-if1
     returns
     past-byte-requires
-    run-end-requires
+    pass-run-requires
     loop-less
     loop-again
     returns-2)

@@ -9,7 +9,7 @@ use denote.Ref.{now}
 use lib.Bits.{bitXor}
 use lib.Count.{trailingZeros, trailing-le}
 use lib.ListN.{length, drop}
-use Rattle.syntax.specs.Passed.{passRun, word-low, eight-lead, eight-clear}
+use Rattle.syntax.specs.Passed.{passRun, eight-lead, eight-inside, eight-clear}
 use Rattle.syntax.specs.Found.{endFrom, end-run}
 use Rattle.syntax.proofs.ends.run_end.Statement.{statement}
 use Rattle.syntax.proofs.ends.run_end.Tie as tie
@@ -36,16 +36,13 @@ loop-holds c = (omega arith, omega arith, refl)
 eight-at-requires : tie.Need-eight-at-requires Inv-loop μ-loop
 eight-at-requires c κs = search needs
 
-returns-2 : tie.Need-returns-2 Inv-loop μ-loop
-returns-2 c = let o = c .before .before .before in (o .loop .inv .1, o .loop .inv .2)
-
 passes-in-requires : tie.Need-passes-in-requires Inv-loop μ-loop
-passes-in-requires c κs = word-low (c .before .eight-at .result) (c .before .eight-at .ok) (c .if2 .left)
+passes-in-requires c κs = search needs
 
 -- after it is known which of eight bytes are passed over
 module _ (t : tie.After-passes-in Inv-loop μ-loop) where
   abbrev own : tie.At-loop Inv-loop μ-loop
-  own = t .before .before .before .before
+  own = t .before .before .before
 
   abbrev list : List ℕ
   list = now (own .before .before .before .args .s)
@@ -59,18 +56,23 @@ module _ (t : tie.After-passes-in Inv-loop μ-loop) where
   goes-by : (k : ℕ) → k ≤ passRun (drop (own .loop .i) list) → endFrom list (own .loop .i + k) ≡ endFrom list (own .before .before .before .args .from)
   goes-by k h = sym (end-run list (own .loop .i) k h) ∙ own .loop .inv .2
 
-cast-result : tie.Need-cast-result Inv-loop μ-loop
-cast-result c = let h = few (c .before) in omega arith
+cast-t13 : tie.Need-cast-t13 Inv-loop μ-loop
+cast-t13 c = let h = few (c .before) in omega arith
 
-add-result : tie.Need-add-result Inv-loop μ-loop
-add-result c = let h = few (c .before) in omega arith
+add-t14 : tie.Need-add-t14 Inv-loop μ-loop
+add-t14 c = let h = few (c .before) in omega arith
 
-returns-3 : tie.Need-returns-3 Inv-loop μ-loop
-returns-3 c =
+returns-2 : tie.Need-returns-2 Inv-loop μ-loop
+returns-2 c =
     let t = c .before in
-    let e = t .before .before in (
+    let e = t .before in
+    let i = own t .loop .i in
+    let x = e .eight-at .result in
+    let y = t .passes-in .result in
+    let n = eight-inside (list t) i x (omega arith) (e .eight-at .ensures) y (t .passes-in .ensures) (c .if2 .taken) in (
       omega arith,
-      goes-by t (zeros t / 8) (eight-lead (list t) (own t .loop .i) (e .eight-at .result) (omega arith) (e .eight-at .ensures) (t .before .if2 .left) (t .passes-in .result) (t .passes-in .ensures)),
+      omega arith,
+      goes-by t (zeros t / 8) (eight-lead (list t) i x (omega arith) (e .eight-at .ensures) y (t .passes-in .ensures)),
     )
 
 add-i : tie.Need-add-i Inv-loop μ-loop
@@ -82,14 +84,14 @@ loop-less c = omega arith
 loop-again : tie.Need-loop-again Inv-loop μ-loop
 loop-again c =
     let t = c .before in
-    let e = t .before .before in (
+    let e = t .before in (
       own t .loop .inv .0,
       omega arith,
-      goes-by t 8 (eight-clear (list t) (own t .loop .i) (e .eight-at .result) (omega arith) (e .eight-at .ensures) (t .before .if2 .left) (t .passes-in .result) (t .passes-in .ensures) (c .if3 .left)),
+      goes-by t 8 (eight-clear (list t) (own t .loop .i) (e .eight-at .result) (omega arith) (e .eight-at .ensures) (t .passes-in .result) (t .passes-in .ensures) (c .if2 .left)),
     )
 
-returns-4 : tie.Need-returns-4 Inv-loop μ-loop
-returns-4 c = (c .before .loop .inv .1, c .before .loop .inv .2)
+returns-3 : tie.Need-returns-3 Inv-loop μ-loop
+returns-3 c = (c .before .loop .inv .1, c .before .loop .inv .2)
 
 pub run-end-spec : {M : Type 1} → statement M
 run-end-spec =
@@ -101,12 +103,11 @@ run-end-spec =
     sub-last
     loop-holds
     eight-at-requires
-    returns-2
     passes-in-requires
-    cast-result
-    add-result
-    returns-3
+    cast-t13
+    add-t14
+    returns-2
     add-i
     loop-less
     loop-again
-    returns-4)
+    returns-3)
