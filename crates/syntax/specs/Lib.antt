@@ -14,6 +14,7 @@ pub mod Ends
 pub mod Zeros
 pub mod Passed
 pub mod Texts
+pub mod Plain
 pub mod Found
 pub mod Released
 pub mod Few

@@ -7,7 +7,7 @@ use Prim.Native.Nat.{ℕ, suc, _+_, _*_, _/_, _^_, _≤_, _<_}
 use native.Mathlib.Omega.{arith}
 use native.Mathlib.Decide.{decLt}
 use lib.Dec.{leb, ltb, eqb, eqb→eq, lit≤}
-use lib.Bits.{bitAnd, bitXor, and-le-r, or-lt, or-disjoint, xor-self}
+use lib.Bits.{bitAnd, bitXor, and-le-r, or-lt, xor-lt, or-disjoint}
 use lib.Count.{trailingZeros, trailing-of-zero}
 use lib.ListN.{length, drop}
 use borrow.Author.Tests.{lt-leb, not-true, ltb-true, eq-eqb}
@@ -43,15 +43,14 @@ goes-fine b q =
       | no h ↦ absurd (false≢true (sym (simp (lt-leb b 58 (omega arith), lt-leb b 90 (omega arith), lt-leb b 122 (omega arith), both-false)) ∙ q))
     ]
 
--- how many such bytes a list begins with
-unfoldable pub passRun : List ℕ → ℕ
-passRun [] = 0
-passRun (b ∷ l) = pick (goes b) (suc (passRun l)) 0
+-- those, and the space
+unfoldable pub common : ℕ → Bool
+common b = either (goes b) (eqb b 32)
 
-run-more : (l m : List ℕ) → passRun l ≤ passRun (l ++ m)
-unfolding passRun
-run-more [] m = omega arith
-run-more (b ∷ l) m = choose (goes b) (λ p. let h = run-more l m in rw p (omega arith)) (λ p. rw p (omega arith))
+-- how many bytes of a kind a list begins with
+unfoldable pub runOf : (ℕ → Bool) → List ℕ → ℕ
+runOf f [] = 0
+runOf f (b ∷ l) = pick (f b) (suc (runOf f l)) 0
 
 -- The highest digit of a byte below 128, set where it is passed over. In each row of 32 bytes those that are passed over stand from 1 to 26, so that
 -- with five added the five lowest digits are 6 or more for them alone; a sum with 122 has its highest digit set from 6 on, and one with 88 from
@@ -64,7 +63,7 @@ abbrev pub eightTimes : ℕ → ℕ
 eightTimes n = n * 72340172838076673
 
 -- a byte below 128
-abbrev Low : ℕ → Type 0
+abbrev pub Low : ℕ → Type 0
 Low b = b < 128
 
 same : ℕ → Bool
@@ -73,6 +72,22 @@ same b = eqb (bitXor (passesOf (λ n. n) b) 128) (pick (goes b) 0 128)
 stop-byte : (b : ℕ) → Low b → bitXor (passesOf (λ n. n) b) 128 ≡ pick (goes b) 0 128
 unfolding same passesOf goes
 stop-byte b h = eqb→eq _ _ (at same 128 tt b h)
+
+-- The highest digit of such a byte, set where it is not passed over and is not the space: of what is left without the digits of 32 only the space's is 0,
+-- and a sum with 127 has its highest digit set from 1 on.
+unfoldable pub stopsOf : (ℕ → ℕ) → ℕ → ℕ
+stopsOf each x = bitAnd (bitXor (passesOf each x) (each 128)) (bitXor x (each 32) + each 127)
+
+same-common : ℕ → Bool
+same-common b = eqb (bitAnd (pick (goes b) 0 128) (bitXor b 32 + 127)) (pick (common b) 0 128)
+
+common-byte : (b : ℕ) → Low b → bitAnd (pick (goes b) 0 128) (bitXor b 32 + 127) ≡ pick (common b) 0 128
+unfolding same-common common goes
+common-byte b h = eqb→eq _ _ (at same-common 128 tt b h)
+
+pub stop-below : (p : Bool) → Byte (pick p 0 128)
+stop-below true = omega arith
+stop-below false = omega arith
 
 -- what each step makes of such a byte is one
 six : (b : ℕ) → Low b → Byte (bitAnd (b + 5) 31 + 122)
@@ -100,6 +115,17 @@ stops-bytes {l} r =
     )
     (word-same (λ b. bitXor (passesOf (λ n. n) b) 128) (λ b. pick (goes b) 0 128) stop-byte r)
 
+common-bytes : {l : List ℕ} → Every Low l → stopsOf (λ m. wordBy (λ _. m) l) (wordOf l) ≡ wordBy (λ b. pick (common b) 0 128) l
+unfolding stopsOf
+common-bytes {l} r =
+    rw (
+      stops-bytes r,
+      xor-word (λ b. b) (λ _. 32) (λ b h. omega arith) (λ b h. omega arith) r,
+      add-word (λ b. bitXor b 32) (λ _. 127) l,
+      and-word (λ b. pick (goes b) 0 128) (λ b. bitXor b 32 + 127) (λ b h. stop-below (goes b)) (λ b h. let k = xor-lt 7 b 32 h (omega arith) in omega arith) r,
+    )
+    (word-same (λ b. bitAnd (pick (goes b) 0 128) (bitXor b 32 + 127)) (λ b. pick (common b) 0 128) common-byte r)
+
 -- where no highest digit is set, all bytes are below 128
 low-byte : (b : ℕ) → Byte b → bitAnd b 128 ≡ 0 → Low b
 low-byte b h e = ltb-true b 128 (sym (agree (λ b. eqb (bitAnd b 128) 0) (λ b. ltb b 128) 256 tt b h) ∙ eq-eqb (bitAnd b 128) 0 e)
@@ -120,33 +146,46 @@ word-low x h e =
     omega arith
 
 -- the zeros below the first stop tell of a run that it has at least
-lead : (l : List ℕ) → trailingZeros (digitsOf l) (wordBy (λ b. pick (goes b) 0 128) l) ≤ 8 * passRun l + 7
-unfolding passRun wordBy trailingZeros
-lead [] = omega arith
-lead (b ∷ l) =
-    let w = wordBy (λ b. pick (goes b) 0 128) l in
-    choose (goes b)
-    (λ p. let z = zeros-pass (digitsOf l) w in let h = lead l in rw p (omega arith))
-    (λ p. let z = zeros-stop (digitsOf l) w in rw p (omega arith))
+module _ (f : ℕ → Bool) where
+  run-more : (l m : List ℕ) → runOf f l ≤ runOf f (l ++ m)
+  unfolding runOf
+  run-more [] m = omega arith
+  run-more (b ∷ l) m = choose (f b) (λ p. let h = run-more l m in rw p (omega arith)) (λ p. rw p (omega arith))
 
-module _ (s : List ℕ) (i x : ℕ) (h : i + 8 ≤ length s) (w : Word s i x) (g : bitAnd x 9259542123273814144 ≡ 0) where
-  stops-word : bitXor (passesOf eightTimes x) 9259542123273814144 ≡ wordBy (λ b. pick (goes b) 0 128) (eightAt s i)
-  unfolding wordBy passesOf
-  stops-word =
-      ap (λ (x : ℕ). bitXor (passesOf eightTimes x) 9259542123273814144) (w .is)
-      ∙ stops-bytes (bytes-low (w .bytes) (ap (λ (x : ℕ). bitAnd x 9259542123273814144) (sym (w .is)) ∙ g))
+  lead : (l : List ℕ) → trailingZeros (digitsOf l) (wordBy (λ b. pick (f b) 0 128) l) ≤ 8 * runOf f l + 7
+  unfolding runOf wordBy trailingZeros
+  lead [] = omega arith
+  lead (b ∷ l) =
+      let w = wordBy (λ b. pick (f b) 0 128) l in
+      choose (f b)
+      (λ p. let z = zeros-pass (digitsOf l) w in let h = lead l in rw p (omega arith))
+      (λ p. let z = zeros-stop (digitsOf l) w in rw p (omega arith))
 
-  module _ (y : ℕ) (e : y ≡ passesOf eightTimes x) where
-    pub eight-lead : trailingZeros 64 (bitXor y 9259542123273814144) / 8 ≤ passRun (drop i s)
+  module _ (s : List ℕ) (i y : ℕ) (h : i + 8 ≤ length s) (e : y ≡ wordBy (λ b. pick (f b) 0 128) (eightAt s i)) where
+    pub eight-lead : trailingZeros 64 y / 8 ≤ runOf f (drop i s)
     eight-lead =
         let a = lead (eightAt s i) in
         let b = run-more (eightAt s i) (drop (i + 8) s) in
-        let c = ap passRun (drop-eight s i h) in
-        let d = ap (λ (y : ℕ). trailingZeros 64 (bitXor y 9259542123273814144)) e ∙ ap (trailingZeros 64) stops-word in
+        let c = ap (runOf f) (drop-eight s i h) in
+        let d = ap (trailingZeros 64) e in
         omega arith
 
-    pub eight-clear : y ≡ 9259542123273814144 → 8 ≤ passRun (drop i s)
+    pub eight-clear : y ≡ 0 → 8 ≤ runOf f (drop i s)
     eight-clear z =
         let a = eight-lead in
-        let b = ap (λ (y : ℕ). trailingZeros 64 (bitXor y 9259542123273814144)) z ∙ ap (trailingZeros 64) (xor-self 9259542123273814144) ∙ trailing-of-zero 64 in
+        let b = ap (trailingZeros 64) z ∙ trailing-of-zero 64 in
         omega arith
+
+-- where eight bytes are all below 128, and what stops there
+module _ (s : List ℕ) (i x : ℕ) (w : Word s i x) (g : bitAnd x 9259542123273814144 ≡ 0) where
+  pub eight-low : Every Low (eightAt s i)
+  unfolding wordBy
+  eight-low = bytes-low (w .bytes) (ap (λ (x : ℕ). bitAnd x 9259542123273814144) (sym (w .is)) ∙ g)
+
+  pub passes-word : (y : ℕ) → y ≡ passesOf eightTimes x → bitXor y 9259542123273814144 ≡ wordBy (λ b. pick (goes b) 0 128) (eightAt s i)
+  unfolding wordBy passesOf
+  passes-word y e = ap (λ (y : ℕ). bitXor y 9259542123273814144) (e ∙ ap (passesOf eightTimes) (w .is)) ∙ stops-bytes eight-low
+
+  pub common-word : (y : ℕ) → y ≡ stopsOf eightTimes x → y ≡ wordBy (λ b. pick (common b) 0 128) (eightAt s i)
+  unfolding wordBy passesOf stopsOf
+  common-word y e = e ∙ ap (stopsOf eightTimes) (w .is) ∙ common-bytes eight-low

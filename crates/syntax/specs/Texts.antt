@@ -81,13 +81,14 @@ word-sum [] = refl
 word-sum (b ∷ l) = let h = word-sum l in omega arith
 
 module _ (s : List ℕ) (i x : ℕ) (w : Word s i x) (y : ℕ) (e : y ≡ textsOf eightTimes x) where
-  texts-word : y / 128 ≡ wordBy textUnit (eightAt s i)
+  pub texts-told : y ≡ wordBy (textsOf (λ n. n)) (eightAt s i)
   unfolding wordBy textsOf
+  texts-told = e ∙ ap (textsOf eightTimes) (w .is) ∙ texts-bytes (w .bytes)
+
+  texts-word : y / 128 ≡ wordBy textUnit (eightAt s i)
   texts-word =
       let a : y ≡ wordBy textUnit (eightAt s i) * 128 =
-      e
-      ∙ ap (textsOf eightTimes) (w .is)
-      ∙ texts-bytes (w .bytes)
+      texts-told
       ∙ word-same (textsOf (λ n. n)) (λ b. textUnit b * 128) (λ b h. told-byte b h .0) (w .bytes)
       ∙ times-word textUnit (eightAt s i) in
       omega arith

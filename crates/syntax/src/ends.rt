@@ -7,7 +7,7 @@ ghost use mathlib.Core.Path.{_≡_};
 ghost use Prim.Native.Nat.{_+_, _≤_, _<_};
 ghost use lib.ListN.{length, getD};
 ghost use Rattle.laws.specs.Eight.{Word};
-ghost use Rattle.syntax.specs.Passed.{passesOf, eightTimes};
+ghost use Rattle.syntax.specs.Passed.{passesOf, stopsOf, eightTimes};
 ghost use Rattle.syntax.specs.Found.{endFrom};
 
 /// The eight bytes from an index on as one number, the first the lowest: a flat row of `|`, of which the compiler makes one load.
@@ -25,7 +25,7 @@ pub(crate) fn eight_at(s: &[u8], i: usize) -> u64
         | wide(s[i])
 }
 
-// 5, 31, 122, 88 and 128, each eight times.
+// 5, 31, 122, 88, 128, 32 and 127, each eight times.
 const FIVE: u64 = 0x0505_0505_0505_0505;
 
 const ROW: u64 = 0x1f1f_1f1f_1f1f_1f1f;
@@ -36,6 +36,10 @@ const FROM_FORTY: u64 = 0x5858_5858_5858_5858;
 
 const HIGHEST: u64 = 0x8080_8080_8080_8080;
 
+const SPACES: u64 = 0x2020_2020_2020_2020;
+
+const LOWEST: u64 = 0x7f7f_7f7f_7f7f_7f7f;
+
 // The highest digit of each of eight bytes below 128, set where the byte is passed over: it is one from `(` to `:`, or a letter. The other
 // permitted bytes, as the space, are too few to be worth telling apart here, and are passed one by one.
 fn passes_in(x: u64) -> u64
@@ -43,6 +47,14 @@ fn passes_in(x: u64) -> u64
     ensures { λ r. ⌜ r ≡ passesOf eightTimes x ⌝ }
 {
     (((x + FIVE) & ROW) + FROM_SIX) & (x + FROM_FORTY) & HIGHEST
+}
+
+/// The highest digit of each of eight bytes below 128, set where the byte is not passed over and is not the space.
+pub(crate) fn stops_in(x: u64) -> u64
+    requires { ⌜ x ≤ 9187201950435737471 ⌝ }
+    ensures { λ r. ⌜ r ≡ stopsOf eightTimes x ⌝ }
+{
+    (passes_in(x) ^ HIGHEST) & ((x ^ SPACES) + LOWEST)
 }
 
 /// Past bytes that are passed over, eight at a time, to the first that is not, to eight of which one is not below 128, or to where fewer are left.

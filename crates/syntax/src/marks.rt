@@ -53,8 +53,8 @@ const LOWEST: u64 = 0x7f7f_7f7f_7f7f_7f7f;
 
 const HIGHEST: u64 = 0x8080_8080_8080_8080;
 
-// The highest digit of each of eight bytes, set where the byte is no mark; `;` goes for one.
-fn texts_in(x: u64) -> u64
+/// The highest digit of each of eight bytes, set where the byte is no mark; `;` goes for one.
+pub(crate) fn texts_in(x: u64) -> u64
     ensures { λ r. ⌜ r ≡ textsOf eightTimes x ⌝ }
 {
     ((((x | SEVENTEEN) ^ FIFTY_NINE) & LOWEST) + LOWEST) & HIGHEST

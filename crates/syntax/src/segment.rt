@@ -3,12 +3,12 @@
 use crate::bytes::is_mark;
 use crate::bytes::permitted;
 use crate::bytes::released_end;
-use crate::bytes::text_end;
 use crate::bytes::wide;
 use crate::ends::find_end;
 use crate::ends::run_end;
 use crate::limits::Counts;
 use crate::marks::is_small;
+use crate::texts::text_end;
 ghost use mathlib.Core.Path.{_≡_};
 ghost use mathlib.Core.Bool.{not};
 ghost use Prim.Native.Nat.{_+_, _≤_};
