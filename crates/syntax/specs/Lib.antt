@@ -19,4 +19,5 @@ pub mod Found
 pub mod Released
 pub mod Few
 pub mod Whole
+pub mod Near
 pub mod Quick

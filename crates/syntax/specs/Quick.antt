@@ -9,7 +9,7 @@ use lib.Dec.{leb}
 use borrow.Author.Tests.{leb-true, le-leb, lt-leb}
 use lib.ListN.{length, drop, getD}
 use Rattle.laws.specs.Choice.{pick, both, either, choose}
-use Rattle.laws.specs.Lists.{between}
+use Rattle.laws.specs.Lists.{between, length-between}
 use Rattle.syntax.specs.declared.segment.Scanned.the-variants.{End}
 use Rattle.syntax.specs.Segment.{capital, segmentAt}
 use Rattle.syntax.specs.Tags.{tagAhead, tag-four}
@@ -47,9 +47,20 @@ module _ (s : List ℕ) (at e : ℕ) (f : e ≡ endFrom s (at + 4)) where
   unfolding isFew
   quick-short h = rw (le-leb (e - at) 34 h) at by-few
 
-  pub quick-small : (b : Bool) → b ≡ both (leb (length (between s at e)) 512) (leb (marksIn (between s at e)) 31) → 34 < e - at → pick b e (length s) ≡ quickEnd s at
+  long : length (between s at e) ≡ e - at
+  long = let m = end-most s (at + 4) in length-between s at e (omega arith)
+
+  pub quick-small : (b : Bool) → b ≡ leb (marksIn (between s at e)) 31 → 34 < e - at → e - at ≤ 512 → pick b e (length s) ≡ quickEnd s at
   unfolding isFew
-  quick-small b q h = ap (λ (x : Bool). pick x e (length s)) q ∙ (rw (lt-leb (e - at) 34 h) at by-few)
+  quick-small b q h k =
+      let l = long in
+      ap (λ (x : Bool). pick x e (length s)) q ∙ (rw (lt-leb (e - at) 34 h, le-leb (length (between s at e)) 512 (omega arith)) at by-few)
+
+  pub quick-far : 512 < e - at → length s ≡ quickEnd s at
+  unfolding isFew
+  quick-far h =
+      let l = long in
+      rw (lt-leb (e - at) 34 (omega arith), lt-leb (length (between s at e)) 512 (omega arith)) at by-few
 
 -- three capital letters and `+` are a tag
 pub tag-plus : (s : List ℕ) (at : ℕ) → at + 4 ≤ length s → capital (getD s at 0) ≡ true → capital (getD s (at + 1) 0) ≡ true → capital (getD s (at + 2) 0) ≡ true

@@ -6,7 +6,7 @@ ghost use mathlib.Core.Bool.{true};
 ghost use Prim.Native.Nat.{_+_, _-_, _≤_, _<_};
 ghost use lib.Dec.{leb};
 ghost use lib.ListN.{length, drop};
-ghost use Rattle.laws.specs.Choice.{pick, both};
+ghost use Rattle.laws.specs.Choice.{pick};
 ghost use Rattle.syntax.specs.Bytes.{isMark};
 ghost use Rattle.syntax.specs.Few.{marksIn};
 ghost use Rattle.syntax.specs.Passed.{eightTimes};
@@ -110,13 +110,11 @@ fn has_few(p: &[u8]) -> bool
     marks <= 31
 }
 
-/// Whether a segment has too few characters and marks to pass a limit. Most that are looked at have much text and few marks.
+/// Whether a segment of at most 512 bytes has too few marks to pass a limit. Most that are looked at have much text and few marks.
 pub(crate) fn is_small(p: &[u8]) -> bool
-    ensures { λ r. ⌜ r ≡ both (leb (length (now (p .entry))) 512) (leb (marksIn (now (p .entry))) 31) ⌝ }
+    requires { ⌜ length (now p) ≤ 512 ⌝ }
+    ensures { λ r. ⌜ r ≡ leb (marksIn (now (p .entry))) 31 ⌝ }
 {
-    if 512 < p.len() {
-        return false;
-    }
     if has_text(p) {
         return true;
     }
