@@ -14,7 +14,7 @@ use Rattle.laws.specs.Choice.{pick, both, all, choose}
 use Rattle.laws.specs.Lists.{drop-here, drop-past}
 use Rattle.syntax.specs.Bytes.{permittedOf}
 use Rattle.syntax.specs.Pieces.{firstPiece}
-use Rattle.syntax.specs.Passed.{goes, Goes, goes-fine, runOf}
+use Rattle.syntax.specs.Passed.{goes, common, Goes, goes-fine, common-fine, runOf}
 
 -- the index past the body g that begins at index i, where g is ended in an input of n bytes and all its bytes are permitted; else n
 unfoldable pub foundEnd : ℕ → ℕ → List ℕ → ℕ
@@ -73,6 +73,9 @@ run f fine n (suc k) (b ∷ l) i h =
 
 pub end-run : (s : List ℕ) (i k : ℕ) → k ≤ runOf goes (drop i s) → endFrom s i ≡ endFrom s (i + k)
 end-run s i k h = run goes goes-fine (length s) k (drop i s) i h ∙ rw drop-drop
+
+pub end-common : (s : List ℕ) (i k : ℕ) → k ≤ runOf common (drop i s) → endFrom s i ≡ endFrom s (i + k)
+end-common s i k h = run common common-fine (length s) k (drop i s) i h ∙ rw drop-drop
 
 -- the steps at an index of the input
 pub end-past : (s : List ℕ) (j : ℕ) → length s ≤ j → endFrom s j ≡ length s

@@ -10,7 +10,7 @@ use lib.Dec.{leb, ltb, eqb, eqb→eq, lit≤}
 use lib.Bits.{bitAnd, bitXor, and-le-r, or-lt, xor-lt, or-disjoint}
 use lib.Count.{trailingZeros, trailing-of-zero}
 use lib.ListN.{length, drop}
-use borrow.Author.Tests.{lt-leb, not-true, ltb-true, eq-eqb}
+use borrow.Author.Tests.{lt-leb, not-true, ltb-true, eq-eqb, ne-eqb}
 use Rattle.laws.specs.Choice.{pick, both, either, choose, both-parts, both-false, false≢true}
 use Rattle.laws.specs.Sweep.{at, agree}
 use Rattle.laws.specs.Words.{wordBy, wordOf, Every, none, one, Byte, word-same, add-word, and-word, xor-word}
@@ -22,6 +22,10 @@ use Rattle.syntax.specs.Zeros.{digitsOf, zeros-pass, zeros-stop}
 unfoldable pub goes : ℕ → Bool
 goes b = either (both (leb 40 b) (leb b 58)) (either (both (leb 65 b) (leb b 90)) (both (leb 97 b) (leb b 122)))
 
+-- those, and the space
+unfoldable pub common : ℕ → Bool
+common b = either (goes b) (eqb b 32)
+
 -- all of them are permitted, and none is the terminator or the release character
 fine : ℕ → Bool
 fine b = both (permittedOf b) (both (not (eqb b 39)) (not (eqb b 63)))
@@ -31,21 +35,22 @@ pub record Goes (b : ℕ) : Type 0 where
   pub quote : eqb b 39 ≡ false
   pub question : eqb b 63 ≡ false
 
-pub goes-fine : (b : ℕ) → goes b ≡ true → Goes b
-unfolding goes fine permittedOf
-goes-fine b q =
+pub common-fine : (b : ℕ) → common b ≡ true → Goes b
+unfolding common goes fine permittedOf
+common-fine b q =
     elim (decLt b 123) [
       | yes h ↦
-          let w = both-parts (goes b) (fine b) (agree (λ b. both (goes b) (fine b)) goes 123 tt b h ∙ q) .1 in
+          let w = both-parts (common b) (fine b) (agree (λ b. both (common b) (fine b)) common 123 tt b h ∙ q) .1 in
           let x = both-parts (permittedOf b) (both (not (eqb b 39)) (not (eqb b 63))) w in
           let y = both-parts (not (eqb b 39)) (not (eqb b 63)) (x .1) in
           record { permitted = x .0; quote = not-true _ (y .0); question = not-true _ (y .1) }
-      | no h ↦ absurd (false≢true (sym (simp (lt-leb b 58 (omega arith), lt-leb b 90 (omega arith), lt-leb b 122 (omega arith), both-false)) ∙ q))
+      | no h ↦
+          absurd (false≢true (sym (simp (lt-leb b 58 (omega arith), lt-leb b 90 (omega arith), lt-leb b 122 (omega arith), ne-eqb b 32 (λ e. omega arith), both-false)) ∙ q))
     ]
 
--- those, and the space
-unfoldable pub common : ℕ → Bool
-common b = either (goes b) (eqb b 32)
+pub goes-fine : (b : ℕ) → goes b ≡ true → Goes b
+unfolding common
+goes-fine b q = common-fine b (rw q)
 
 -- how many bytes of a kind a list begins with
 unfoldable pub runOf : (ℕ → Bool) → List ℕ → ℕ

@@ -41,7 +41,7 @@ const SPACES: u64 = 0x2020_2020_2020_2020;
 const LOWEST: u64 = 0x7f7f_7f7f_7f7f_7f7f;
 
 // The highest digit of each of eight bytes below 128, set where the byte is passed over: it is one from `(` to `:`, or a letter. The other
-// permitted bytes, as the space, are too few to be worth telling apart here, and are passed one by one.
+// permitted bytes are too few to be worth telling apart here.
 fn passes_in(x: u64) -> u64
     requires { ⌜ x ≤ 9187201950435737471 ⌝ }
     ensures { λ r. ⌜ r ≡ passesOf eightTimes x ⌝ }
@@ -80,6 +80,29 @@ pub(crate) fn run_end(s: &[u8], from: usize) -> usize
     i
 }
 
+// The same, past the space as well, which costs a little more for eight bytes.
+fn common_end(s: &[u8], from: usize) -> usize
+    ensures { λ r. ⌜ (from ≤ r) × (endFrom (now (s .entry)) r ≡ endFrom (now (s .entry)) from) ⌝ }
+{
+    if s.len() < 8 {
+        return from;
+    }
+    let last = s.len() - 8;
+    let mut i = from;
+    while i <= last {
+        let x = eight_at(s, i);
+        if x & HIGHEST != 0 {
+            return i;
+        }
+        let stops = stops_in(x);
+        if stops != 0 {
+            return i + (u64::trailing_zeros(stops) / 8) as usize;
+        }
+        i += 8;
+    }
+    i
+}
+
 // Past a byte that is no terminator: a release with those that follow it at once, or one byte. The input's length where a byte is not permitted.
 fn past_byte(s: &[u8], j: usize) -> usize
     requires { ⌜ (j < length (now s)) × (getD (now s) j 0 ≡ 39 → ⊥) ⌝ }
@@ -105,12 +128,16 @@ fn past_byte(s: &[u8], j: usize) -> usize
 pub fn find_end(s: &[u8], from: usize) -> usize
     ensures { λ r. ⌜ r ≡ endFrom (now (s .entry)) from ⌝ }
 {
-    let mut j = from;
-    while j < s.len() {
+    let mut i = from;
+    while i < s.len() {
+        let j = common_end(s, i);
+        if s.len() <= j {
+            return s.len();
+        }
         if s[j] == b'\'' {
             return j;
         }
-        j = run_end(s, past_byte(s, j));
+        i = past_byte(s, j);
     }
     s.len()
 }
