@@ -1,7 +1,7 @@
 -- The end of a segment by a scan that counts no parts.
 -- Assumes nothing.
 use mathlib.Core.Path.{_≡_, refl, _∙_}
-use mathlib.Core.Bool.{true, false}
+use mathlib.Core.Bool.{Bool, true, false}
 use mathlib.Core.List.{List, [], _∷_}
 use Prim.Native.Nat.{ℕ, zero, suc, _+_, _-_, _≤_, _<_}
 use native.Mathlib.Omega.{arith}
@@ -14,7 +14,7 @@ use Rattle.laws.specs.Choice.{pick, both, all, choose}
 use Rattle.laws.specs.Lists.{drop-here, drop-past}
 use Rattle.syntax.specs.Bytes.{permittedOf}
 use Rattle.syntax.specs.Pieces.{firstPiece}
-use Rattle.syntax.specs.Passed.{goes, goes-fine, passRun}
+use Rattle.syntax.specs.Passed.{goes, common, Goes, goes-fine, common-fine, runOf}
 
 -- the index past the body g that begins at index i, where g is ended in an input of n bytes and all its bytes are permitted; else n
 unfoldable pub foundEnd : ℕ → ℕ → List ℕ → ℕ
@@ -58,20 +58,24 @@ end-on n i b l f p q = rw (first-other b l p q) (end-byte n i b (firstPiece 39 f
 pub goes-on : (n i b : ℕ) (l : List ℕ) → goes b ≡ true → foundEnd n i (firstPiece 39 false (b ∷ l)) ≡ foundEnd n (i + 1) (firstPiece 39 false l)
 goes-on n i b l q = let g = goes-fine b q in end-on n i b l (g .permitted) (g .quote) (g .question)
 
-run : (n k : ℕ) (l : List ℕ) (i : ℕ) → k ≤ passRun l → foundEnd n i (firstPiece 39 false l) ≡ foundEnd n (i + k) (firstPiece 39 false (drop k l))
-unfolding passRun
-run n zero l i h = simp add-zero
-run n (suc k) [] i h = absurd (omega arith)
-run n (suc k) (b ∷ l) i h =
-    choose (goes b)
+run : (f : ℕ → Bool) → ((b : ℕ) → f b ≡ true → Goes b) → (n k : ℕ) (l : List ℕ) (i : ℕ) → k ≤ runOf f l → foundEnd n i (firstPiece 39 false l) ≡ foundEnd n (i + k) (firstPiece 39 false (drop k l))
+unfolding runOf
+run f fine n zero l i h = simp add-zero
+run f fine n (suc k) [] i h = absurd (omega arith)
+run f fine n (suc k) (b ∷ l) i h =
+    choose (f b)
     (λ q.
     let e : i + suc k ≡ i + 1 + k = omega arith in
+    let w = fine b q in
     let g = rw q at h in
-    goes-on n i b l q ∙ run n k l (i + 1) (omega arith) ∙ rw e)
+    end-on n i b l (w .permitted) (w .quote) (w .question) ∙ run f fine n k l (i + 1) (omega arith) ∙ rw e)
     (λ q. let g = rw q at h in absurd (omega arith))
 
-pub end-run : (s : List ℕ) (i k : ℕ) → k ≤ passRun (drop i s) → endFrom s i ≡ endFrom s (i + k)
-end-run s i k h = run (length s) k (drop i s) i h ∙ rw drop-drop
+pub end-run : (s : List ℕ) (i k : ℕ) → k ≤ runOf goes (drop i s) → endFrom s i ≡ endFrom s (i + k)
+end-run s i k h = run goes goes-fine (length s) k (drop i s) i h ∙ rw drop-drop
+
+pub end-common : (s : List ℕ) (i k : ℕ) → k ≤ runOf common (drop i s) → endFrom s i ≡ endFrom s (i + k)
+end-common s i k h = run common common-fine (length s) k (drop i s) i h ∙ rw drop-drop
 
 -- the steps at an index of the input
 pub end-past : (s : List ℕ) (j : ℕ) → length s ≤ j → endFrom s j ≡ length s

@@ -14,9 +14,11 @@ pub mod Ends
 pub mod Zeros
 pub mod Passed
 pub mod Texts
+pub mod Plain
 pub mod Found
 pub mod Ran
 pub mod Released
 pub mod Few
 pub mod Whole
+pub mod Near
 pub mod Quick

@@ -3,17 +3,17 @@
 use mathlib.Core.Path.{_≡_, refl, sym, ap, _∙_}
 use mathlib.Core.Bool.{Bool, true, false, not}
 use mathlib.Core.List.{List, [], _∷_, _++_}
-use Prim.Native.Nat.{ℕ, suc, _+_, _*_, _/_, _≤_, _<_}
+use Prim.Native.Nat.{ℕ, suc, _+_, _*_, _/_, _^_, _≤_, _<_}
 use native.Mathlib.Omega.{arith}
 use native.Mathlib.Decide.{decLt}
-use lib.Dec.{leb, eqb, eqb→eq, lit≤}
-use lib.Bits.{bitAnd, bitXor, and-le-r, xor-lt, xor-self}
+use lib.Dec.{leb, eqb, eqb→eq}
+use lib.Bits.{bitAnd, bitOr, bitXor, and-le-r, or-lt, xor-lt}
 use lib.Count.{trailingZeros, trailing-of-zero}
 use lib.ListN.{length, drop}
-use borrow.Author.Tests.{lt-leb, not-true}
+use borrow.Author.Tests.{lt-leb, not-true, ne-eqb}
 use Rattle.laws.specs.Choice.{pick, both, either, choose, both-parts, both-false, false≢true}
 use Rattle.laws.specs.Sweep.{at, agree}
-use Rattle.laws.specs.Words.{wordBy, wordOf, Every, Byte, word-same, add-word, and-word, xor-word, xor-zero}
+use Rattle.laws.specs.Words.{wordBy, wordOf, Every, Byte, word-same, add-word, and-word, or-word, xor-word}
 use Rattle.laws.specs.Eight.{eightAt, Word, drop-eight}
 use Rattle.syntax.specs.Bytes.{permittedOf}
 use Rattle.syntax.specs.Zeros.{digitsOf, zeros-pass, zeros-stop}
@@ -21,6 +21,10 @@ use Rattle.syntax.specs.Zeros.{digitsOf, zeros-pass, zeros-stop}
 -- the bytes that are passed over: those from `(` to `:`, and the letters
 unfoldable pub goes : ℕ → Bool
 goes b = either (both (leb 40 b) (leb b 58)) (either (both (leb 65 b) (leb b 90)) (both (leb 97 b) (leb b 122)))
+
+-- those, and the space
+unfoldable pub common : ℕ → Bool
+common b = either (goes b) (eqb b 32)
 
 -- all of them are permitted, and none is the terminator or the release character
 fine : ℕ → Bool
@@ -31,27 +35,27 @@ pub record Goes (b : ℕ) : Type 0 where
   pub quote : eqb b 39 ≡ false
   pub question : eqb b 63 ≡ false
 
-pub goes-fine : (b : ℕ) → goes b ≡ true → Goes b
-unfolding goes fine permittedOf
-goes-fine b q =
+pub common-fine : (b : ℕ) → common b ≡ true → Goes b
+unfolding common goes fine permittedOf
+common-fine b q =
     elim (decLt b 123) [
       | yes h ↦
-          let w = both-parts (goes b) (fine b) (agree (λ b. both (goes b) (fine b)) goes 123 tt b h ∙ q) .1 in
+          let w = both-parts (common b) (fine b) (agree (λ b. both (common b) (fine b)) common 123 tt b h ∙ q) .1 in
           let x = both-parts (permittedOf b) (both (not (eqb b 39)) (not (eqb b 63))) w in
           let y = both-parts (not (eqb b 39)) (not (eqb b 63)) (x .1) in
           record { permitted = x .0; quote = not-true _ (y .0); question = not-true _ (y .1) }
-      | no h ↦ absurd (false≢true (sym (simp (lt-leb b 58 (omega arith), lt-leb b 90 (omega arith), lt-leb b 122 (omega arith), both-false)) ∙ q))
+      | no h ↦
+          absurd (false≢true (sym (simp (lt-leb b 58 (omega arith), lt-leb b 90 (omega arith), lt-leb b 122 (omega arith), ne-eqb b 32 (λ e. omega arith), both-false)) ∙ q))
     ]
 
--- how many such bytes a list begins with
-unfoldable pub passRun : List ℕ → ℕ
-passRun [] = 0
-passRun (b ∷ l) = pick (goes b) (suc (passRun l)) 0
+pub goes-fine : (b : ℕ) → goes b ≡ true → Goes b
+unfolding common
+goes-fine b q = common-fine b (rw q)
 
-run-more : (l m : List ℕ) → passRun l ≤ passRun (l ++ m)
-unfolding passRun
-run-more [] m = omega arith
-run-more (b ∷ l) m = choose (goes b) (λ p. let h = run-more l m in rw p (omega arith)) (λ p. rw p (omega arith))
+-- how many bytes of a kind a list begins with
+unfoldable pub runOf : (ℕ → Bool) → List ℕ → ℕ
+runOf f [] = 0
+runOf f (b ∷ l) = pick (f b) (suc (runOf f l)) 0
 
 -- The highest digit of a byte, set where it is passed over. In each row of 32 bytes those that are passed over stand from 1 to 26, so that
 -- with five added the five lowest digits are 6 or more for them alone; a sum with 122 has its highest digit set from 6 on, and one with 88 from
@@ -72,9 +76,25 @@ stop-byte : (b : ℕ) → Byte b → bitXor (passesOf (λ n. n) b) 128 ≡ pick 
 unfolding same passesOf goes
 stop-byte b h = eqb→eq _ _ (at same 256 tt b h)
 
+-- The highest digit of a byte, set where it is not passed over and is not the space: of the seven lowest without the digits of 32 only the space's are 0,
+-- and a sum with 127 has its highest digit set from 1 on.
+unfoldable pub stopsOf : (ℕ → ℕ) → ℕ → ℕ
+stopsOf each x = bitAnd (bitXor (passesOf each x) (each 128)) (bitOr (bitXor (bitAnd x (each 127)) (each 32) + each 127) x)
+
+same-common : ℕ → Bool
+same-common b = eqb (bitAnd (pick (goes b) 0 128) (bitOr (bitXor (bitAnd b 127) 32 + 127) b)) (pick (common b) 0 128)
+
+common-byte : (b : ℕ) → Byte b → bitAnd (pick (goes b) 0 128) (bitOr (bitXor (bitAnd b 127) 32 + 127) b) ≡ pick (common b) 0 128
+unfolding same-common common goes
+common-byte b h = eqb→eq _ _ (at same-common 256 tt b h)
+
+pub stop-below : (p : Bool) → Byte (pick p 0 128)
+stop-below true = omega arith
+stop-below false = omega arith
+
 -- what each step makes of a byte is one
-low : (b : ℕ) → bitAnd b 127 ≤ 127
-low b = and-le-r b 127
+low : (b : ℕ) → bitAnd b 127 < 2 ^ 7
+low b = let k = and-le-r b 127 in omega arith
 
 five : (b : ℕ) → Byte b → Byte (bitAnd b 127 + 5)
 five b h = let k = low b in omega arith
@@ -86,12 +106,12 @@ six : (b : ℕ) → Byte b → Byte (bitAnd (bitAnd b 127 + 5) 31 + 122)
 six b h = let k = and-le-r (bitAnd b 127 + 5) 31 in omega arith
 
 other : (b : ℕ) → Byte b → Byte (bitXor b 128)
-other b h = xor-lt 8 b 128 h (lit≤ tt)
+other b h = xor-lt 8 b 128 h (omega arith)
 
 both-below : (b : ℕ) → Byte b → Byte (bitAnd (bitAnd (bitAnd b 127 + 5) 31 + 122) (bitAnd b 127 + 88))
 both-below b h =
     let k = and-le-r (bitAnd (bitAnd b 127 + 5) 31 + 122) (bitAnd b 127 + 88) in
-    let g = low b in
+    let g = forty b h in
     omega arith
 
 three-below : (b : ℕ) → Byte b → Byte (bitAnd (bitAnd (bitAnd (bitAnd b 127 + 5) 31 + 122) (bitAnd b 127 + 88)) (bitXor b 128))
@@ -103,6 +123,12 @@ three-below b h =
 passes-below : (b : ℕ) → Byte b → Byte (passesOf (λ n. n) b)
 unfolding passesOf
 passes-below b h = let k = and-le-r (bitAnd (bitAnd (bitAnd (bitAnd b 127 + 5) 31 + 122) (bitAnd b 127 + 88)) (bitXor b 128)) 128 in omega arith
+
+spaced : (b : ℕ) → Byte b → Byte (bitXor (bitAnd b 127) 32 + 127)
+spaced b h = let k = xor-lt 7 (bitAnd b 127) 32 (low b) (omega arith) in omega arith
+
+spaced-below : (b : ℕ) → Byte b → Byte (bitOr (bitXor (bitAnd b 127) 32 + 127) b)
+spaced-below b h = or-lt 8 (bitXor (bitAnd b 127) 32 + 127) b (spaced b h) h
 
 -- each byte of a word by itself
 stops-bytes : {l : List ℕ} → Every Byte l → bitXor (passesOf (λ m. wordBy (λ _. m) l) (wordOf l)) (wordBy (λ _. 128) l) ≡ wordBy (λ b. pick (goes b) 0 128) l
@@ -122,54 +148,72 @@ stops-bytes {l} r =
     )
     (word-same (λ b. bitXor (passesOf (λ n. n) b) 128) (λ b. pick (goes b) 0 128) stop-byte r)
 
+common-bytes : {l : List ℕ} → Every Byte l → stopsOf (λ m. wordBy (λ _. m) l) (wordOf l) ≡ wordBy (λ b. pick (common b) 0 128) l
+unfolding stopsOf
+common-bytes {l} r =
+    rw (
+      stops-bytes r,
+      and-word (λ b. b) (λ _. 127) (λ b h. h) (λ b h. omega arith) r,
+      xor-word (λ b. bitAnd b 127) (λ _. 32) (λ b h. let k = low b in omega arith) (λ b h. omega arith) r,
+      add-word (λ b. bitXor (bitAnd b 127) 32) (λ _. 127) l,
+      or-word (λ b. bitXor (bitAnd b 127) 32 + 127) (λ b. b) spaced (λ b h. h) r,
+      and-word (λ b. pick (goes b) 0 128) (λ b. bitOr (bitXor (bitAnd b 127) 32 + 127) b) (λ b h. stop-below (goes b)) spaced-below r,
+    )
+    (word-same (λ b. bitAnd (pick (goes b) 0 128) (bitOr (bitXor (bitAnd b 127) 32 + 127) b)) (λ b. pick (common b) 0 128) common-byte r)
+
 -- the zeros below the first stop tell of a run that it has at least
-lead : (l : List ℕ) → trailingZeros (digitsOf l) (wordBy (λ b. pick (goes b) 0 128) l) ≤ 8 * passRun l + 7
-unfolding passRun wordBy trailingZeros
-lead [] = omega arith
-lead (b ∷ l) =
-    let w = wordBy (λ b. pick (goes b) 0 128) l in
-    choose (goes b)
-    (λ p. let z = zeros-pass (digitsOf l) w in let h = lead l in rw p (omega arith))
-    (λ p. let z = zeros-stop (digitsOf l) w in rw p (omega arith))
+module _ (f : ℕ → Bool) where
+  run-more : (l m : List ℕ) → runOf f l ≤ runOf f (l ++ m)
+  unfolding runOf
+  run-more [] m = omega arith
+  run-more (b ∷ l) m = choose (f b) (λ p. let h = run-more l m in rw p (omega arith)) (λ p. rw p (omega arith))
 
--- and where one of the bytes stops, that many are not all the digits there are
-lead-less : (l : List ℕ) → (wordBy (λ b. pick (goes b) 0 128) l ≡ 0 → ⊥) → trailingZeros (digitsOf l) (wordBy (λ b. pick (goes b) 0 128) l) < digitsOf l
-unfolding wordBy trailingZeros
-lead-less [] n = absurd (n refl)
-lead-less (b ∷ l) n =
-    let w = wordBy (λ b. pick (goes b) 0 128) l in
-    choose (goes b)
-    (λ p. let z = zeros-pass (digitsOf l) w in let h = lead-less l (λ e. n (rw p (omega arith))) in rw p (omega arith))
-    (λ p. let z = zeros-stop (digitsOf l) w in rw p (omega arith))
+  lead : (l : List ℕ) → trailingZeros (digitsOf l) (wordBy (λ b. pick (f b) 0 128) l) ≤ 8 * runOf f l + 7
+  unfolding runOf wordBy trailingZeros
+  lead [] = omega arith
+  lead (b ∷ l) =
+      let w = wordBy (λ b. pick (f b) 0 128) l in
+      choose (f b)
+      (λ p. let z = zeros-pass (digitsOf l) w in let h = lead l in rw p (omega arith))
+      (λ p. let z = zeros-stop (digitsOf l) w in rw p (omega arith))
 
-module _ (s : List ℕ) (i x : ℕ) (h : i + 8 ≤ length s) (w : Word s i x) where
-  stops-word : bitXor (passesOf eightTimes x) 9259542123273814144 ≡ wordBy (λ b. pick (goes b) 0 128) (eightAt s i)
-  unfolding wordBy passesOf
-  stops-word = ap (λ (x : ℕ). bitXor (passesOf eightTimes x) 9259542123273814144) (w .is) ∙ stops-bytes (w .bytes)
+  -- and where one of the bytes stops, not all digits are zeros
+  lead-less : (l : List ℕ) → (wordBy (λ b. pick (f b) 0 128) l ≡ 0 → ⊥) → trailingZeros (digitsOf l) (wordBy (λ b. pick (f b) 0 128) l) < digitsOf l
+  unfolding wordBy trailingZeros
+  lead-less [] n = absurd (n refl)
+  lead-less (b ∷ l) n =
+      let w = wordBy (λ b. pick (f b) 0 128) l in
+      choose (f b)
+      (λ p. let z = zeros-pass (digitsOf l) w in let h = lead-less l (λ e. n (rw p (omega arith))) in rw p (omega arith))
+      (λ p. let z = zeros-stop (digitsOf l) w in rw p (omega arith))
 
-  module _ (y : ℕ) (e : y ≡ passesOf eightTimes x) where
-    abbrev zeros : ℕ
-    zeros = trailingZeros 64 (bitXor y 9259542123273814144)
+  module _ (s : List ℕ) (i y : ℕ) (h : i + 8 ≤ length s) (e : y ≡ wordBy (λ b. pick (f b) 0 128) (eightAt s i)) where
+    pub eight-inside : (y ≡ 0 → ⊥) → trailingZeros 64 y < 64
+    eight-inside n =
+        let d = ap (trailingZeros 64) e in
+        let a = lead-less (eightAt s i) (λ z. n (e ∙ z)) in
+        omega arith
 
-    told : zeros ≡ trailingZeros 64 (wordBy (λ b. pick (goes b) 0 128) (eightAt s i))
-    told = ap (λ (y : ℕ). trailingZeros 64 (bitXor y 9259542123273814144)) e ∙ ap (trailingZeros 64) stops-word
-
-    pub eight-lead : zeros / 8 ≤ passRun (drop i s)
+    pub eight-lead : trailingZeros 64 y / 8 ≤ runOf f (drop i s)
     eight-lead =
         let a = lead (eightAt s i) in
         let b = run-more (eightAt s i) (drop (i + 8) s) in
-        let c = ap passRun (drop-eight s i h) in
-        let d = told in
+        let c = ap (runOf f) (drop-eight s i h) in
+        let d = ap (trailingZeros 64) e in
         omega arith
 
-    pub eight-inside : (y ≡ 9259542123273814144 → ⊥) → zeros < 64
-    eight-inside n =
-        let d = told in
-        let a = lead-less (eightAt s i) (λ z. n (xor-zero y 9259542123273814144 (ap (λ (y : ℕ). bitXor y 9259542123273814144) e ∙ stops-word ∙ z))) in
-        omega arith
-
-    pub eight-clear : y ≡ 9259542123273814144 → 8 ≤ passRun (drop i s)
+    pub eight-clear : y ≡ 0 → 8 ≤ runOf f (drop i s)
     eight-clear z =
         let a = eight-lead in
-        let b = ap (λ (y : ℕ). trailingZeros 64 (bitXor y 9259542123273814144)) z ∙ ap (trailingZeros 64) (xor-self 9259542123273814144) ∙ trailing-of-zero 64 in
+        let b = ap (trailingZeros 64) z ∙ trailing-of-zero 64 in
         omega arith
+
+-- what stops among eight bytes
+module _ (s : List ℕ) (i x : ℕ) (w : Word s i x) where
+  pub passes-word : (y : ℕ) → y ≡ passesOf eightTimes x → bitXor y 9259542123273814144 ≡ wordBy (λ b. pick (goes b) 0 128) (eightAt s i)
+  unfolding wordBy passesOf
+  passes-word y e = ap (λ (y : ℕ). bitXor y 9259542123273814144) (e ∙ ap (passesOf eightTimes) (w .is)) ∙ stops-bytes (w .bytes)
+
+  pub common-word : (y : ℕ) → y ≡ stopsOf eightTimes x → y ≡ wordBy (λ b. pick (common b) 0 128) (eightAt s i)
+  unfolding wordBy passesOf stopsOf
+  common-word y e = e ∙ ap (stopsOf eightTimes) (w .is) ∙ common-bytes (w .bytes)

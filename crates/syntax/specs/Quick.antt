@@ -10,7 +10,7 @@ use borrow.Author.Tests.{leb-true, le-leb, lt-leb, lt-ltb, le-ltb, ltb-true}
 use lib.Bits.{bitOr, bitXor, or-add-and, and-le-l, and-le-r}
 use lib.ListN.{length, drop, getD}
 use Rattle.laws.specs.Choice.{pick, both, either, choose, false≢true}
-use Rattle.laws.specs.Lists.{between}
+use Rattle.laws.specs.Lists.{between, length-between}
 use Rattle.laws.specs.Words.{xor-zero}
 use Rattle.syntax.specs.declared.segment.Scanned.the-variants.{End}
 use Rattle.syntax.specs.declared.segment.Quick.{Quick}
@@ -76,9 +76,20 @@ module _ (s : List ℕ) (at e : ℕ) (f : e ≡ endFrom s (at + 4)) where
   unfolding isFew
   quick-short h = rw (le-leb (e - at) 34 h) at by-few
 
-  pub quick-small : (b : Bool) → b ≡ both (leb (length (between s at e)) 512) (leb (marksIn (between s at e)) 31) → 34 < e - at → pick b e (length s) ≡ quickEnd s at
+  long : length (between s at e) ≡ e - at
+  long = let m = end-most s (at + 4) in length-between s at e (omega arith)
+
+  pub quick-small : (b : Bool) → b ≡ leb (marksIn (between s at e)) 31 → 34 < e - at → e - at ≤ 512 → pick b e (length s) ≡ quickEnd s at
   unfolding isFew
-  quick-small b q h = ap (λ (x : Bool). pick x e (length s)) q ∙ (rw (lt-leb (e - at) 34 h) at by-few)
+  quick-small b q h k =
+      let l = long in
+      ap (λ (x : Bool). pick x e (length s)) q ∙ (rw (lt-leb (e - at) 34 h, le-leb (length (between s at e)) 512 (omega arith)) at by-few)
+
+  pub quick-far : 512 < e - at → length s ≡ quickEnd s at
+  unfolding isFew
+  quick-far h =
+      let l = long in
+      rw (lt-leb (e - at) 34 (omega arith), lt-leb (length (between s at e)) 512 (omega arith)) at by-few
 
 -- three capital letters and `+` are a tag
 pub tag-plus : (s : List ℕ) (at : ℕ) → at + 4 ≤ length s → capital (getD s at 0) ≡ true → capital (getD s (at + 1) 0) ≡ true → capital (getD s (at + 2) 0) ≡ true
@@ -92,6 +103,15 @@ endIn Unsure = 0
 isSure : Quick → Bool
 isSure (Ends e) = true
 isSure Unsure = false
+
+-- what is told is one of the two
+pub ends-same : {e f : ℕ} → Ends e ≡ Ends f → e ≡ f
+unfolding endIn
+ends-same q = ap endIn q
+
+pub ends-sure : {e : ℕ} → Unsure ≡ Ends e → ⊥
+unfolding isSure
+ends-sure q = false≢true (ap isSure q)
 
 -- and the segment that they begin is whole where its end is found so
 module _ (s : List ℕ) (at : ℕ) (q : tagAhead (drop at s) ≡ true) where
@@ -109,8 +129,8 @@ module _ (s : List ℕ) (at : ℕ) (q : tagAhead (drop at s) ≡ true) where
       (λ p. let g = rw p at h in absurd (omega arith))
 
   pub quick-segment : (e : ℕ) → getD s (at + 3) 0 ≡ 43 → quickOf s at ≡ Ends e → segmentAt s at ≡ End e
-  unfolding quickOf endIn isSure
+  unfolding quickOf
   quick-segment e d h =
       choose (ltb (quickEnd s at) (length s))
-      (λ p. quick-whole d (ltb-true (quickEnd s at) (length s) p) ∙ ap End (ap endIn (rw p at h)))
-      (λ p. absurd (false≢true (ap isSure (rw p at h))))
+      (λ p. quick-whole d (ltb-true (quickEnd s at) (length s) p) ∙ ap End (ends-same (rw p at h)))
+      (λ p. absurd (ends-sure (rw p at h)))

@@ -1,9 +1,9 @@
 -- Bytes that are no mark, counted eight at a time.
 -- Assumes nothing.
-use mathlib.Core.Path.{_≡_, refl, sym, ap, _∙_}
+use mathlib.Core.Path.{_≡_, refl, sym, ap, subst, _∙_}
 use mathlib.Core.Bool.{Bool}
 use mathlib.Core.List.{List, [], _∷_, _++_}
-use Prim.Native.Nat.{ℕ, _+_, _*_, _/_, _^_, _≤_, _<_}
+use Prim.Native.Nat.{ℕ, _+_, _*_, _/_, _%_, _^_, _≤_, _<_}
 use native.Mathlib.Omega.{arith}
 use native.Mathlib.Nat.{zero-add}
 use lib.Dec.{eqb, leb, eqb→eq, leb→le}
@@ -70,40 +70,100 @@ unfolding wordBy
 times-word f [] = refl
 times-word f (b ∷ l) = let h = times-word f l in omega arith
 
--- a number less a multiple of 255 is the sum of its bytes
-over : List ℕ → ℕ
-over [] = 0
-over (b ∷ l) = wordBy textUnit l + over l
+-- a number of eight bytes, each at most n, that come to t
+pub record Bytes (n t x : ℕ) : Type 0 where
+  pub a : ℕ
+  pub b : ℕ
+  pub c : ℕ
+  pub d : ℕ
+  pub e : ℕ
+  pub f : ℕ
+  pub g : ℕ
+  pub h : ℕ
+  pub is : x ≡ a + b * 256 + c * 65536 + d * 16777216 + (e + f * 256 + g * 65536 + h * 16777216) * 4294967296
+  pub low : (a ≤ n) × (b ≤ n) × (c ≤ n) × (d ≤ n)
+  pub high : (e ≤ n) × (f ≤ n) × (g ≤ n) × (h ≤ n)
+  pub sum : a + b + c + d + (e + f + g + h) ≡ t
 
-word-sum : (l : List ℕ) → wordBy textUnit l ≡ 255 * over l + textsIn l
-unfolding wordBy over textsIn
-word-sum [] = refl
-word-sum (b ∷ l) = let h = word-sum l in omega arith
+bytes-both : {n t x m u y : ℕ} → Bytes n t x → Bytes m u y → Bytes (n + m) (t + u) (x + y)
+bytes-both p q =
+    record {
+      a = p .a + q .a;
+      b = p .b + q .b;
+      c = p .c + q .c;
+      d = p .d + q .d;
+      e = p .e + q .e;
+      f = p .f + q .f;
+      g = p .g + q .g;
+      h = p .h + q .h;
+      is = omega (arith, p .is, q .is);
+      low = (omega (arith, p .low .0, q .low .0), omega (arith, p .low .1, q .low .1), omega (arith, p .low .2, q .low .2), omega (arith, p .low .3, q .low .3));
+      high = (omega (arith, p .high .0, q .high .0), omega (arith, p .high .1, q .high .1), omega (arith, p .high .2, q .high .2), omega (arith, p .high .3, q .high .3));
+      sum = omega (arith, p .sum, q .sum);
+    }
+
+-- they are added up in halves, then by one product, of which the fourth byte has them all
+abbrev pub halves : ℕ → ℕ
+halves x = (x + x / 4294967296) % 4294967296
+
+halves-sum : (x l k : ℕ) → x ≡ l + k * 4294967296 → l + k < 4294967296 → halves x ≡ l + k
+halves-sum x l k e h =
+    let q : x / 4294967296 ≡ k = omega arith in
+    rw q (omega arith)
+
+fourth : (x u v w : ℕ) → x ≡ u * 4294967296 + v * 16777216 + w → v < 256 → w < 16777216 → x / 16777216 % 256 ≡ v
+fourth x u v w e h k =
+    let q : x / 16777216 ≡ u * 256 + v = omega arith in
+    rw q (omega arith)
+
+four-sum : (y a b c d : ℕ) → y ≡ a + b * 256 + c * 65536 + d * 16777216 → a ≤ 62 → b ≤ 62 → c ≤ 62 → d ≤ 62 → y * 16843009 / 16777216 % 256 ≡ a + b + c + d
+four-sum y a b c d e ha hb hc hd =
+    fourth (y * 16843009) (b + c + d + (c + d) * 256 + d * 65536) (a + b + c + d) (a + (a + b) * 256 + (a + b + c) * 65536) (omega arith) (omega arith) (omega arith)
+
+bytes-sum : (n t x : ℕ) → Bytes n t x → n ≤ 31 → halves x * 16843009 / 16777216 % 256 ≡ t
+bytes-sum n t x p h =
+    let l = p .low in
+    let k = p .high in
+    let y = halves-sum x (p .a + p .b * 256 + p .c * 65536 + p .d * 16777216) (p .e + p .f * 256 + p .g * 65536 + p .h * 16777216) (p .is)
+    (omega (arith, h, l .0, l .1, l .2, l .3, k .0, k .1, k .2, k .3)) in
+    four-sum (halves x) (p .a + p .e) (p .b + p .f) (p .c + p .g) (p .d + p .h) (omega (arith, y))
+    (omega (arith, h, l .0, k .0)) (omega (arith, h, l .1, k .1)) (omega (arith, h, l .2, k .2)) (omega (arith, h, l .3, k .3))
+    ∙ omega (arith, p .sum)
+
+unit-low : {b : ℕ} → Byte b → textUnit b ≤ 1
+unit-low {b} k = omega (arith, told-byte b k .1)
+
+texts-eight : {a b c d e f g h : ℕ} → Every Byte (a ∷ b ∷ c ∷ d ∷ e ∷ f ∷ g ∷ h ∷ [])
+    → Bytes 1 (textsIn (a ∷ b ∷ c ∷ d ∷ e ∷ f ∷ g ∷ h ∷ [])) (wordBy textUnit (a ∷ b ∷ c ∷ d ∷ e ∷ f ∷ g ∷ h ∷ []))
+unfolding wordBy textsIn
+texts-eight {a} {b} {c} {d} {e} {f} {g} {h} (one ka (one kb (one kc (one kd (one ke (one kf (one kg (one kh none)))))))) =
+    record {
+      a = textUnit a;
+      b = textUnit b;
+      c = textUnit c;
+      d = textUnit d;
+      e = textUnit e;
+      f = textUnit f;
+      g = textUnit g;
+      h = textUnit h;
+      is = omega arith;
+      low = (unit-low ka, unit-low kb, unit-low kc, unit-low kd);
+      high = (unit-low ke, unit-low kf, unit-low kg, unit-low kh);
+      sum = omega arith;
+    }
 
 module _ (s : List ℕ) (i x : ℕ) (w : Word s i x) (y : ℕ) (e : y ≡ textsOf eightTimes x) where
-  texts-word : y / 128 ≡ wordBy textUnit (eightAt s i)
+  pub texts-told : y ≡ wordBy (textsOf (λ n. n)) (eightAt s i)
   unfolding wordBy textsOf
+  texts-told = e ∙ ap (textsOf eightTimes) (w .is) ∙ texts-bytes (w .bytes)
+
+  texts-word : y / 128 ≡ wordBy textUnit (eightAt s i)
   texts-word =
       let a : y ≡ wordBy textUnit (eightAt s i) * 128 =
-      e
-      ∙ ap (textsOf eightTimes) (w .is)
-      ∙ texts-bytes (w .bytes)
+      texts-told
       ∙ word-same (textsOf (λ n. n)) (λ b. textUnit b * 128) (λ b h. told-byte b h .0) (w .bytes)
       ∙ times-word textUnit (eightAt s i) in
       omega arith
-
-  -- eight bytes more: so many more that are no mark, and the marks are of the others
-  pub texts-more : (o : ℕ) × (t : ℕ) × (y / 128 ≡ 255 * o + t) × (t ≤ 8) × (t + marksIn (eightAt s i) ≤ 8)
-  texts-more =
-      let f = texts-few (w .bytes) in
-      (over (eightAt s i), textsIn (eightAt s i), texts-word ∙ word-sum (eightAt s i), omega arith, f)
-
--- the word is at most so high
-pub texts-most : (x y : ℕ) → y ≡ textsOf eightTimes x → y / 128 ≤ 72340172838076673
-unfolding textsOf
-texts-most x y e =
-    let k = and-le-r (bitAnd (bitXor (bitOr x (eightTimes 17)) (eightTimes 59)) (eightTimes 127) + eightTimes 127) (eightTimes 128) in
-    omega arith
 
 marks-joined : (l m : List ℕ) → marksIn (l ++ m) ≡ marksIn l + marksIn m
 unfolding marksIn
@@ -112,3 +172,27 @@ marks-joined (b ∷ l) m = let h = marks-joined l m in omega arith
 
 pub marks-eight : (s : List ℕ) (i : ℕ) → i + 8 ≤ length s → marksIn (drop i s) ≡ marksIn (eightAt s i) + marksIn (drop (i + 8) s)
 marks-eight s i h = ap marksIn (drop-eight s i h) ∙ marks-joined (eightAt s i) (drop (i + 8) s)
+
+-- of the bytes from one index to another as many are seen to be no marks as the bytes of x come to
+pub record Seen (s : List ℕ) (n i j x : ℕ) : Type 0 where
+  pub texts : ℕ
+  pub bytes : Bytes n texts x
+  pub others : texts + i + marksIn (drop i s) ≤ j + marksIn (drop j s)
+
+pub seen-eight : (s : List ℕ) (i j x y : ℕ) → Word s i x → y ≡ textsOf eightTimes x → j ≤ length s → j ≡ i + 8 → Seen s 1 i j (y / 128)
+seen-eight s i j x y w e h q =
+    let f = texts-few (w .bytes) in
+    let m = marks-eight s i (omega arith) in
+    let d : marksIn (drop (i + 8) s) ≡ marksIn (drop j s) = ap (λ (k : ℕ). marksIn (drop k s)) (sym q) in
+    record {
+      texts = textsIn (eightAt s i);
+      bytes = subst (Bytes 1 (textsIn (eightAt s i))) (sym (texts-word s i x w y e)) (texts-eight (w .bytes));
+      others = omega arith;
+    }
+
+pub seen-both : {s : List ℕ} {n m i j k x y : ℕ} → Seen s n i j x → Seen s m j k y → Seen s (n + m) i k (x + y)
+seen-both p q =
+    record { texts = p .texts + q .texts; bytes = bytes-both (p .bytes) (q .bytes); others = omega (arith, p .others, q .others) }
+
+pub seen-sum : (s : List ℕ) (n i j x : ℕ) → Seen s n i j x → n ≤ 31 → halves x * 16843009 / 16777216 % 256 + i + marksIn (drop i s) ≤ j + marksIn (drop j s)
+seen-sum s n i j x p h = omega (arith, bytes-sum n (p .texts) x (p .bytes) h, p .others)

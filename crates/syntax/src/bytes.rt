@@ -4,7 +4,6 @@ ghost use mathlib.Core.Path.{_≡_};
 ghost use Prim.Native.Nat.{_+_, _*_, _<_};
 ghost use lib.ListN.{drop};
 ghost use Rattle.syntax.specs.Bytes.{permittedOf, plainText, isMark};
-ghost use Rattle.syntax.specs.Runs.{textRun};
 ghost use Rattle.syntax.specs.Released.{releaseRun};
 ghost use Rattle.syntax.specs.Masks.{inMask};
 
@@ -41,20 +40,6 @@ pub(crate) fn is_text(b: u8) -> bool
     ensures { λ r. ⌜ r ≡ plainText b ⌝ }
 {
     in_mask(TEXT_LOW, PERMITTED_HIGH, b)
-}
-
-/// The index of the first byte from `from` on that is no plain text, or the input's length.
-pub(crate) fn text_end(s: &[u8], from: usize) -> usize
-    ensures { λ r. ⌜ r ≡ from + textRun (drop from (now (s .entry))) ⌝ }
-{
-    let mut i = from;
-    while i < s.len() {
-        if !is_text(s[i]) {
-            return i;
-        }
-        i += 1;
-    }
-    i
 }
 
 /// The index past the releases of permitted bytes that stand one after the other from `from` on.

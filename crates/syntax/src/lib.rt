@@ -5,3 +5,4 @@ pub mod ends;
 mod limits;
 mod marks;
 pub mod segment;
+mod texts;

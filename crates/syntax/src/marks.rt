@@ -5,8 +5,8 @@ ghost use mathlib.Core.Path.{_≡_};
 ghost use mathlib.Core.Bool.{true};
 ghost use Prim.Native.Nat.{_+_, _-_, _≤_, _<_};
 ghost use lib.Dec.{leb};
-ghost use lib.ListN.{length};
-ghost use Rattle.laws.specs.Choice.{pick, both};
+ghost use lib.ListN.{length, drop};
+ghost use Rattle.laws.specs.Choice.{pick};
 ghost use Rattle.syntax.specs.Bytes.{isMark};
 ghost use Rattle.syntax.specs.Few.{marksIn};
 ghost use Rattle.syntax.specs.Passed.{eightTimes};
@@ -53,30 +53,46 @@ const LOWEST: u64 = 0x7f7f_7f7f_7f7f_7f7f;
 
 const HIGHEST: u64 = 0x8080_8080_8080_8080;
 
-// The highest digit of each of eight bytes, set where the byte is no mark; `;` goes for one.
-fn texts_in(x: u64) -> u64
+/// The highest digit of each of eight bytes, set where the byte is no mark; `;` goes for one.
+pub(crate) fn texts_in(x: u64) -> u64
     ensures { λ r. ⌜ r ≡ textsOf eightTimes x ⌝ }
 {
     ((((x | SEVENTEEN) ^ FIFTY_NINE) & LOWEST) + LOWEST) & HIGHEST
 }
 
-// Whether at most 31 of the bytes can be marks, as so many others are seen to be none, eight bytes at a time. Each byte of `sum` counts those of its
-// place among the eight; divided by 255, a number leaves the sum of its bytes.
+// How many of the 32 bytes from an index on are seen to be no marks. Each byte of `sum` counts those of its place among eight; in halves, then by one
+// product, the bytes are added up.
+fn texts_at(p: &[u8], i: usize) -> usize
+    requires { ⌜ i + 32 ≤ length (now p) ⌝ }
+    ensures { λ r. ⌜ r + marksIn (drop i (now (p .entry))) ≤ 32 + marksIn (drop (i + 32) (now (p .entry))) ⌝ }
+{
+    let sum = texts_in(eight_at(p, i)) / 128
+        + texts_in(eight_at(p, i + 8)) / 128
+        + texts_in(eight_at(p, i + 16)) / 128
+        + texts_in(eight_at(p, i + 24)) / 128;
+    let halves = (sum + sum / 4294967296) % 4294967296;
+    (halves * 16843009 / 16777216 % 256) as usize
+}
+
+// Whether at most 31 of the bytes can be marks, as so many others are seen to be none; no further than that is known.
 fn has_text(p: &[u8]) -> bool
-    requires { ⌜ length (now p) ≤ 248 ⌝ }
     ensures { λ r. ⌜ (r ≡ true → marksIn (now (p .entry)) ≤ 31) ⌝ }
 {
-    if p.len() < 8 {
-        return false;
+    if p.len() < 32 {
+        return true;
     }
-    let last = p.len() - 8;
-    let mut sum: u64 = 0;
+    let last = p.len() - 32;
+    let mut wanted = p.len() - 31;
     let mut i = 0;
     while i <= last {
-        sum += texts_in(eight_at(p, i)) / 128;
-        i += 8;
+        let texts = texts_at(p, i);
+        if wanted <= texts {
+            return true;
+        }
+        wanted -= texts;
+        i += 32;
     }
-    p.len() <= (sum % 255) as usize + 31
+    false
 }
 
 // Whether at most 512 bytes have few marks.
@@ -94,17 +110,13 @@ fn has_few(p: &[u8]) -> bool
     marks <= 31
 }
 
-/// Whether a segment has too few characters and marks to pass a limit. Most that are looked at have much text and few marks.
+/// Whether a segment of at most 512 bytes has too few marks to pass a limit. Most that are looked at have much text and few marks.
 pub(crate) fn is_small(p: &[u8]) -> bool
-    ensures { λ r. ⌜ r ≡ both (leb (length (now (p .entry))) 512) (leb (marksIn (now (p .entry))) 31) ⌝ }
+    requires { ⌜ length (now p) ≤ 512 ⌝ }
+    ensures { λ r. ⌜ r ≡ leb (marksIn (now (p .entry))) 31 ⌝ }
 {
-    if 512 < p.len() {
-        return false;
-    }
-    if p.len() <= 248 {
-        if has_text(p) {
-            return true;
-        }
+    if has_text(p) {
+        return true;
     }
     has_few(p)
 }

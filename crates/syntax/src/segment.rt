@@ -3,16 +3,16 @@
 use crate::bytes::is_mark;
 use crate::bytes::permitted;
 use crate::bytes::released_end;
-use crate::bytes::text_end;
 use crate::bytes::wide;
 use crate::ends::Run;
 use crate::ends::find_end;
 use crate::ends::run_end;
 use crate::limits::Counts;
 use crate::marks::is_small;
+use crate::texts::text_end;
 ghost use mathlib.Core.Path.{_≡_};
 ghost use mathlib.Core.Bool.{true, not};
-ghost use Prim.Native.Nat.{_+_, _≤_};
+ghost use Prim.Native.Nat.{_+_, _≤_, min};
 ghost use lib.ListN.{length, drop};
 ghost use Rattle.laws.specs.Choice.{pick, both};
 ghost use Rattle.syntax.specs.Segment.{capital, segmentAt, scannedAnswer, refusalOf, segmentAnswer, tagNumber};
@@ -113,15 +113,43 @@ fn is_tagged(s: &[u8], at: usize) -> bool
     is_tag(s[at], s[at + 1], s[at + 2], s[at + 3])
 }
 
-// The terminator's index of a segment that is told at once, the input's length for any other, from a byte on before which it does not end. In a
-// function of its own, so that little is left where the end is found at once.
+// The index 513 bytes past an offset, or the input's length n where that is less.
+fn near(at: usize, n: usize) -> usize
+    requires { ⌜ at ≤ n ⌝ }
+    ensures { λ r. ⌜ r ≡ min n (at + 513) ⌝ }
+{
+    if n - at < 513 {
+        return n;
+    }
+    at + 513
+}
+
+// The same as `find_end`, except that no more than 513 bytes from an offset on are looked at.
+fn near_end(s: &[u8], at: usize, from: usize) -> usize
+    requires { ⌜ at ≤ length (now s) ⌝ }
+    ensures { λ r. ⌜ min r (at + 513) ≡ min (endFrom (now (s .entry)) from) (at + 513) ⌝ }
+{
+    if from < s.len() {
+        if s[from] == b'\'' {
+            return from;
+        }
+    }
+    let cut = near(at, s.len());
+    find_end(&s[..cut], from)
+}
+
+// The same as `quick_end`, from a byte on before which the segment does not end. In a function of its own, so that little is left where
+// the end is found at once.
 fn small_end(s: &[u8], at: usize, from: usize) -> usize
     requires { ⌜ (at + 4 ≤ length (now s)) × (endFrom (now s) from ≡ endFrom (now s) (at + 4)) ⌝ }
     ensures { λ r. ⌜ r ≡ quickEnd (now (s .entry)) at ⌝ }
 {
-    let end = find_end(s, from);
+    let end = near_end(s, at, from);
     if end - at <= 34 {
         return end;
+    }
+    if 512 < end - at {
+        return s.len();
     }
     if s.len() <= end {
         return s.len();

@@ -1,15 +1,18 @@
 -- `run_end` meets its contract.
 -- Assumes nothing.
-use mathlib.Core.Path.{_≡_, refl, sym, _∙_}
+use mathlib.Core.Path.{_≡_, refl, sym, ap, _∙_}
 use mathlib.Core.List.{List}
 use Prim.Native.Nat.{ℕ, _+_, _-_, _/_, _≤_}
 use native.Mathlib.Omega.{arith}
 use borrow.Author.Needs.{needs}
 use denote.Ref.{now}
-use lib.Bits.{bitXor}
+use lib.Bits.{bitXor, xor-self}
 use lib.Count.{trailingZeros, trailing-le}
 use lib.ListN.{length, drop}
-use Rattle.syntax.specs.Passed.{passRun, eight-lead, eight-inside, eight-clear}
+use Rattle.laws.specs.Choice.{pick}
+use Rattle.laws.specs.Words.{wordBy, xor-zero}
+use Rattle.laws.specs.Eight.{eightAt}
+use Rattle.syntax.specs.Passed.{goes, runOf, eight-lead, eight-inside, eight-clear, passes-word}
 use Rattle.syntax.specs.Found.{endFrom, end-run}
 use Rattle.syntax.proofs.ends.run_end.Statement.{statement}
 use Rattle.syntax.proofs.ends.run_end.Tie as tie
@@ -53,8 +56,13 @@ module _ (t : tie.After-passes-in Inv-loop μ-loop) where
   few : zeros ≤ 64
   few = trailing-le 64 (bitXor (t .passes-in .result) 9259542123273814144)
 
-  goes-by : (k : ℕ) → k ≤ passRun (drop (own .loop .i) list) → endFrom list (own .loop .i + k) ≡ endFrom list (own .before .before .before .args .from)
+  goes-by : (k : ℕ) → k ≤ runOf goes (drop (own .loop .i) list) → endFrom list (own .loop .i + k) ≡ endFrom list (own .before .before .before .args .from)
   goes-by k h = sym (end-run list (own .loop .i) k h) ∙ own .loop .inv .2
+
+  stops : bitXor (t .passes-in .result) 9259542123273814144 ≡ wordBy (λ b. pick (goes b) 0 128) (eightAt list (own .loop .i))
+  stops =
+      let e = t .before in
+      passes-word list (own .loop .i) (e .eight-at .result) (e .eight-at .ensures) (t .passes-in .result) (t .passes-in .ensures)
 
 cast-t13 : tie.Need-cast-t13 Inv-loop μ-loop
 cast-t13 c = let h = few (c .before) in omega arith
@@ -65,15 +73,10 @@ add-t14 c = let h = few (c .before) in omega arith
 returns-2 : tie.Need-returns-2 Inv-loop μ-loop
 returns-2 c =
     let t = c .before in
-    let e = t .before in
     let i = own t .loop .i in
-    let x = e .eight-at .result in
-    let y = t .passes-in .result in
-    let n = eight-inside (list t) i x (omega arith) (e .eight-at .ensures) y (t .passes-in .ensures) (c .if2 .taken) in (
-      omega arith,
-      omega arith,
-      goes-by t (zeros t / 8) (eight-lead (list t) i x (omega arith) (e .eight-at .ensures) y (t .passes-in .ensures)),
-    )
+    let y = bitXor (t .passes-in .result) 9259542123273814144 in
+    let n = eight-inside goes (list t) i y (omega arith) (stops t) (λ z. c .if2 .taken (xor-zero (t .passes-in .result) 9259542123273814144 z)) in
+    (omega arith, omega arith, goes-by t (zeros t / 8) (eight-lead goes (list t) i y (omega arith) (stops t)))
 
 add-i : tie.Need-add-i Inv-loop μ-loop
 add-i c = omega arith
@@ -84,11 +87,8 @@ loop-less c = omega arith
 loop-again : tie.Need-loop-again Inv-loop μ-loop
 loop-again c =
     let t = c .before in
-    let e = t .before in (
-      own t .loop .inv .0,
-      omega arith,
-      goes-by t 8 (eight-clear (list t) (own t .loop .i) (e .eight-at .result) (omega arith) (e .eight-at .ensures) (t .passes-in .result) (t .passes-in .ensures) (c .if2 .left)),
-    )
+    let z = ap (λ (y : ℕ). bitXor y 9259542123273814144) (c .if2 .left) ∙ xor-self 9259542123273814144 in
+    (own t .loop .inv .0, omega arith, goes-by t 8 (eight-clear goes (list t) (own t .loop .i) (bitXor (t .passes-in .result) 9259542123273814144) (omega arith) (stops t) z))
 
 returns-3 : tie.Need-returns-3 Inv-loop μ-loop
 returns-3 c = (c .before .loop .inv .1, c .before .loop .inv .2)

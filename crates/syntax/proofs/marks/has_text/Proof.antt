@@ -1,105 +1,72 @@
 -- `has_text` meets its contract.
 -- Assumes nothing.
-use mathlib.Core.Path.{_≡_, refl, sym, _∙_}
 use mathlib.Core.Bool.{true, false}
-use Prim.Native.Nat.{ℕ, _+_, _*_, _/_, _%_, _-_, _≤_}
+use Prim.Native.Nat.{_+_, _-_, _≤_}
 use native.Mathlib.Omega.{arith}
-use borrow.Author.Needs.{needs}
-use borrow.Author.Tests.{leb-true}
 use denote.Ref.{now}
 use lib.ListN.{length, drop, length-drop}
 use Rattle.laws.specs.Choice.{false≢true}
 use Rattle.syntax.specs.Few.{marksIn, marks-length}
-use Rattle.syntax.specs.Texts.{texts-more, texts-most, marks-eight}
 use Rattle.syntax.proofs.marks.has_text.Statement.{statement}
 use Rattle.syntax.proofs.marks.has_text.Tie as tie
 use Rattle.syntax.proofs.marks.has_text.Reads as reads
 use Rattle.syntax.proofs.marks.has_text.Lts as lts
-use Rattle.syntax.proofs.ends.eight_at.Reads as eight-at-reads
-use Rattle.syntax.proofs.marks.texts_in.Reads as texts-in-reads
+use Rattle.syntax.proofs.marks.texts_at.Reads as texts-at-reads
 
--- t of the bytes so far are no marks, and o times 255 is what their sum holds beside
+-- all but so many of the bytes so far as are no longer wanted may be marks
 abbrev Inv-loop : tie.InvT-loop
-Inv-loop p last sum₀ i₀ sum i =
-    (o : ℕ) × (t : ℕ) × (sum ≡ 255 * o + t) × (t ≤ i) × (t + marksIn p ≤ i + marksIn (drop i p)) × (sum * 8 ≤ i * 72340172838076673)
-    × (i ≤ length p) × (length p ≤ 248)
+Inv-loop p last wanted₀ i₀ wanted i = (last + 32 ≤ length p) × (length p + marksIn p ≤ wanted + 31 + i + marksIn (drop i p))
 
 abbrev μ-loop : tie.MeasureT-loop
-μ-loop p last sum₀ i₀ sum i = length p - i
+μ-loop p last wanted₀ i₀ wanted i = length p - i
 
 returns : tie.Need-returns Inv-loop μ-loop
-returns c = λ e. absurd (false≢true e)
+returns c = λ e. let m = marks-length (now (c .before .before .args .p)) in omega arith
 
 sub-last : tie.Need-sub-last Inv-loop μ-loop
-sub-last c = search needs
+sub-last c = omega arith
+
+sub-wanted : tie.Need-sub-wanted Inv-loop μ-loop
+sub-wanted c = omega arith
 
 loop-holds : tie.Need-loop-holds Inv-loop μ-loop
-loop-holds c = (0, 0, refl, omega arith, omega arith, omega arith, omega arith, c .before .before .pre)
+loop-holds c = (omega arith, omega arith)
 
-eight-at-requires : tie.Need-eight-at-requires Inv-loop μ-loop
-eight-at-requires c κs = omega arith
-
-texts-in-requires : tie.Need-texts-in-requires Inv-loop μ-loop
-texts-in-requires c κs = search needs
-
--- where the loop stands
-module _ (c : tie.After-texts-in Inv-loop μ-loop) where
-  abbrev own : tie.At-loop Inv-loop μ-loop
-  own = c .before .before .before
-
-  most : c .texts-in .result / 128 ≤ 72340172838076673
-  most = texts-most (c .before .eight-at .result) (c .texts-in .result) (c .texts-in .ensures)
-
-add-sum : tie.Need-add-sum Inv-loop μ-loop
-add-sum c =
-    let m = most c in
-    let v = own c .loop .inv in
-    let x = v .5 in
-    let y = v .6 in
-    let z = v .7 in
-    omega arith
-
-add-i : tie.Need-add-i Inv-loop μ-loop
-add-i c = let v = own c .loop .inv in let y = v .6 in let z = v .7 in omega arith
-
-loop-less : tie.Need-loop-less Inv-loop μ-loop
-loop-less c = omega arith
-
-loop-again : tie.Need-loop-again Inv-loop μ-loop
-loop-again c =
-    let o = own c in
-    let p = now (o .before .before .before .args .p) in
-    let v = o .loop .inv in
-    let h : o .loop .i + 8 ≤ length p = omega arith in
-    let w = texts-more p (o .loop .i) (c .before .eight-at .result) (c .before .eight-at .ensures) (c .texts-in .result) (c .texts-in .ensures) in
-    let m = marks-eight p (o .loop .i) h in
-    let b = most c in
-    let x₂ = v .2 in
-    let x₃ = v .3 in
-    let x₄ = v .4 in
-    let x₅ = v .5 in
-    let y₂ = w .2 in
-    let y₃ = w .3 in
-    let y₄ = w .4 in
-    (v .0 + w .0, v .1 + w .1, omega arith, omega arith, omega arith, omega arith, h, v .7)
-
-add-result : tie.Need-add-result Inv-loop μ-loop
-add-result c = search needs
+texts-at-requires : tie.Need-texts-at-requires Inv-loop μ-loop
+texts-at-requires c κs = let h = c .before .loop .inv .0 in omega arith
 
 returns-2 : tie.Need-returns-2 Inv-loop μ-loop
 returns-2 c =
     λ e.
-    let p = now (c .before .before .before .before .args .p) in
-    let v = c .before .loop .inv in
-    let l : length p ≤ c .before .loop .sum % 255 + 31 = leb-true (length p) (c .before .loop .sum % 255 + 31) e in
-    let d = marks-length (drop (c .before .loop .i) p) in
-    let n = length-drop (c .before .loop .i) p in
-    let x₂ = v .2 in
-    let x₃ = v .3 in
-    let x₄ = v .4 in
-    let x₆ = v .6 in
-    let x₇ = v .7 in
+    let t = c .before in
+    let o = t .before .before in
+    let p = now (o .before .before .before .args .p) in
+    let v = o .loop .inv .1 in
+    let h = o .loop .inv .0 in
+    let d = marks-length (drop (o .loop .i + 32) p) in
+    let n = length-drop (o .loop .i + 32) p in
+    let x = t .texts-at .ensures in
     omega arith
+
+sub-wanted-2 : tie.Need-sub-wanted-2 Inv-loop μ-loop
+sub-wanted-2 c = omega arith
+
+add-i : tie.Need-add-i Inv-loop μ-loop
+add-i c = let h = c .before .before .before .loop .inv .0 in omega arith
+
+loop-less : tie.Need-loop-less Inv-loop μ-loop
+loop-less c = let h = c .before .before .before .loop .inv .0 in omega arith
+
+loop-again : tie.Need-loop-again Inv-loop μ-loop
+loop-again c =
+    let t = c .before in
+    let o = t .before .before in
+    let v = o .loop .inv .1 in
+    let x = t .texts-at .ensures in
+    (o .loop .inv .0, omega arith)
+
+returns-3 : tie.Need-returns-3 Inv-loop μ-loop
+returns-3 c = λ e. absurd (false≢true e)
 
 pub has-text-spec : {M : Type 1} → statement M
 has-text-spec =
@@ -109,12 +76,12 @@ has-text-spec =
     μ-loop
     returns
     sub-last
+    sub-wanted
     loop-holds
-    eight-at-requires
-    texts-in-requires
-    add-sum
+    texts-at-requires
+    returns-2
+    sub-wanted-2
     add-i
     loop-less
     loop-again
-    add-result
-    returns-2)
+    returns-3)

@@ -1,10 +1,9 @@
 -- `is_small` meets its contract.
 -- Assumes nothing.
-use Prim.Native.Nat.{_≤_}
-use native.Mathlib.Omega.{arith}
-use borrow.Author.Tests.{lt-leb, le-leb}
+use mathlib.Core.Path.{sym}
+use borrow.Author.Needs.{needs}
+use borrow.Author.Tests.{le-leb}
 use denote.Ref.{now}
-use lib.ListN.{length}
 use Rattle.syntax.specs.Few.{marksIn}
 use Rattle.syntax.proofs.marks.is_small.Statement.{statement}
 use Rattle.syntax.proofs.marks.is_small.Tie as tie
@@ -13,26 +12,17 @@ use Rattle.syntax.proofs.marks.is_small.Lts as lts
 use Rattle.syntax.proofs.marks.has_few.Reads as has-few-reads
 use Rattle.syntax.proofs.marks.has_text.Reads as has-text-reads
 
-returns : tie.Need-returns
-returns c = rw (lt-leb _ 512 (c .if1 .taken))
-
 has-text-requires : tie.Need-has-text-requires
-has-text-requires c κs = c .if2 .taken
+has-text-requires c κs = search needs
 
-returns-2 : tie.Need-returns-2
-returns-2 c =
-    let p = now (c .before .before .before .before .before .args .p) in
-    let h : length p ≤ 512 = omega arith in
-    rw (le-leb (length p) 512 h, le-leb (marksIn p) 31 (c .before .has-text .ensures (c .if3 .taken)))
+returns : tie.Need-returns
+returns c = sym (le-leb (marksIn (now (c .before .before .before .args .p))) 31 (c .before .has-text .ensures (c .if1 .taken)))
 
 has-few-requires : tie.Need-has-few-requires
-has-few-requires c κs = omega arith
+has-few-requires c κs = search needs
 
-returns-3 : tie.Need-returns-3
-returns-3 c =
-    let p = now (c .before .before .before .before .args .p) in
-    let h : length p ≤ 512 = omega arith in
-    rw (le-leb (length p) 512 h) (c .has-few .ensures)
+returns-2 : tie.Need-returns-2
+returns-2 c = search needs
 
 pub is-small-spec : {M : Type 1} → statement M
-is-small-spec = tie.close (tie.spec returns has-text-requires returns-2 has-few-requires returns-3)
+is-small-spec = tie.close (tie.spec has-text-requires returns has-few-requires returns-2)

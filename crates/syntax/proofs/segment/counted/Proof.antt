@@ -20,7 +20,7 @@ use Rattle.syntax.proofs.segment.counted.Lts as lts
 use Rattle.syntax.proofs.bytes.is_mark.Reads as is-mark-reads
 use Rattle.syntax.proofs.bytes.permitted.Reads as permitted-reads
 use Rattle.syntax.proofs.bytes.released_end.Reads as released-end-reads
-use Rattle.syntax.proofs.bytes.text_end.Reads as text-end-reads
+use Rattle.syntax.proofs.texts.text_end.Reads as text-end-reads
 use Rattle.syntax.proofs.limits.Counts.mark.Reads as mark-reads
 use Rattle.syntax.proofs.limits.Counts.none.Reads as none-reads
 use Rattle.syntax.proofs.limits.Counts.text.Reads as text-reads

@@ -1,56 +1,77 @@
 -- `small_end` meets its contract.
 -- Assumes nothing.
-use mathlib.Core.Path.{_≡_, sym, ap, _∙_}
+use mathlib.Core.Path.{_≡_, refl, sym, ap, _∙_}
 use mathlib.Core.Bool.{Bool}
 use mathlib.Core.List.{List}
-use Prim.Native.Nat.{ℕ, _+_, _-_}
+use Prim.Native.Nat.{ℕ, _+_, _-_, _≤_, min}
 use native.Mathlib.Omega.{arith}
 use denote.Ref.{now}
 use lib.ListN.{length}
 use Rattle.laws.specs.Choice.{pick}
 use Rattle.syntax.specs.Found.{endFrom}
 use Rattle.syntax.specs.Whole.{end-past-start}
-use Rattle.syntax.specs.Quick.{quick-none, quick-short, quick-small}
+use Rattle.syntax.specs.Quick.{quickEnd, quick-none, quick-short, quick-small, quick-far}
 use borrow.Author.Needs.{needs}
 use Rattle.syntax.proofs.segment.small_end.Statement.{statement}
 use Rattle.syntax.proofs.segment.small_end.Tie as tie
 use Rattle.syntax.proofs.segment.small_end.Reads as reads
 use Rattle.syntax.proofs.segment.small_end.Lts as lts
-use Rattle.syntax.proofs.ends.find_end.Reads as find-end-reads
 use Rattle.syntax.proofs.marks.is_small.Reads as is-small-reads
+use Rattle.syntax.proofs.segment.near_end.Reads as near-end-reads
 
-find-end-requires : tie.Need-find-end-requires
-find-end-requires c κs = search needs
+near-end-requires : tie.Need-near-end-requires
+near-end-requires c κs = search needs
 
 -- the input, the offset and the end found
-module _ (f : tie.After-find-end) where
+module _ (f : tie.After-near-end) where
   abbrev list : List ℕ
   list = now (f .before .before .args .s)
 
   abbrev from : ℕ
   from = f .before .before .args .at
 
-  found : f .find-end .result ≡ endFrom list (from + 4)
-  found = f .find-end .ensures ∙ f .before .before .pre .1
+  abbrev end : ℕ
+  end = f .near-end .result
+
+  near : min end (from + 513) ≡ min (endFrom list (from + 4)) (from + 513)
+  near = f .near-end .ensures ∙ ap (λ (e : ℕ). min e (from + 513)) (f .before .before .pre .1)
+
+  past : from ≤ end
+  past =
+      let p = end-past-start list (from + 4) (f .before .before .pre .0) in
+      let e = near in
+      omega arith
+
+  found : end - from ≤ 512 → end ≡ endFrom list (from + 4)
+  found h =
+      let p = past in
+      let e = near in
+      omega arith
 
 sub-if1 : tie.Need-sub-if1
-sub-if1 c =
-    let p = end-past-start (list c) (from c + 4) (c .before .before .pre .0) in
-    let e = found c in
-    omega arith
+sub-if1 c = past c
 
 returns : tie.Need-returns
 returns c =
     let f = c .before in
-    quick-short (list f) (from f) (f .find-end .result) (found f) (c .if1 .taken)
+    quick-short (list f) (from f) (end f) (found f (omega arith)) (c .if1 .taken)
+
+sub-if2 : tie.Need-sub-if2
+sub-if2 c = past (c .before)
 
 returns-2 : tie.Need-returns-2
 returns-2 c =
     let f = c .before .before in
-    quick-none (list f) (from f) (f .find-end .result) (found f) (c .if2 .taken)
+    let e = near f in
+    quick-far (list f) (from f) (endFrom (list f) (from f + 4)) refl (omega arith)
+
+returns-3 : tie.Need-returns-3
+returns-3 c =
+    let f = c .before .before .before in
+    quick-none (list f) (from f) (end f) (found f (c .before .if2 .left)) (c .if3 .taken)
 
 sub-is-small : tie.Need-sub-is-small
-sub-is-small c = search needs
+sub-is-small c = past (c .before .before .before)
 
 part-is-small-start : tie.Need-part-is-small-start
 part-is-small-start c = search needs
@@ -61,29 +82,35 @@ part-is-small-end c = search needs
 is-small-requires : tie.Need-is-small-requires
 is-small-requires c κs = search needs
 
-returns-3 : tie.Need-returns-3
-returns-3 c =
-    let f = c .before .before .before .before .before in
-    ap (λ (b : Bool). pick b (f .find-end .result) (length (list f))) (sym (c .if3 .taken))
-    ∙ quick-small (list f) (from f) (f .find-end .result) (found f) (c .before .is-small .result) (c .before .is-small .ensures) (omega arith)
+-- after the marks are looked at
+module _ (t : tie.After-is-small) where
+  abbrev there : tie.After-near-end
+  there = t .before .before .before .before .before
+
+  small : pick (t .is-small .result) (end there) (length (list there)) ≡ quickEnd (list there) (from there)
+  small =
+      let h = t .before .before .before .if2 .left in
+      quick-small (list there) (from there) (end there) (found there h) (t .is-small .result) (t .is-small .ensures) (omega arith) h
 
 returns-4 : tie.Need-returns-4
-returns-4 c =
-    let f = c .before .before .before .before .before in
-    ap (λ (b : Bool). pick b (f .find-end .result) (length (list f))) (sym (c .if3 .left))
-    ∙ quick-small (list f) (from f) (f .find-end .result) (found f) (c .before .is-small .result) (c .before .is-small .ensures) (omega arith)
+returns-4 c = ap (λ (b : Bool). pick b (end (there (c .before))) (length (list (there (c .before))))) (sym (c .if4 .taken)) ∙ small (c .before)
+
+returns-5 : tie.Need-returns-5
+returns-5 c = ap (λ (b : Bool). pick b (end (there (c .before))) (length (list (there (c .before))))) (sym (c .if4 .left)) ∙ small (c .before)
 
 pub small-end-spec : {M : Type 1} → statement M
 small-end-spec =
     tie.close
     (tie.spec
-    find-end-requires
+    near-end-requires
     sub-if1
     returns
+    sub-if2
     returns-2
+    returns-3
     sub-is-small
     part-is-small-start
     part-is-small-end
     is-small-requires
-    returns-3
-    returns-4)
+    returns-4
+    returns-5)
