@@ -3,3 +3,5 @@ pub mod Cuts
 pub mod Located
 pub mod Plain
 pub mod Walked
+pub mod Component
+pub mod Texts
