@@ -16,6 +16,7 @@ use Rattle.syntax.specs.Pieces.{firstPiece, laterPieces, partOf}
 use Rattle.values.specs.Values.{sameText}
 use Rattle.parts.specs.declared.Part.{Part}
 use Rattle.parts.specs.Places.{partAt, elementAt, occurrenceAt, componentAt, spanOf, present}
+use Rattle.parts.specs.Next.{behind-component}
 use Rattle.messages.specs.declared.MessageType.{MessageType}
 use Rattle.messages.specs.declared.MessageType.the-variants.{Skdupd, Tsdupd}
 use Rattle.envelope.specs.declared.Opened.{Opened}
@@ -132,6 +133,35 @@ module _ {A : Type 0} (text : List ℕ) (at : ℕ) (of : List ℕ → A) (missin
   written : (g : List ℕ) → beginsWith g text ≡ true → foundOf missing found (besides at g) ≡ of g
   written g q =
       subst (λ (x : List ℕ). foundOf missing found (besides at x) ≡ of x) (sym (begins-split g text q)) (written-rest (drop (length text) g))
+
+-- a trailer's tag, known by its first bytes
+record Tagged (text : List ℕ) : Type 0 where
+  pub first : (rest : List ℕ) → elementAt (text ++ rest) (record { from = 3; to = length (text ++ rest) }) 1 ≡ elementAt (text ++ rest) (record { from = 0; to = length (text ++ rest) }) 1
+
+uit : Tagged (bytes "UIT+")
+unfolding firstPiece laterPieces elementAt spanOf
+uit = record { first = λ rest. rw (between-end (bytes "UIT+" ++ rest) 3, whole-bytes (bytes "UIT+" ++ rest)) }
+
+uiz : Tagged (bytes "UIZ+")
+unfolding firstPiece laterPieces elementAt spanOf
+uiz = record { first = λ rest. rw (between-end (bytes "UIZ+" ++ rest) 3, whole-bytes (bytes "UIZ+" ++ rest)) }
+
+tagged : (text : List ℕ) → Tagged text → (g : List ℕ) → beginsWith g text ≡ true → besides 3 g ≡ placeOf g 1 1
+unfolding besides
+tagged text k g q =
+    subst (λ (x : List ℕ). besides 3 x ≡ placeOf x 1 1) (sym (begins-split g text q))
+    (let x = text ++ drop (length text) g in ap (λ (e : Part). componentAt x (occurrenceAt x e 1) 1) (k .first (drop (length text) g)))
+
+pub uit-tag : (g : List ℕ) → beginsWith g (bytes "UIT+") ≡ true → besides 3 g ≡ placeOf g 1 1
+uit-tag = tagged (bytes "UIT+") uit
+
+pub uiz-tag : (g : List ℕ) → beginsWith g (bytes "UIZ+") ≡ true → besides 3 g ≡ placeOf g 1 1
+uiz-tag = tagged (bytes "UIZ+") uiz
+
+-- the second element from where the first component of the first ends
+pub second-place : (g : List ℕ) {p q : Part} → p ≡ placeOf g 1 1 → p .from < p .to → q ≡ besides (p .to) g → q ≡ placeOf g 2 1
+unfolding besides
+second-place g {p} e h r = r ∙ behind-component g 0 (length g) p e h
 
 pub opening-head : (g : List ℕ) → beginsWith g headUNOB ≡ true → openedOf g ≡ uibOf g
 opening-head g q = written headUNOB 10 uibOf Wrong Dialogue opening g q

@@ -112,15 +112,15 @@ fn begins(segment: &[u8], text: &[u8]) -> bool
     true
 }
 
-// Where the first component of the element that follows the `+` at an index stands.
+// Where the first component of the next element stands, from an index on: mostly a `+` is there.
 fn behind(segment: &[u8], at: usize) -> Part
     ensures { λ r. ⌜ r ≡ besides at (now (segment .entry)) ⌝ }
 {
-    let rest = Part {
-        from: at,
-        to: segment.len(),
-    };
-    parts::part_at(segment, rest, 1, 1, 1)
+    let to = segment.len();
+    if at < to && segment[at] == b'+' {
+        return parts::component_from(segment, at + 1, to);
+    }
+    parts::part_at(segment, Part { from: at, to }, 1, 1, 1)
 }
 
 // A UIB that begins as most are written: only its dialogue reference may be missing.
@@ -254,18 +254,31 @@ pub fn read_uih(segment: &[u8]) -> Headed
     read_any(segment)
 }
 
+// Where the first component of a trailer's first element stands.
+fn repeated_at(segment: &[u8]) -> Part
+    ensures { λ r. ⌜ r ≡ placeOf (now (segment .entry)) 1 1 ⌝ }
+{
+    if begins(segment, b"UIT+") {
+        return behind(segment, 3);
+    }
+    if begins(segment, b"UIZ+") {
+        return behind(segment, 3);
+    }
+    place(segment, 1, 1)
+}
+
 // Whether a trailer repeats a reference, given as it was written, and gives a count.
 fn check_trailer(segment: &[u8], reference: &[u8], count: usize) -> bool
     ensures { λ r. ⌜ r ≡ trailerOf (now (segment .entry)) (now (reference .entry)) count ⌝ }
 {
-    let repeated = value(segment, 1, 1);
-    if !is_present(repeated) {
+    let first = repeated_at(segment);
+    if first.is_absent() {
         return false;
     }
-    if !values::same(repeated, reference) {
+    if !values::same(parts::bytes_of(segment, first), reference) {
         return false;
     }
-    let counted = value(segment, 2, 1);
+    let counted = parts::bytes_of(segment, behind(segment, first.to));
     if !is_present(counted) {
         return false;
     }

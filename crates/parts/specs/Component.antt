@@ -20,6 +20,10 @@ use Rattle.parts.specs.Walked.{cut-least, cut-none, cut-here, cut-on}
 unfoldable pub componentEnd : List ℕ → ℕ → ℕ → ℕ
 componentEnd s a b = cutEnd s a (cutEnd s a (cutEnd s a b elementMark) repetitionMark) componentMark
 
+-- where it stands, the element starting at an index
+abbrev pub componentFrom : List ℕ → ℕ → ℕ → Part
+componentFrom s a b = record { from = a; to = componentEnd s a b }
+
 pub by-each : (s : List ℕ) (a b : ℕ) {e o : ℕ} → e ≡ cutEnd s a b elementMark → o ≡ cutEnd s a e repetitionMark → cutEnd s a o componentMark ≡ componentEnd s a b
 unfolding componentEnd
 by-each s a b p q =
@@ -38,7 +42,7 @@ component-absent s g zero q = refl
 component-absent s g (suc e) q = absurd (omega arith)
 
 pub component-first : (s : List ℕ) (g r : Part) (e : ℕ) → (e ≡ 0 → ⊥) → firstOf s r elementMark ≡ pieceAt s g elementMark e
-    → record { from = r .from; to = componentEnd s (r .from) (r .to) } ≡ partAt s g e 1 1
+    → componentFrom s (r .from) (r .to) ≡ partAt s g e 1 1
 unfolding countedAt spanOf componentEnd
 component-first s g r e n q =
     ap (λ (x : Part). componentAt s (occurrenceAt s x 1) 1) (q ∙ element-some s g e n)

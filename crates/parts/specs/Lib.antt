@@ -5,3 +5,4 @@ pub mod Plain
 pub mod Walked
 pub mod Component
 pub mod Texts
+pub mod Next

@@ -7,6 +7,7 @@ use crate::ends::piece_end;
 ghost use mathlib.Core.Path.{_≡_};
 ghost use mathlib.Core.Bool.{false};
 ghost use lib.Dec.{eqb, leb};
+ghost use Rattle.parts.specs.Component.{componentFrom};
 ghost use Rattle.parts.specs.Cuts.{firstOf};
 ghost use Rattle.parts.specs.Places.{absent, bytesOf, pieceAt, countedAt, elementAt, occurrenceAt, componentAt, partAt, repeats};
 
@@ -102,6 +103,14 @@ pub fn component(s: &[u8], occurrence: Part, c: usize) -> Part
     counted(s, occurrence, b':', c)
 }
 
+/// The first component of the first occurrence of an element that starts at one index, in a segment that ends at another.
+pub fn component_from(s: &[u8], from: usize, to: usize) -> Part
+    ensures { λ r. ⌜ r ≡ componentFrom (now (s .entry)) from to ⌝ }
+{
+    let end = component_end(s, from, to);
+    Part { from, to: end }
+}
+
 // The first component of the first occurrence of element e, found in one walk: most parts are asked for so.
 fn first_component(s: &[u8], segment: Part, e: usize) -> Part
     ensures { λ r. ⌜ r ≡ partAt (now (s .entry)) segment e 1 1 ⌝ }
@@ -110,11 +119,7 @@ fn first_component(s: &[u8], segment: Part, e: usize) -> Part
         return Part::none();
     }
     let rest = rest_from(s, segment, b'+', e);
-    let end = component_end(s, rest.from, rest.to);
-    Part {
-        from: rest.from,
-        to: end,
-    }
+    component_from(s, rest.from, rest.to)
 }
 
 /// Element e, occurrence o, component c of a segment without its terminator.
