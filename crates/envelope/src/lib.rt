@@ -14,7 +14,7 @@ ghost use Rattle.parts.specs.Places.{present};
 ghost use Rattle.values.specs.Values.{sameText};
 ghost use Rattle.envelope.specs.Envelope.{valueOf, placeOf, directory, typed, uibOf, uihOf, trailerOf, uitOf, uizOf, openingAnswer, headedAnswer, trailerAnswer, uibAnswer, uihAnswer, uitAnswer, uizAnswer};
 ghost use Rattle.envelope.specs.Laws.{occurrenceFound};
-ghost use Rattle.envelope.specs.Written.{beginsWith, writtenOf};
+ghost use Rattle.envelope.specs.Written.{beginsWith, besides, openedOf, writtenOf};
 
 /// What a UIB says.
 pub enum Opened {
@@ -88,24 +88,6 @@ fn value_in(segment: &[u8], found: Part, c: usize) -> &[u8]
     parts::bytes_of(segment, parts::component(segment, found, c))
 }
 
-/// Whether a UIB begins `UNOB:4` and where its dialogue reference stands.
-pub fn read_uib(segment: &[u8]) -> Opened
-    ensures uib { λ r. ⌜ r ≡ uibOf (now (segment .entry)) ⌝ }
-    ensures said { λ r. ⌜ ((at : ℕ) → openingAnswer at r ≡ uibAnswer at (now (segment .entry))) ⌝ }
-{
-    if !values::equals(value(segment, 1, 1), b"UNOB") {
-        return Opened::Wrong;
-    }
-    if !values::equals(value(segment, 1, 2), b"4") {
-        return Opened::Wrong;
-    }
-    let dialogue = place(segment, 2, 1);
-    if dialogue.is_absent() {
-        return Opened::Wrong;
-    }
-    Opened::Dialogue(dialogue)
-}
-
 // Whether a part has a byte.
 fn is_present(part: &[u8]) -> bool
     ensures { λ r. ⌜ r ≡ present (now (part .entry)) ⌝ }
@@ -128,6 +110,56 @@ fn begins(segment: &[u8], text: &[u8]) -> bool
         i += 1;
     }
     true
+}
+
+// Where the first component of the next element stands, from an index on: mostly a `+` is there.
+fn behind(segment: &[u8], at: usize) -> Part
+    ensures { λ r. ⌜ r ≡ besides at (now (segment .entry)) ⌝ }
+{
+    let to = segment.len();
+    if at < to && segment[at] == b'+' {
+        return parts::component_from(segment, at + 1, to);
+    }
+    parts::part_at(segment, Part { from: at, to }, 1, 1, 1)
+}
+
+// A UIB that begins as most are written: only its dialogue reference may be missing.
+fn open_written(segment: &[u8]) -> Opened
+    ensures { λ r. ⌜ r ≡ openedOf (now (segment .entry)) ⌝ }
+{
+    let dialogue = behind(segment, 10);
+    if dialogue.is_absent() {
+        return Opened::Wrong;
+    }
+    Opened::Dialogue(dialogue)
+}
+
+// A UIB written in any way, part by part.
+fn open_any(segment: &[u8]) -> Opened
+    ensures { λ r. ⌜ r ≡ uibOf (now (segment .entry)) ⌝ }
+{
+    if !values::equals(value(segment, 1, 1), b"UNOB") {
+        return Opened::Wrong;
+    }
+    if !values::equals(value(segment, 1, 2), b"4") {
+        return Opened::Wrong;
+    }
+    let dialogue = place(segment, 2, 1);
+    if dialogue.is_absent() {
+        return Opened::Wrong;
+    }
+    Opened::Dialogue(dialogue)
+}
+
+/// Whether a UIB begins `UNOB:4` and where its dialogue reference stands.
+pub fn read_uib(segment: &[u8]) -> Opened
+    ensures uib { λ r. ⌜ r ≡ uibOf (now (segment .entry)) ⌝ }
+    ensures said { λ r. ⌜ ((at : ℕ) → openingAnswer at r ≡ uibAnswer at (now (segment .entry))) ⌝ }
+{
+    if begins(segment, b"UIB+UNOB:4+") {
+        return open_written(segment);
+    }
+    open_any(segment)
 }
 
 // Whether the parts of S306 that must be present are.
@@ -179,11 +211,7 @@ fn message(message_type: &[u8], reference: Part) -> Headed
 fn read_written(segment: &[u8], message: MessageType) -> Headed
     ensures { λ r. ⌜ r ≡ writtenOf message (now (segment .entry)) ⌝ }
 {
-    let rest = Part {
-        from: 20,
-        to: segment.len(),
-    };
-    let reference = parts::part_at(segment, rest, 1, 1, 1);
+    let reference = behind(segment, 20);
     if reference.is_absent() {
         return Headed::Missing;
     }
@@ -226,18 +254,31 @@ pub fn read_uih(segment: &[u8]) -> Headed
     read_any(segment)
 }
 
+// Where the first component of a trailer's first element stands.
+fn repeated_at(segment: &[u8]) -> Part
+    ensures { λ r. ⌜ r ≡ placeOf (now (segment .entry)) 1 1 ⌝ }
+{
+    if begins(segment, b"UIT+") {
+        return behind(segment, 3);
+    }
+    if begins(segment, b"UIZ+") {
+        return behind(segment, 3);
+    }
+    place(segment, 1, 1)
+}
+
 // Whether a trailer repeats a reference, given as it was written, and gives a count.
 fn check_trailer(segment: &[u8], reference: &[u8], count: usize) -> bool
     ensures { λ r. ⌜ r ≡ trailerOf (now (segment .entry)) (now (reference .entry)) count ⌝ }
 {
-    let repeated = value(segment, 1, 1);
-    if !is_present(repeated) {
+    let first = repeated_at(segment);
+    if first.is_absent() {
         return false;
     }
-    if !values::same(repeated, reference) {
+    if !values::same(parts::bytes_of(segment, first), reference) {
         return false;
     }
-    let counted = value(segment, 2, 1);
+    let counted = parts::bytes_of(segment, behind(segment, first.to));
     if !is_present(counted) {
         return false;
     }

@@ -60,6 +60,14 @@ take-between s a b k h =
 abbrev pub cutEnd : List ℕ → ℕ → ℕ → ℕ → ℕ
 cutEnd s a b c = a + length (firstPiece c false (between s a b))
 
+-- the first piece of a part
+abbrev pub firstOf : List ℕ → Part → ℕ → Part
+firstOf s p c = record { from = p .from; to = cutEnd s (p .from) (p .to) c }
+
+pub first-absent : (s : List ℕ) (c : ℕ) → firstOf s absent c ≡ absent
+unfolding firstPiece
+first-absent s c = refl
+
 module _ (s : List ℕ) (a b c : ℕ) (n : eqb c 63 ≡ false) where
   -- the others are the pieces of what follows, where the first ends before the part does
   later-at : cutEnd s a b c < b → cutEnd s a b c < length s → laterPieces c false (between s a b) ≡ pieces c (between s (cutEnd s a b c + 1) b)

@@ -3,3 +3,6 @@ pub mod Cuts
 pub mod Located
 pub mod Plain
 pub mod Walked
+pub mod Component
+pub mod Texts
+pub mod Next

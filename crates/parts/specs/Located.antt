@@ -23,15 +23,19 @@ use Rattle.parts.specs.Cuts.{later-split, later-none, length-part, drop-
 unfoldable pub Inside : Part → Part → Type 0
 Inside p q = (p ≡ absent) ⊎ ((q .from ≤ p .from) × (p .from ≤ p .to) × (p .to ≤ q .to))
 
+-- the bytes up to where the first piece ends
+pub cut-bytes : (s : List ℕ) (a b c : ℕ) → between s a (cutEnd s a b c) ≡ firstPiece c false (between s a b)
+cut-bytes s a b c =
+    let m = length (firstPiece c false (between s a b)) in
+    let l = length-part s a b in
+    let f = first-length c false (between s a b) in
+    let e : a + m - a ≡ m = omega arith in
+    ap (λ (x : ℕ). take x (drop a s)) e ∙ sym (take-take m (b - a) (drop a s) (omega arith)) ∙ sym (first-take c false (between s a b))
+
 module _ (c : ℕ) (n : eqb c 63 ≡ false) (s : List ℕ) where
   pub span-bytes : (k a b : ℕ) → bytesOf s (spanOf a (pieces c (between s a b)) k) ≡ getD (pieces c (between s a b)) k []
   unfolding spanOf
-  span-bytes zero a b =
-      let m = length (firstPiece c false (between s a b)) in
-      let l = length-part s a b in
-      let f = first-length c false (between s a b) in
-      let e : a + m - a ≡ m = omega arith in
-      ap (λ (x : ℕ). take x (drop a s)) e ∙ sym (take-take m (b - a) (drop a s) (omega arith)) ∙ sym (first-take c false (between s a b))
+  span-bytes zero a b = cut-bytes s a b c
   span-bytes (suc k) a b =
       ⊎-elim (λ w. rw (w .0) (span-bytes k (cutEnd s a b c + 1) b)) (λ w. rw w) (later-cases s a b c n)
 

@@ -62,11 +62,11 @@ byte-plain m b e = (
       omega arith),
 )
 
-apart-byte : (m b : ℕ) → Byte (apart m b)
-apart-byte m b = let l = and-le-r (bitOr (bitXor b m) (bitAnd (bitXor b m) 127 + 127)) 128 in omega arith
+pub high-byte : (b p q : ℕ) → Byte (highOf b p q 127 128)
+high-byte b p q = let l = and-le-r (bitOr (bitXor b p) (bitAnd (bitXor b p) 127 + q)) 128 in omega arith
 
 both-byte : (m b : ℕ) → Byte (bitAnd (apart m b) (apart 63 b))
-both-byte m b = let l = and-le-r (apart m b) (apart 63 b) in let k = apart-byte 63 b in omega arith
+both-byte m b = let l = and-le-r (apart m b) (apart 63 b) in let k = high-byte b 63 127 in omega arith
 
 each-plain : (m : ℕ) {l : List ℕ} → Every (λ b. bitAnd (apart m b) (apart 63 b) ≡ 128) l → Plain m l
 each-plain m none = tt
@@ -81,7 +81,7 @@ module _ {l : List ℕ} (r : Every Byte l) where
 
   plain-bytes : (m : ℕ) → m < 256 → bitAnd (apartFrom m) (apartFrom 63) ≡ wordBy (λ _. 128) l → Plain m l
   plain-bytes m h q =
-      let e = ap₂ bitAnd (apart-words m h) (apart-words 63 (omega arith)) ∙ and-word (apart m) (apart 63) (λ b k. apart-byte m b) (λ b k. apart-byte 63 b) r in
+      let e = ap₂ bitAnd (apart-words m h) (apart-words 63 (omega arith)) ∙ and-word (apart m) (apart 63) (λ b k. high-byte b m 127) (λ b k. high-byte b 63 127) r in
       each-plain m (same-word (λ b. bitAnd (apart m b) (apart 63 b)) (λ _. 128) (λ b k. both-byte m b) (λ b k. omega arith) r (sym e ∙ q))
 
 plain-eight : (s : List ℕ) (i m : ℕ) → m < 256 → {w : ℕ} → Eights s i w → plainBits w (m * 72340172838076673) ≡ 9259542123273814144 → Plain m (eightAt s i)

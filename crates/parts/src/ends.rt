@@ -9,6 +9,8 @@ ghost use Prim.Native.Nat.{_≤_, min};
 ghost use lib.Dec.{eqb};
 ghost use lib.ListN.{length};
 ghost use Rattle.parts.specs.Cuts.{cutEnd};
+ghost use Rattle.parts.specs.Component.{componentEnd};
+ghost use Rattle.parts.specs.Texts.{textBits};
 ghost use Rattle.parts.specs.Plain.{plainBits};
 ghost use Rattle.parts.specs.Walked.{WalkTold};
 
@@ -20,6 +22,13 @@ const LOW: usize = 0x7f7f_7f7f_7f7f_7f7f;
 const ONES: usize = 0x0101_0101_0101_0101;
 
 const RELEASES: usize = 0x3f3f_3f3f_3f3f_3f3f;
+
+// Eight times `*`, and by how much a byte may differ from it, and from `?`, before it is told apart.
+const STARS: usize = 0x2a2a_2a2a_2a2a_2a2a;
+
+const BY_TWO: usize = 0x7e7e_7e7e_7e7e_7e7e;
+
+const BY_SIX: usize = 0x7a7a_7a7a_7a7a_7a7a;
 
 // How far a walk byte by byte came.
 enum Walked {
@@ -111,4 +120,68 @@ pub(crate) fn piece_end(s: &[u8], from: usize, to: usize, mark: u8) -> usize
             }
         }
     }
+}
+
+// The highest bit of each of eight bytes, set where the byte is neither `*` nor `+`, nor one from `:` to `?`.
+fn text_bits(word: usize) -> usize
+    ensures { λ r. ⌜ r ≡ textBits word ⌝ }
+{
+    differing(word, STARS, BY_TWO) & differing(word, RELEASES, BY_SIX)
+}
+
+// Past text with no mark and no release in it, eight bytes by eight, to the first byte that may be one, or to where fewer are left.
+fn pass_text(s: &[u8], from: usize, to: usize) -> usize
+    requires { ⌜ to ≤ length (now s) ⌝ }
+    ensures { λ r. ⌜ componentEnd (now (s .entry)) r to ≡ componentEnd (now (s .entry)) from to ⌝ }
+{
+    let mut i = from;
+    while i < to {
+        if to - i < 8 {
+            return i;
+        }
+        let Eight::Word(word) = eight_at(s, i) else {
+            return i;
+        };
+        let text = text_bits(word);
+        if text != HIGH {
+            return i + (usize::trailing_zeros(text ^ HIGH) / 8) as usize;
+        }
+        i += 8;
+    }
+    i
+}
+
+// The same by each mark in turn, where there is a release.
+fn end_by_each(s: &[u8], from: usize, to: usize) -> usize
+    ensures { λ r. ⌜ r ≡ componentEnd (now (s .entry)) from to ⌝ }
+{
+    let element = piece_end(s, from, to, b'+');
+    let occurrence = piece_end(s, from, element, b'*');
+    piece_end(s, from, occurrence, b':')
+}
+
+// Where the first component of the first occurrence of the element that starts at `from` ends: at the first byte that stands as a mark, or
+// with the segment.
+pub(crate) fn component_end(s: &[u8], from: usize, to: usize) -> usize
+    ensures { λ r. ⌜ r ≡ componentEnd (now (s .entry)) from to ⌝ }
+{
+    let end = least(s.len(), to);
+    let mut i = pass_text(s, from, end);
+    while i < end {
+        let byte = s[i];
+        if byte == b'+' {
+            return i;
+        }
+        if byte == b'*' {
+            return i;
+        }
+        if byte == b':' {
+            return i;
+        }
+        if byte == b'?' {
+            return end_by_each(s, i, end);
+        }
+        i += 1;
+    }
+    i
 }

@@ -2,10 +2,13 @@
 
 mod ends;
 
+use crate::ends::component_end;
 use crate::ends::piece_end;
 ghost use mathlib.Core.Path.{_≡_};
 ghost use mathlib.Core.Bool.{false};
 ghost use lib.Dec.{eqb, leb};
+ghost use Rattle.parts.specs.Component.{componentFrom};
+ghost use Rattle.parts.specs.Cuts.{firstOf};
 ghost use Rattle.parts.specs.Places.{absent, bytesOf, pieceAt, countedAt, elementAt, occurrenceAt, componentAt, partAt, repeats};
 
 /// The bytes from one index up to and without another. Absent where there are none.
@@ -30,10 +33,10 @@ impl Part {
     }
 }
 
-// The n-th piece of a part cut at a mark, counted from 0.
-fn piece(s: &[u8], part: Part, mark: u8, n: usize) -> Part
+// A part from its n-th piece on, where it is cut at a mark, counted from 0: that piece is its first. No part where there is none.
+fn rest_from(s: &[u8], part: Part, mark: u8, n: usize) -> Part
     requires { ⌜ eqb mark 63 ≡ false ⌝ }
-    ensures { λ r. ⌜ r ≡ pieceAt (now (s .entry)) part mark n ⌝ }
+    ensures { λ r. ⌜ firstOf (now (s .entry)) r mark ≡ pieceAt (now (s .entry)) part mark n ⌝ }
 {
     let to = part.to;
     let mut from = part.from;
@@ -49,8 +52,20 @@ fn piece(s: &[u8], part: Part, mark: u8, n: usize) -> Part
         from = end + 1;
         left -= 1;
     }
-    let end = piece_end(s, from, to, mark);
-    Part { from, to: end }
+    Part { from, to }
+}
+
+// The n-th piece of a part cut at a mark, counted from 0.
+fn piece(s: &[u8], part: Part, mark: u8, n: usize) -> Part
+    requires { ⌜ eqb mark 63 ≡ false ⌝ }
+    ensures { λ r. ⌜ r ≡ pieceAt (now (s .entry)) part mark n ⌝ }
+{
+    let rest = rest_from(s, part, mark, n);
+    let end = piece_end(s, rest.from, rest.to, mark);
+    Part {
+        from: rest.from,
+        to: end,
+    }
 }
 
 /// Element e of a segment, counted from 1.
@@ -88,10 +103,32 @@ pub fn component(s: &[u8], occurrence: Part, c: usize) -> Part
     counted(s, occurrence, b':', c)
 }
 
+/// The first component of the first occurrence of an element that starts at one index, in a segment that ends at another.
+pub fn component_from(s: &[u8], from: usize, to: usize) -> Part
+    ensures { λ r. ⌜ r ≡ componentFrom (now (s .entry)) from to ⌝ }
+{
+    let end = component_end(s, from, to);
+    Part { from, to: end }
+}
+
+// The first component of the first occurrence of element e, found in one walk: most parts are asked for so.
+fn first_component(s: &[u8], segment: Part, e: usize) -> Part
+    ensures { λ r. ⌜ r ≡ partAt (now (s .entry)) segment e 1 1 ⌝ }
+{
+    if e == 0 {
+        return Part::none();
+    }
+    let rest = rest_from(s, segment, b'+', e);
+    component_from(s, rest.from, rest.to)
+}
+
 /// Element e, occurrence o, component c of a segment without its terminator.
 pub fn part_at(s: &[u8], segment: Part, e: usize, o: usize, c: usize) -> Part
     ensures { λ r. ⌜ r ≡ partAt (now (s .entry)) segment e o c ⌝ }
 {
+    if o == 1 && c == 1 {
+        return first_component(s, segment, e);
+    }
     component(s, occurrence(s, element(s, segment, e), o), c)
 }
 
