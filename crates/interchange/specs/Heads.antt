@@ -77,3 +77,16 @@ capitals-ahead s at h g m =
     let p = both-parts (capital (getD s at 0)) (both (capital (getD s (at + 1) 0)) (capital (getD s (at + 2) 0))) g in
     let q = both-parts (capital (getD s (at + 1) 0)) (capital (getD s (at + 2) 0)) (p .1) in
     tag-four s at h ∙ rw (p .0, q .0, q .1) m
+
+-- a head that is a tag and a mark
+module _ (s : List ℕ) (at head : ℕ) (b : Bytes s at) (k : head ≡ headAt s at) (tag m : ℕ) (x : head ≡ tag * 256 + m) (l : m < 256) where
+  pub head-told : head / 256 ≡ tag
+  head-told = omega arith
+
+  pub head-behind : getD s (at + 3) 0 ≡ m
+  head-behind =
+      let e = head-mark s at b in
+      omega arith
+
+  pub head-ahead : at + 4 ≤ length s → (head / 256 ≡ tag → capitals s at ≡ true) → tagCloses m ≡ true → tagAhead (drop at s) ≡ true
+  head-ahead h g q = capitals-ahead s at h (g head-told) (ap tagCloses head-behind ∙ q)

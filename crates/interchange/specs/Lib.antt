@@ -9,5 +9,6 @@ pub mod Moves
 pub mod Chunks
 pub mod Heads
 pub mod Packs
+pub mod Led
 pub mod Runs
 pub mod Answers

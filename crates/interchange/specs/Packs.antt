@@ -33,9 +33,9 @@ pub record Packs (t : Table) (p : Place) (row counts : ℕ) : Type 0 where
   pub inside : row < rows t
   pub fits : counts < 18446744073709551616
 
--- a place that is told is the next, and a row of the table
-pub record Tells (t : Table) (row counts tag to next : ℕ) : Type 0 where
-  pub on : Onward t row counts tag to next
+-- a place that a hint leads to is the next where the tag is the one of its row
+pub record Leads (t : Table) (row counts to next : ℕ) : Type 0 where
+  pub on : (tag : ℕ) → tagAt t to ≡ tag → Onward t row counts tag to next
   pub inside : to < rows t
   pub fits : next < 18446744073709551616
 
@@ -78,13 +78,13 @@ next-fits k kept bound more h eb em l =
 
 -- a hint that tells
 module _ (t : Table) (l : List (List ℕ)) (g : T (right t l)) (row n j : ℕ) (s : Stood t (placeOf row n)) (b : n < 18446744073709551616) (h : ℕ) (e : h ≡ getD (getD l row []) j 0) where
-  pub tells : (mask bound more : ℕ) → mask ≡ keptMask (h % 32) → bound ≡ boundOf (h % 32) → more ≡ moreOf (h % 32) → bitAnd n mask < bound
-      → (tag x : ℕ) → x ≡ tagAt t (h / 32) → x ≡ tag → Tells t row n tag (h / 32) (bitAnd n mask + more)
-  tells mask bound more ek eb em u tag x ex et =
+  pub leads : (mask bound more : ℕ) → mask ≡ keptMask (h % 32) → bound ≡ boundOf (h % 32) → more ≡ moreOf (h % 32) → bitAnd n mask < bound
+      → Leads t row n (h / 32) (bitAnd n mask + more)
+  leads mask bound more ek eb em u =
       let z : bitAnd n mask ≡ n % 2 ^ keptBits (kindIn h) = ap (bitAnd n) ek ∙ and-mask n (keptBits (kindIn h)) in
       let v : n % 2 ^ keptBits (kindIn h) < boundOf (h % 32) = subst (λ y. y < boundOf (h % 32)) z (subst (λ y. bitAnd n mask < y) eb u) in
       record {
-        on = subst (λ y. Onward t row n tag (h / 32) (y + more)) (sym z) (subst (λ y. Onward t row n tag (h / 32) (n % 2 ^ keptBits (kindIn h) + y)) (sym em) (onward t l g row n j s b h e v tag (sym ex ∙ et)));
+        on = λ tag q. subst (λ y. Onward t row n tag (h / 32) (y + more)) (sym z) (subst (λ y. Onward t row n tag (h / 32) (n % 2 ^ keptBits (kindIn h) + y)) (sym em) (onward t l g row n j s b h e v tag q));
         inside = onward-row t l g row n j s b h e;
         fits = next-fits (h % 32) (bitAnd n mask) bound more (omega arith) eb em u;
       }

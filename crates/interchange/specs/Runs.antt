@@ -126,6 +126,13 @@ pub own-given : (all given : Table) (hinted words : List (List ℕ)) (message kn
     → given ≡ tableIn all known → words ≡ hintsIn hinted known → (given ≡ tableOf message) × (words ≡ hintsOf message)
 own-given all given hinted words message known q e h f g = rw q (f ∙ ap (λ x. tableIn x known) e, g ∙ ap (λ x. hintsIn x known) h)
 
+-- the row of a segment that is placed
+abbrev pub rowWith : ℕ → ℕ → ℕ → Row
+rowWith at group tag = record { offset = at; group = group; tag = tag }
+
+abbrev pub placedRow : Table → ℕ → ℕ → Row
+placedRow t to at = rowWith at (groupAt t to) (tagAt t to)
+
 -- a segment more, so many times
 abbrev pub countedOf : ℕ → ℕ → ℕ
 countedOf n more = pick (leb 65535 n) n (pick (ltb (65535 - n) more) 65535 (n + more))

@@ -19,13 +19,14 @@ use syntax::segment::Refusal;
 ghost use mathlib.Core.Path.{_≡_};
 ghost use Prim.Native.Nat.{_≤_};
 ghost use lib.ListN.{length};
+ghost use Rattle.answers.specs.Answers.{wrongEnvelope};
 ghost use Rattle.placing.specs.Tables as placing;
 ghost use Rattle.hints.specs.Hints as hinting;
 ghost use Rattle.steps.specs.State.{movedState};
 ghost use Rattle.interchange.specs.Reader.{isClosed};
 ghost use Rattle.interchange.specs.Room.{roomSize};
 ghost use Rattle.interchange.specs.Moves.{Moved};
-ghost use Rattle.interchange.specs.Chunks.{endedAt, Chunk};
+ghost use Rattle.interchange.specs.Chunks.{gatheredBy, endedAt, Chunk};
 
 // The row of the period that is read, in the table of SKDUPD, and a row that no table has.
 const PERIOD: usize = 22;
@@ -86,6 +87,16 @@ fn run_on(
     }
 }
 
+// A segment past the UIZ.
+fn past_end(at: usize) -> Gathered
+    ensures { λ r. ⌜ r ≡ gatheredBy (wrongEnvelope at) ⌝ }
+{
+    Gathered::Faulty(Refusal {
+        number: 7,
+        position: at,
+    })
+}
+
 /// The segments one after the other, their rows into a room of the reader's own, until it is full.
 pub(crate) fn gather(
     s: &[u8],
@@ -98,32 +109,33 @@ pub(crate) fn gather(
     requires { ⌜ (now tables ≡ placing.tables) × (now hints ≡ hinting.hints) × (length (now s) ≤ 60000) × (length (now room) ≡ roomSize) × (from ≤ length (now s)) ⌝ }
     ensures { λ r. ⌜ Chunk (now (s .entry)) start from r (now (room .exit)) × (length (now (room .exit)) ≡ roomSize) ⌝ }
 {
-    let mut st = start;
-    let mut at = from;
-    let mut numbers = 0;
+    let before = Standing {
+        state: start,
+        at: from,
+        numbers: 0,
+    };
+    let begun = run_on(s, before, tables, hints, room);
+    let mut st = begun.led(start);
+    let mut at = begun.at;
+    let mut numbers = begun.numbers;
     while numbers < FULL {
         let phase = st.phase;
         if s.len() <= at {
             return ended(phase, numbers, s.len());
         }
         if is_closed(phase) {
-            return Gathered::Faulty(Refusal {
-                number: 7,
-                position: at,
-            });
+            return past_end(at);
         }
         match take_turn(s, st, at, tables) {
             Turn::On(next, row, then) => {
                 put_row(room, numbers, at as u32, row);
-                let gathered = numbers + 3;
                 let after = Standing {
                     state: next,
                     at: then,
-                    numbers: gathered,
+                    numbers: numbers + 3,
                 };
                 let ran = run_on(s, after, tables, hints, room);
-                let place = ran.place;
-                st = next.moved(place, ran.segments);
+                st = ran.led(next);
                 at = ran.at;
                 numbers = ran.numbers;
             }

@@ -1,11 +1,13 @@
 //! What a segment begins with, its tag and the byte behind it, and where it ends.
 
+use syntax::segment::Quick;
 use syntax::segment::quick_end;
 ghost use mathlib.Core.Path.{_≡_};
 ghost use mathlib.Core.Bool.{true};
-ghost use Prim.Native.Nat.{_+_, _<_, _≤_};
-ghost use lib.ListN.{length, getD};
+ghost use Prim.Native.Nat.{ℕ, _+_, _/_, _≤_};
+ghost use lib.ListN.{length};
 ghost use Rattle.syntax.specs.declared.segment.Scanned.the-variants.{End};
+ghost use Rattle.syntax.specs.declared.segment.Quick.the-variants.{Ends};
 ghost use Rattle.syntax.specs.Segment.{segmentAt};
 ghost use Rattle.interchange.specs.Heads.{fourAt, headAt, Bytes, capitals};
 
@@ -38,16 +40,18 @@ pub(crate) fn head_at(s: &[u8], at: usize) -> u32
         + four / 0x100_0000
 }
 
-/// The end of a segment by the byte behind its tag, where it is small; else the input's length.
-pub(crate) fn end_at(s: &[u8], at: usize, mark: u32) -> usize
-    requires { ⌜ (at + 4 ≤ length (now s)) × (capitals (now s) at ≡ true) × (mark ≡ getD (now s) (at + 3) 0) ⌝ }
-    ensures { λ r. ⌜ (r < length (now (s .entry)) → segmentAt (now (s .entry)) at ≡ End r) ⌝ }
+/// The end of a segment with a given tag and a mark behind it, where it is small. The tag and the mark take one test.
+pub(crate) fn end_at(s: &[u8], at: usize, head: u32, tag: u32) -> Quick
+    requires { ⌜ (at + 4 ≤ length (now s)) × Bytes (now s) at × (head ≡ headAt (now s) at) × (head / 256 ≡ tag → capitals (now s) at ≡ true) ⌝ }
+    ensures { λ r. ⌜ ((e : ℕ) → r ≡ Ends e → (segmentAt (now (s .entry)) at ≡ End e) × (head / 256 ≡ tag)) ⌝ }
 {
-    if mark == 43 {
+    let wanted = tag as u64 * 256;
+    let found = head as u64;
+    if found == wanted + 43 {
         return quick_end(s, at);
     }
-    if mark == 39 {
-        return at + 3;
+    if found == wanted + 39 {
+        return Quick::Ends(at + 3);
     }
-    s.len()
+    Quick::Unsure
 }

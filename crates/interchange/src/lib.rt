@@ -2,6 +2,7 @@
 
 mod gather;
 mod heads;
+mod led;
 mod packed;
 pub mod reader;
 mod rows;

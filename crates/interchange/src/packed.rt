@@ -14,7 +14,7 @@ ghost use lib.ListN.{length};
 ghost use Rattle.hints.specs.Told.{right};
 ghost use Rattle.hints.specs.Laws.{Stood};
 ghost use Rattle.hints.specs.Packing.{placeOf};
-ghost use Rattle.interchange.specs.Packs.{narrow, Packs, Tells};
+ghost use Rattle.interchange.specs.Packs.{narrow, Packs, Leads};
 
 /// A packed place. Where it is not told there is none.
 pub(crate) struct Packed {
@@ -23,9 +23,7 @@ pub(crate) struct Packed {
     pub counts: u64,
 }
 
-// The columns of a table that are read here.
-const TAG: usize = 1;
-
+// The level's column of a table.
 const LEVEL: usize = 5;
 
 fn untold() -> Packed
@@ -101,7 +99,7 @@ pub(crate) fn pack(place: Place, table: &[[u32; 8]]) -> Packed
     }
 }
 
-/// The place of the next segment, by its tag, where the hint for it tells.
+/// The place to which the hint for a tag leads, where there is room for it there. Whether the tag is the one of that row is not tested.
 pub(crate) fn next_place(
     table: &[[u32; 8]],
     hints: &[[u16; 16]],
@@ -110,15 +108,12 @@ pub(crate) fn next_place(
     tag: u32,
 ) -> Packed
     requires { ⌜ (row < length (now hints)) × (length (now hints) ≡ length (now table)) × T (right (now table) (now hints)) × Stood (now table) (placeOf row counts) ⌝ }
-    ensures { λ r. ⌜ (r .told ≡ true → Tells (now (table .entry)) row counts tag (r .row) (r .counts)) ⌝ }
+    ensures { λ r. ⌜ (r .told ≡ true → Leads (now (table .entry)) row counts (r .row) (r .counts)) ⌝ }
 {
     let hint = hints[row][slot_of(tag)];
     let to = (hint / 32) as usize;
     let kind = (hint % 32) as usize;
     let kept = counts & kept_mask(kind);
-    if table[to][TAG] != tag {
-        return untold();
-    }
     if bound_of(kind) <= kept {
         return untold();
     }

@@ -1,9 +1,8 @@
 //! The segments of a message that only move its place on. Most segments are such, so that here only the place, the count, the
 //! offset and the rows change; whatever else comes is left to the step.
 
-use crate::heads::end_at;
-use crate::heads::head_at;
-use crate::packed::next_place;
+use crate::led::Led;
+use crate::led::lead_on;
 use crate::packed::pack;
 use crate::packed::unpack;
 use crate::rows::put_row;
@@ -14,20 +13,22 @@ use period::read_period;
 use placing::Place;
 use steps::state::Phase;
 use steps::state::Row;
+use steps::state::State;
 use syntax::segment::Scanned;
 ghost use mathlib.Core.Path.{_≡_};
 ghost use mathlib.Core.Bool.{true};
-ghost use Prim.Native.Nat.{_≤_};
+ghost use Prim.Native.Nat.{_≤_, _<_};
 ghost use lib.ListN.{length};
 ghost use Rattle.laws.specs.Choice.{pick};
 ghost use Rattle.syntax.specs.Segment.{bodyAt, segmentAt};
 ghost use Rattle.period.specs.Period.{isGood, periodOf};
+ghost use Rattle.placing.specs.Table.{rows};
 ghost use Rattle.placing.specs.Tables.{tableOf};
 ghost use Rattle.hints.specs.Hints.{hintsOf};
 ghost use Rattle.steps.specs.State.{movedState};
 ghost use Rattle.interchange.specs.Room.{roomSize};
 ghost use Rattle.interchange.specs.Moves.{Moved};
-ghost use Rattle.interchange.specs.Runs.{periodRow, countedOf};
+ghost use Rattle.interchange.specs.Runs.{periodRow, countedOf, placedRow};
 
 /// The numbers of a room: 128 rows, three numbers each.
 pub(crate) const ROOM: usize = 384;
@@ -35,7 +36,9 @@ pub(crate) const ROOM: usize = 384;
 /// A room with so many numbers has no place for a row more.
 pub(crate) const FULL: usize = 382;
 
-// The group's column of a table.
+// The columns of a table that a row has.
+const TAG: usize = 1;
+
 const GROUP: usize = 4;
 
 /// Where some segments of a message led.
@@ -44,6 +47,16 @@ pub(crate) struct Ran {
     pub segments: usize,
     pub at: usize,
     pub numbers: usize,
+}
+
+impl Ran {
+    /// The state to which the segments led from another.
+    pub(crate) fn led(self, from: State) -> State
+        ensures { λ r. ⌜ r ≡ movedState from (self .place) (self .segments) ⌝ }
+    {
+        let place = self.place;
+        from.moved(place, self.segments)
+    }
 }
 
 /// No segment is passed.
@@ -87,6 +100,28 @@ fn counted(segments: usize, more: usize) -> usize
     segments + more
 }
 
+// Whether an offset is one of an input that has eight bytes.
+fn is_within(s: &[u8], at: usize) -> bool
+    ensures { λ r. ⌜ (r ≡ true → (8 ≤ length (now (s .entry))) × (at ≤ length (now (s .entry)))) ⌝ }
+{
+    if s.len() < 8 {
+        return false;
+    }
+    at <= s.len()
+}
+
+// The row of a segment that is placed.
+fn placed(table: &[[u32; 8]], to: usize, at: usize) -> Row
+    requires { ⌜ to < rows (now table) ⌝ }
+    ensures { λ r. ⌜ r ≡ placedRow (now (table .entry)) to at ⌝ }
+{
+    Row {
+        offset: at,
+        group: table[to][GROUP],
+        tag: table[to][TAG],
+    }
+}
+
 // The segments from an offset on, while each only moves the place on, a hint tells of it and the room lasts.
 pub(crate) fn run(
     s: &[u8],
@@ -102,44 +137,31 @@ pub(crate) fn run(
     let st = from.state;
     let place = st.place;
     let start = pack(place, table);
-    if s.len() < 4 {
+    if !is_within(s, from.at) {
         return stay(from);
     }
     if !start.told {
         return stay(from);
     }
-    let last = s.len() - 4;
+    let last = s.len() - 8;
     let first = from.numbers;
     let mut row = start.row;
     let mut counts = start.counts;
     let mut at = from.at;
     let mut numbers = first;
     while numbers < FULL {
-        if last < at {
+        if last < at + 4 {
             break;
         }
-        let head = head_at(s, at);
-        let tag = head / 256;
-        let next = next_place(table, hints, row, counts, tag);
-        if !next.told {
+        let Led::To(to, next, end) = lead_on(s, at, table, hints, row, counts) else {
             break;
-        }
-        let end = end_at(s, at, head % 256);
-        if s.len() <= end {
-            break;
-        }
-        let to = next.row;
+        };
         if !is_good(s, at, end, to == period) {
             break;
         }
-        let placed = Row {
-            offset: at,
-            group: table[to][GROUP],
-            tag,
-        };
-        put_row(room, numbers, at as u32, placed);
+        put_row(room, numbers, at as u32, placed(table, to, at));
         row = to;
-        counts = next.counts;
+        counts = next;
         at = end + 1;
         numbers += 3;
     }

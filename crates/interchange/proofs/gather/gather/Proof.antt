@@ -7,7 +7,8 @@ use Rattle.interchange.proofs.standing.is_closed.Reads as is-closed-rea
 use Rattle.interchange.proofs.gather.run_on.Reads as run-on-reads
 use Rattle.interchange.proofs.turn.take_turn.Reads as take-turn-reads
 use Rattle.interchange.proofs.rows.put_row.Reads as put-row-reads
-use Rattle.steps.proofs.state.State.moved.Reads as moved-reads
+use Rattle.interchange.proofs.gather.past_end.Reads as past-end-reads
+use Rattle.interchange.proofs.run.Ran.led.Reads as led-reads
 use mathlib.Core.Path.{_≡_, refl, sym, ap, _∙_}
 use mathlib.Core.Bool.{Bool, false}
 use mathlib.Core.List.{List}
@@ -16,6 +17,7 @@ use native.Mathlib.Omega.{arith}
 use borrow.Author.Needs.{needs}
 use denote.Ref.{now}
 use lib.ListN.{length}
+use Rattle.answers.specs.Answers.{wrongEnvelope}
 use Rattle.placing.specs.Table.{Table}
 use Rattle.placing.specs.Tables.{tables as all}
 use Rattle.steps.specs.declared.state.State.{State}
@@ -27,24 +29,41 @@ use Rattle.interchange.specs.Laws.{length-putRow, putRow}
 use Rattle.interchange.specs.Offsets.{turn-on}
 use Rattle.interchange.specs.Room.{roomSize}
 use Rattle.interchange.specs.Moves.{Moved, moved-none, moved-both, moved-turn, moved-as}
-use Rattle.interchange.specs.Chunks.{endedAt, chunk-as, chunk-past, chunk-stop, chunk-ended, chunk-full}
+use Rattle.interchange.specs.Chunks.{gatheredBy, endedAt, chunk-as, chunk-past, chunk-stop, chunk-ended, chunk-full}
 
 abbrev Inv-loop : tie.InvT-loop
-Inv-loop s from tables hints room₀ st₀ at₀ numbers₀ room st at numbers = Moved s st₀ from 0 room₀ st at numbers room × (numbers ≤ roomSize) × (at ≤ length s)
+Inv-loop s from tables hints room₀ st₀ at₀ numbers₀ room st at numbers = Moved s st₀ at₀ numbers₀ room₀ st at numbers room × (numbers ≤ roomSize) × (at ≤ length s)
 
 abbrev μ-loop : tie.MeasureT-loop
 μ-loop s from tables hints room₀ st₀ at₀ numbers₀ room st at numbers = roomSize - numbers
 
+-- the first segments that only move the place on
+module _ (l : tie.After-led Inv-loop μ-loop) where
+  abbrev begun : tie.After-run-on Inv-loop μ-loop
+  begun = l .before .before .before
+
+  abbrev first : tie.Start Inv-loop μ-loop
+  first = begun .before .before .before .before
+
+  began : Moved (now (first .args .s)) (first .args .start) (first .args .from) 0 (now (first .args .room)) (l .led .result) (begun .run-on .result .at) (begun .run-on .result .numbers) (begun .run-on .last .1 .1 .1 .1 .0)
+  began = moved-as (now (first .args .s)) (l .led .ensures) refl (begun .run-on .ensures .0)
+
 -- where the loop stands
 module _ (o : tie.At-loop Inv-loop μ-loop) where
+  abbrev entered : tie.After-led Inv-loop μ-loop
+  entered = o .before
+
   abbrev start : tie.Start Inv-loop μ-loop
-  start = o .before .before .before
+  start = first entered
 
   abbrev list : List ℕ
   list = now (start .args .s)
 
+  so-far : Moved list (start .args .start) (start .args .from) 0 (now (start .args .room)) (o .loop .st) (o .loop .at) (o .loop .numbers) (o .loop .room)
+  so-far = moved-both list (began entered) (o .loop .inv .0)
+
   size : length (o .loop .room) ≡ roomSize
-  size = o .loop .inv .0 .sized ∙ start .pre .3
+  size = so-far .sized ∙ start .pre .3
 
 -- the turn that was taken
 module _ (t : tie.After-take-turn Inv-loop μ-loop) where
@@ -100,24 +119,31 @@ module _ (p : tie.After-put-row Inv-loop μ-loop) where
   put-size : length (p .put-row .last .0) ≡ roomSize
   put-size = ap length (p .put-row .ensures) ∙ length-putRow (here .loop .room) (here .loop .numbers) (row known) ∙ size here
 
-  put-moved : Moved (list here) (start here .args .start) (start here .args .from) 0 (now (start here .args .room)) (next known) (then known) (here .loop .numbers + 3) (p .put-row .last .0)
+  put-moved : Moved (list here) (here .loop .st) (here .loop .at) (here .loop .numbers) (here .loop .room) (next known) (then known) (here .loop .numbers + 3) (p .put-row .last .0)
   put-moved =
       moved-as (list here) refl (p .put-row .ensures)
-      (moved-both (list here) (here .loop .inv .0)
       (moved-turn (list here) (here .loop .st) (here .loop .at) (here .loop .numbers) (here .loop .room) (next known) (row known) (then known)
-      (open-still (taken known)) (inside (taken known)) (on known) (fits known)))
+      (open-still (taken known)) (inside (taken known)) (on known) (fits known))
+
+run-on-requires : tie.Need-run-on-requires Inv-loop μ-loop
+run-on-requires c κs =
+    let p = c .before .before .before .pre in
+    (p .0, p .1, p .2, p .3, omega arith)
+
+led-requires : tie.Need-led-requires Inv-loop μ-loop
+led-requires c κs = search needs
 
 loop-holds : tie.Need-loop-holds Inv-loop μ-loop
 loop-holds c =
-    let s = c .before .before in
-    let a = s .args in
-    (moved-none (now (a .s)) (a .start) (a .from) 0 (now (a .room)), omega arith, s .pre .4)
+    let b = begun c in
+    let a = first c .args in
+    (moved-none (now (a .s)) (c .led .result) (b .run-on .result .at) (b .run-on .result .numbers) (b .run-on .last .1 .1 .1 .1 .0), b .run-on .ensures .1, began c .within (first c .pre .4))
 
 ended-requires : tie.Need-ended-requires Inv-loop μ-loop
 ended-requires c κs = search needs
 
 same-length : tie.Need-same-length Inv-loop μ-loop
-same-length c = c .before .before .before .loop .inv .0 .sized
+same-length c = so-far (c .before .before .before) .sized
 
 returns : tie.Need-returns Inv-loop μ-loop
 returns c =
@@ -125,22 +151,27 @@ returns c =
     let a = start o .args in
     let l = o .loop in (
       chunk-as (list o) (a .start) (a .from) (endedAt (isClosed (l .st .phase)) (l .numbers) (length (list o))) (c .ended .result) (l .room) (sym (c .ended .ensures))
-          (chunk-ended (list o) (a .start) (a .from) (now (a .room)) (l .st) (l .at) (l .numbers) (l .room) (l .inv .0) (c .before .if1 .taken) (l .inv .2) (l .inv .1) (isClosed (l .st .phase)) refl),
+          (chunk-ended (list o) (a .start) (a .from) (now (a .room)) (l .st) (l .at) (l .numbers) (l .room) (so-far o) (c .before .if1 .taken) (l .inv .2) (l .inv .1) (isClosed (l .st .phase)) refl),
       size o,
     )
 
 is-closed-requires : tie.Need-is-closed-requires Inv-loop μ-loop
 is-closed-requires c κs = search needs
 
+past-end-requires : tie.Need-past-end-requires Inv-loop μ-loop
+past-end-requires c κs = search needs
+
 same-length-2 : tie.Need-same-length-2 Inv-loop μ-loop
-same-length-2 c = c .before .before .before .before .loop .inv .0 .sized
+same-length-2 c = so-far (c .before .before .before .before .before) .sized
 
 returns-2 : tie.Need-returns-2 Inv-loop μ-loop
 returns-2 c =
-    let o = c .before .before .before .before in
+    let q = c .before in
+    let o = q .before .before .before .before in
     let a = start o .args in
     let l = o .loop in (
-      chunk-past (list o) (a .start) (a .from) (now (a .room)) (l .st) (l .at) (l .numbers) (l .room) (l .inv .0) (c .before .before .if1 .left) (sym (c .before .is-closed .ensures) ∙ c .if2 .taken),
+      chunk-as (list o) (a .start) (a .from) (gatheredBy (wrongEnvelope (l .at))) (c .past-end .result) (l .room) (sym (c .past-end .ensures))
+          (chunk-past (list o) (a .start) (a .from) (now (a .room)) (l .st) (l .at) (l .numbers) (l .room) (so-far o) (q .before .before .if1 .left) (sym (q .before .is-closed .ensures) ∙ q .if2 .taken)),
       size o,
     )
 
@@ -160,29 +191,29 @@ cast-put-row c =
 put-row-requires : tie.Need-put-row-requires Inv-loop μ-loop
 put-row-requires c κs = (fits (c .before), sym (placed (c .before) .0))
 
-add-gathered : tie.Need-add-gathered Inv-loop μ-loop
-add-gathered c =
+add-t30 : tie.Need-add-t30 Inv-loop μ-loop
+add-t30 c =
     let p = c .before .before in
     let l = fits (known p) in
     let w = size (here p) in
     omega arith
 
-run-on-requires : tie.Need-run-on-requires Inv-loop μ-loop
-run-on-requires c κs =
+run-on-requires-2 : tie.Need-run-on-requires-2 Inv-loop μ-loop
+run-on-requires-2 c κs =
     let p = c .before .before .before in
     let q = start (here p) .pre in
     let l = fits (known p) in
     let w = size (here p) in
     (q .0, q .1, q .2, put-size p, omega arith)
 
-moved-requires : tie.Need-moved-requires Inv-loop μ-loop
-moved-requires c κs = search needs
+led-requires-2 : tie.Need-led-requires-2 Inv-loop μ-loop
+led-requires-2 c κs = search needs
 
 loop-less : tie.Need-loop-less Inv-loop μ-loop
 loop-less c =
-    let r = c .before .before .before .before in
+    let r = c .before .before .before in
     let p = r .before .before .before .before in
-    let e = r .run-on .ensures in
+    let e = r .run-on2 .ensures in
     let o = e .0 .onward in
     let n = e .1 in
     let l = (taken (known p)) .before .before .before .before .loop-test .taken in
@@ -190,19 +221,18 @@ loop-less c =
 
 loop-again : tie.Need-loop-again Inv-loop μ-loop
 loop-again c =
-    let r = c .before .before .before .before in
+    let r = c .before .before .before in
     let p = r .before .before .before .before in
     let h = here p in
-    let a = start h .args in
-    let e = r .run-on .ensures in
-    let m = moved-as (list h) (c .moved .ensures) refl (moved-both (list h) (put-moved p) (e .0)) in
-    (m, e .1, m .within (start h .pre .4))
+    let e = r .run-on2 .ensures in
+    let m = moved-as (list h) (c .led2 .ensures) refl (moved-both (list h) (put-moved p) (e .0)) in
+    (moved-both (list h) (h .loop .inv .0) m, e .1, m .within (h .loop .inv .2))
 
 enum-known-refusal : tie.Need-enum-known-refusal Inv-loop μ-loop
 enum-known-refusal c = search needs
 
 same-length-3 : tie.Need-same-length-3 Inv-loop μ-loop
-same-length-3 c = own (c .before .before .before) .loop .inv .0 .sized
+same-length-3 c = so-far (own (c .before .before .before)) .sized
 
 returns-3 : tie.Need-returns-3 Inv-loop μ-loop
 returns-3 c =
@@ -211,19 +241,19 @@ returns-3 c =
     let a = start o .args in
     let l = o .loop in
     let x = c .before .refusal .given in (
-      chunk-stop (list o) (a .start) (a .from) (now (a .room)) (l .st) (l .at) (l .numbers) (l .room) (l .inv .0) (inside t) (open-still t) (x .0 .0) (turned t (Stop (x .0 .0)) (x .1)),
+      chunk-stop (list o) (a .start) (a .from) (now (a .room)) (l .st) (l .at) (l .numbers) (l .room) (so-far o) (inside t) (open-still t) (x .0 .0) (turned t (Stop (x .0 .0)) (x .1)),
       size o,
     )
 
 same-length-4 : tie.Need-same-length-4 Inv-loop μ-loop
-same-length-4 c = c .before .loop .inv .0 .sized
+same-length-4 c = so-far (c .before) .sized
 
 returns-4 : tie.Need-returns-4 Inv-loop μ-loop
 returns-4 c =
     let o = c .before in
     let a = start o .args in
     let l = o .loop in
-    (chunk-full (list o) (a .start) (a .from) (now (a .room)) (l .st) (l .at) (l .numbers) (l .room) (l .inv .0) (l .inv .2) (l .inv .1) (c .loop-test .left), size o)
+    (chunk-full (list o) (a .start) (a .from) (now (a .room)) (l .st) (l .at) (l .numbers) (l .room) (so-far o) (l .inv .2) (l .inv .1) (c .loop-test .left), size o)
 
 pub gather-spec : {M : Type 1} → statement M
 gather-spec =
@@ -231,20 +261,23 @@ gather-spec =
     (tie.spec
     Inv-loop
     μ-loop
+    run-on-requires
+    led-requires
     loop-holds
     ended-requires
     same-length
     returns
     is-closed-requires
+    past-end-requires
     same-length-2
     returns-2
     take-turn-requires
     enum-known-next
     cast-put-row
     put-row-requires
-    add-gathered
-    run-on-requires
-    moved-requires
+    add-t30
+    run-on-requires-2
+    led-requires-2
     loop-less
     loop-again
     enum-known-refusal

@@ -16,10 +16,9 @@ use denote.Ref.{now}
 use lib.ListN.{getD}
 use Rattle.laws.specs.Choice.{false≢true}
 use Rattle.placing.specs.Table.{rows}
-use Rattle.placing.specs.Walks.{entry-in}
 use Rattle.hints.specs.Kinds.{rowIn}
 use Rattle.hints.specs.Onward.{onward-row}
-use Rattle.interchange.specs.Packs.{next-fits, tells}
+use Rattle.interchange.specs.Packs.{next-fits, leads}
 
 -- the hint that is read leads to a row of the table
 module _ (k : tie.After-slot-of) where
@@ -58,14 +57,8 @@ cast-kind c = search needs
 kept-mask-requires : tie.Need-kept-mask-requires
 kept-mask-requires c κs = search needs
 
-mul-if1 : tie.Need-mul-if1
-mul-if1 c = omega (arith, inside (c .before .before))
-
-index-1-if1 : tie.Need-index-1-if1
-index-1-if1 c = inside (c .before .before)
-
-index-2-if1 : tie.Need-index-2-if1
-index-2-if1 c = search needs
+bound-of-requires : tie.Need-bound-of-requires
+bound-of-requires c κs = search needs
 
 untold-requires : tie.Need-untold-requires
 untold-requires c κs = search needs
@@ -73,34 +66,24 @@ untold-requires c κs = search needs
 returns : tie.Need-returns
 returns c = λ q. absurd (false≢true (sym (c .untold .ensures) ∙ q))
 
-bound-of-requires : tie.Need-bound-of-requires
-bound-of-requires c κs = search needs
-
-untold-requires-2 : tie.Need-untold-requires-2
-untold-requires-2 c κs = search needs
-
-returns-2 : tie.Need-returns-2
-returns-2 c = λ q. absurd (false≢true (sym (c .untold2 .ensures) ∙ q))
-
 more-of-requires : tie.Need-more-of-requires
 more-of-requires c κs = search needs
 
-add-t23 : tie.Need-add-t23
-add-t23 c =
-    let k = c .before .before .before .before .before .before .before in
-    let f = next-fits (hint k % 32) _ (c .before .before .bound-of .result) (c .more-of .result) (omega arith) (c .before .before .bound-of .ensures) (c .more-of .ensures) (c .before .if2 .left) in
+add-t19 : tie.Need-add-t19
+add-t19 c =
+    let k = c .before .before .before .before .before in
+    let f = next-fits (hint k % 32) _ (c .before .before .bound-of .result) (c .more-of .result) (omega arith) (c .before .before .bound-of .ensures) (c .more-of .ensures) (c .before .if1 .left) in
     omega arith
 
-returns-3 : tie.Need-returns-3
-returns-3 c =
+returns-2 : tie.Need-returns-2
+returns-2 c =
     λ _.
-    let k = c .before .before .before .before .before .before .before in
+    let k = c .before .before .before .before .before in
     let a = k .before .args in
-    let m = c .before .before .before .before .before in
+    let m = c .before .before .before in
     let b = c .before .before in
-    tells (now (a .table)) (now (a .hints)) (k .before .pre .2) (a .row) (a .counts) (k .slot-of .result) (k .before .pre .3) (narrow k) (hint k) refl
-    (m .kept-mask .result) (b .bound-of .result) (c .more-of .result) (m .kept-mask .ensures) (b .bound-of .ensures) (c .more-of .ensures) (c .before .if2 .left)
-    (a .tag) _ (sym (entry-in (now (a .table)) (rowIn (hint k)) 1 (omega arith))) (b .before .if1 .left)
+    leads (now (a .table)) (now (a .hints)) (k .before .pre .2) (a .row) (a .counts) (k .slot-of .result) (k .before .pre .3) (narrow k) (hint k) refl
+    (m .kept-mask .result) (b .bound-of .result) (c .more-of .result) (m .kept-mask .ensures) (b .bound-of .ensures) (c .more-of .ensures) (c .before .if1 .left)
 
 pub next-place-spec : {M : Type 1} → statement M
 next-place-spec =
@@ -114,14 +97,9 @@ next-place-spec =
     cast-to
     cast-kind
     kept-mask-requires
-    mul-if1
-    index-1-if1
-    index-2-if1
+    bound-of-requires
     untold-requires
     returns
-    bound-of-requires
-    untold-requires-2
-    returns-2
     more-of-requires
-    add-t23
-    returns-3)
+    add-t19
+    returns-2)

@@ -1,0 +1,49 @@
+//! Where the next segment leads a message, as its hint and a quick look at it tell.
+
+use crate::heads::end_at;
+use crate::heads::head_at;
+use crate::packed::next_place;
+use syntax::segment::Quick;
+ghost use mathlib.Core.Path.{_≡_};
+ghost use Prim.Native.Nat.{_+_, _≤_, _<_};
+ghost use lib.Dec.{T};
+ghost use lib.ListN.{length};
+ghost use Rattle.hints.specs.Told.{right};
+ghost use Rattle.hints.specs.Laws.{Stood};
+ghost use Rattle.hints.specs.Packing.{placeOf};
+ghost use Rattle.interchange.specs.Led.{Lettered, LedTold};
+
+/// Where a segment leads.
+pub(crate) enum Led {
+    /// To a row and the counts of the place there; the terminator's index.
+    To(usize, u64, usize),
+    /// The step has to tell.
+    Unsure,
+}
+
+// The tag's column of a table.
+const TAG: usize = 1;
+
+/// Where the segment at an offset leads from a place.
+pub(crate) fn lead_on(
+    s: &[u8],
+    at: usize,
+    table: &[[u32; 8]],
+    hints: &[[u16; 16]],
+    row: usize,
+    counts: u64,
+) -> Led
+    requires { ⌜ (at + 4 ≤ length (now s)) × (row < length (now hints)) × (length (now hints) ≡ length (now table)) × T (right (now table) (now hints)) × Stood (now table) (placeOf row counts) × Lettered (now table) × (length (now table) ≤ 104) ⌝ }
+    ensures { λ r. ⌜ LedTold (now (s .entry)) at (now (table .entry)) row counts r ⌝ }
+{
+    let head = head_at(s, at);
+    let next = next_place(table, hints, row, counts, head / 256);
+    if !next.told {
+        return Led::Unsure;
+    }
+    let to = next.row;
+    match end_at(s, at, head, table[to][TAG]) {
+        Quick::Ends(end) => Led::To(to, next.counts, end),
+        Quick::Unsure => Led::Unsure,
+    }
+}
