@@ -3,3 +3,4 @@ pub mod Said
 pub mod Laws
 pub mod Ways
 pub mod Written
+pub mod Counted

@@ -52,7 +52,7 @@ module _ (g text : List ℕ) (i : ℕ) where
     unfolding beginsWith
     begins-goes e = rw (drop-here g i h, drop-here text i k, eq-eqb (getD g i 0) (getD text i 0) e)
 
-begins-split : (g text : List ℕ) → beginsWith g text ≡ true → g ≡ text ++ drop (length text) g
+pub begins-split : (g text : List ℕ) → beginsWith g text ≡ true → g ≡ text ++ drop (length text) g
 unfolding beginsWith
 begins-split g [] q = refl
 begins-split [] (t ∷ text) q = absurd (false≢true q)

@@ -4,6 +4,7 @@
 use messages::MessageType;
 use parts::Part;
 ghost use mathlib.Core.Path.{_≡_};
+ghost use mathlib.Core.Bool.{true};
 ghost use Prim.Native.Nat.{ℕ, _≤_};
 ghost use lib.ListN.{length, take};
 ghost use mathlib.Core.List.{[], _∷_};
@@ -42,10 +43,35 @@ fn says_first(part: &[u8], digits: &[u8], n: usize) -> bool
     values::equals(part, &digits[0..n])
 }
 
+// Whether a part is written as the digits of a number, compared from the last on. Where it is not it may still say them, with releases.
+fn is_digits(part: &[u8], n: usize) -> bool
+    ensures { λ r. ⌜ (r ≡ true → sameText (plain (now (part .entry))) (decimalOf n) ≡ true) ⌝ }
+{
+    if 20 < part.len() {
+        return false;
+    }
+    let mut i = part.len();
+    let mut left = n;
+    while 0 < i {
+        i -= 1;
+        if part[i] != 48 + (left % 10) as u8 {
+            return false;
+        }
+        if left < 10 {
+            return i == 0;
+        }
+        left /= 10;
+    }
+    false
+}
+
 /// Whether a part says a number in decimal digits, with no leading zero.
 pub fn is_decimal(part: &[u8], n: usize) -> bool
     ensures { λ r. ⌜ r ≡ sameText (plain (now (part .entry))) (decimalOf n) ⌝ }
 {
+    if is_digits(part, n) {
+        return true;
+    }
     let mut digits = [0u8; 20];
     let count = bytes::put_decimal(&mut digits, 0, n);
     says_first(part, &digits, count)
@@ -254,6 +280,16 @@ pub fn read_uih(segment: &[u8]) -> Headed
     read_any(segment)
 }
 
+// Whether two parts say the same; mostly they are written alike.
+fn says_same(a: &[u8], b: &[u8]) -> bool
+    ensures { λ r. ⌜ r ≡ sameText (plain (now (a .entry))) (plain (now (b .entry))) ⌝ }
+{
+    if a.len() == b.len() && begins(a, b) {
+        return true;
+    }
+    values::same(a, b)
+}
+
 // Where the first component of a trailer's first element stands.
 fn repeated_at(segment: &[u8]) -> Part
     ensures { λ r. ⌜ r ≡ placeOf (now (segment .entry)) 1 1 ⌝ }
@@ -275,7 +311,7 @@ fn check_trailer(segment: &[u8], reference: &[u8], count: usize) -> bool
     if first.is_absent() {
         return false;
     }
-    if !values::same(parts::bytes_of(segment, first), reference) {
+    if !says_same(parts::bytes_of(segment, first), reference) {
         return false;
     }
     let counted = parts::bytes_of(segment, behind(segment, first.to));

@@ -1,11 +1,13 @@
 -- The first component of the first occurrence of an element ends at the first byte that stands as a mark of any kind.
 -- Assumes nothing.
 use mathlib.Core.Path.{_≡_, refl, sym, ap, _∙_}
-use mathlib.Core.Bool.{false}
+use mathlib.Core.Bool.{Bool, false}
 use mathlib.Core.List.{List}
 use Prim.Native.Nat.{ℕ, zero, suc, _+_, _≤_, _<_, min}
 use native.Mathlib.Omega.{arith}
+use lib.Dec.{ltb, leb}
 use lib.ListN.{length, getD}
+use Rattle.laws.specs.Choice.{both, false≢true}
 use Rattle.laws.specs.Lists.{between}
 use Rattle.syntax.specs.Bytes.{componentMark, elementMark, repetitionMark}
 use Rattle.syntax.specs.Firsts.{first-length}
@@ -48,6 +50,13 @@ component-first s g r e n q =
     ap (λ (x : Part). componentAt s (occurrenceAt s x 1) 1) (q ∙ element-some s g e n)
 
 -- ---- the steps of a walk
+
+-- the bytes from `;` to `?`, behind which each mark is looked for in turn
+abbrev pub nearRelease : ℕ → Bool
+nearRelease b = both (ltb 58 b) (leb b 63)
+
+pub no-release : (b : ℕ) → nearRelease b ≡ false → b ≡ 63 → ⊥
+no-release b f q = false≢true (sym f ∙ ap nearRelease q)
 
 cut-inside : (s : List ℕ) (i b c : ℕ) → i ≤ b → cutEnd s i b c ≤ b
 cut-inside s i b c h =

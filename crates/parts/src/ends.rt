@@ -9,7 +9,7 @@ ghost use Prim.Native.Nat.{_≤_, min};
 ghost use lib.Dec.{eqb};
 ghost use lib.ListN.{length};
 ghost use Rattle.parts.specs.Cuts.{cutEnd};
-ghost use Rattle.parts.specs.Component.{componentEnd};
+ghost use Rattle.parts.specs.Component.{componentEnd, nearRelease};
 ghost use Rattle.parts.specs.Texts.{textBits};
 ghost use Rattle.parts.specs.Plain.{plainBits};
 ghost use Rattle.parts.specs.Walked.{WalkTold};
@@ -23,7 +23,7 @@ const ONES: usize = 0x0101_0101_0101_0101;
 
 const RELEASES: usize = 0x3f3f_3f3f_3f3f_3f3f;
 
-// Eight times `*`, and by how much a byte may differ from it, and from `?`, before it is told apart.
+// Eight times `*`, and the rooms by which a byte is told from another where they differ by two or more, and by six or more.
 const STARS: usize = 0x2a2a_2a2a_2a2a_2a2a;
 
 const BY_TWO: usize = 0x7e7e_7e7e_7e7e_7e7e;
@@ -151,7 +151,7 @@ fn pass_text(s: &[u8], from: usize, to: usize) -> usize
     i
 }
 
-// The same by each mark in turn, where there is a release.
+// Where the first component of the element that starts at `from` ends, by each mark in turn: for what may have a release in it.
 fn end_by_each(s: &[u8], from: usize, to: usize) -> usize
     ensures { λ r. ⌜ r ≡ componentEnd (now (s .entry)) from to ⌝ }
 {
@@ -160,8 +160,14 @@ fn end_by_each(s: &[u8], from: usize, to: usize) -> usize
     piece_end(s, from, occurrence, b':')
 }
 
-// Where the first component of the first occurrence of the element that starts at `from` ends: at the first byte that stands as a mark, or
-// with the segment.
+// Whether a byte is one from `;` to `?`: where eight are looked at these are not told from a release.
+fn near_release(b: u8) -> bool
+    ensures { λ r. ⌜ r ≡ nearRelease b ⌝ }
+{
+    b':' < b && b <= b'?'
+}
+
+// Where that component ends, in one walk where there is no release: at the first byte that stands as a mark, or with the segment.
 pub(crate) fn component_end(s: &[u8], from: usize, to: usize) -> usize
     ensures { λ r. ⌜ r ≡ componentEnd (now (s .entry)) from to ⌝ }
 {
@@ -178,7 +184,7 @@ pub(crate) fn component_end(s: &[u8], from: usize, to: usize) -> usize
         if byte == b':' {
             return i;
         }
-        if byte == b'?' {
+        if near_release(byte) {
             return end_by_each(s, i, end);
         }
         i += 1;

@@ -40,7 +40,7 @@ module _ (l : tie.Else1) where
   some =
       leb-false (first (l .before) .to) (first (l .before) .from) (sym (l .before .is-absent .ensures) ∙ l .if1 .left)
 
-module _ (m : tie.After-same) where
+module _ (m : tie.After-says-same) where
   abbrev start : tie.Else1
   start = m .before .before
 
@@ -50,12 +50,12 @@ module _ (m : tie.After-same) where
   abbrev other : List ℕ
   other = plain (reference (start .before))
 
-  repeated : says (valueOf own 1 1) other ≡ m .same .result
+  repeated : says (valueOf own 1 1) other ≡ m .says-same .result
   repeated =
-      sym (m .same .ensures ∙ ap (λ (x : List ℕ). says x other) (m .before .bytes-of .ensures ∙ ap (bytesOf own) (start .before .before .repeated-at .ensures) ∙ value-at own 1 1))
+      sym (m .says-same .ensures ∙ ap (λ (x : List ℕ). says x other) (m .before .bytes-of .ensures ∙ ap (bytesOf own) (start .before .before .repeated-at .ensures) ∙ value-at own 1 1))
 
 module _ (p : tie.After-is-present) where
-  abbrev tested : tie.After-same
+  abbrev tested : tie.After-says-same
   tested = p .before .before .before .before
 
   second : bytesOf (own tested) (p .before .before .behind .result) ≡ valueOf (own tested) 2 1
@@ -79,14 +79,14 @@ returns c = rw (place-absent (segment (c .before)) 1 1 (found (c .before) ∙ c 
 bytes-of-requires : tie.Need-bytes-of-requires
 bytes-of-requires c κs = search needs
 
-same-requires : tie.Need-same-requires
-same-requires c κs = search needs
+says-same-requires : tie.Need-says-same-requires
+says-same-requires c κs = search needs
 
 returns-2 : tie.Need-returns-2
 unfolding trailerOf
 returns-2 c =
     let m = c .before in
-    rw (given (start m), repeated m ∙ not-true (m .same .result) (c .if2 .taken))
+    rw (given (start m), repeated m ∙ not-true (m .says-same .result) (c .if2 .taken))
 
 behind-requires : tie.Need-behind-requires
 behind-requires c κs = search needs
@@ -102,7 +102,7 @@ unfolding trailerOf
 returns-3 c =
     let p = c .before in
     let m = tested p in
-    rw (given (start m), repeated m ∙ not-false (m .same .result) (p .before .before .before .if2 .left), counted p ∙ not-true (p .is-present .result) (c .if3 .taken))
+    rw (given (start m), repeated m ∙ not-false (m .says-same .result) (p .before .before .before .if2 .left), counted p ∙ not-true (p .is-present .result) (c .if3 .taken))
 
 is-decimal-requires : tie.Need-is-decimal-requires
 is-decimal-requires c κs = search needs
@@ -112,7 +112,7 @@ unfolding trailerOf
 returns-4 c =
     let p = c .before .before in
     let m = tested p in
-    rw (given (start m), repeated m ∙ not-false (m .same .result) (p .before .before .before .if2 .left), counted p ∙ not-false (p .is-present .result) (c .before .if3 .left))
+    rw (given (start m), repeated m ∙ not-false (m .says-same .result) (p .before .before .before .if2 .left), counted p ∙ not-false (p .is-present .result) (c .before .if3 .left))
     (c .is-decimal .ensures ∙ ap (λ (x : List ℕ). says x (decimalOf (start m .before .before .before .before .before .args .count))) (p .before .bytes-of2 .ensures ∙ second p))
 
 pub check-trailer-spec : {M : Type 1} → statement M
@@ -123,7 +123,7 @@ check-trailer-spec =
     is-absent-requires
     returns
     bytes-of-requires
-    same-requires
+    says-same-requires
     returns-2
     behind-requires
     bytes-of-requires-2

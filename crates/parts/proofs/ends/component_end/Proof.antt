@@ -1,13 +1,13 @@
 -- `component_end` meets its contract.
 -- Assumes nothing.
-use mathlib.Core.Path.{_≡_, refl, ap, _∙_}
+use mathlib.Core.Path.{_≡_, refl, sym, ap, _∙_}
 use mathlib.Core.List.{List}
 use Prim.Native.Nat.{ℕ, _-_, _≤_, _<_}
 use native.Mathlib.Omega.{arith}
 use borrow.Author.Needs.{needs}
 use denote.Ref.{now}
-use lib.ListN.{length}
-use Rattle.parts.specs.Component.{componentEnd, component-least, component-none, at-element, at-repetition, at-component, component-on}
+use lib.ListN.{length, getD}
+use Rattle.parts.specs.Component.{componentEnd, component-least, component-none, at-element, at-repetition, at-component, component-on, no-release}
 use Rattle.parts.proofs.ends.component_end.Statement.{statement}
 use Rattle.parts.proofs.ends.component_end.Tie as tie
 
@@ -67,25 +67,28 @@ returns-3 c =
     let t = c .before .before .before .before in
     at-component (list t) (here t) (end t) (t .loop-test .taken) (inside t) (c .before .before .if1 .left) (c .before .if2 .left) (c .if3 .taken) ∙ on t
 
+near-release-requires : tie.Need-near-release-requires Inv-loop μ-loop
+near-release-requires c κs = search needs
+
 end-by-each-requires : tie.Need-end-by-each-requires Inv-loop μ-loop
 end-by-each-requires c κs = search needs
 
 returns-4 : tie.Need-returns-4 Inv-loop μ-loop
-returns-4 c = c .end-by-each .ensures ∙ on (c .before .before .before .before .before .before)
+returns-4 c = c .end-by-each .ensures ∙ on (c .before .before .before .before .before .before .before)
 
 add-i : tie.Need-add-i Inv-loop μ-loop
-add-i c = let t = c .before .before .before .before .before in omega (arith, t .loop-test .taken, inside t)
+add-i c = let t = c .before .before .before .before .before .before in omega (arith, t .loop-test .taken, inside t)
 
 loop-less : tie.Need-loop-less Inv-loop μ-loop
-loop-less c = let t = c .before .before .before .before .before in omega (arith, t .loop-test .taken)
+loop-less c = let t = c .before .before .before .before .before .before in omega (arith, t .loop-test .taken)
 
 loop-again : tie.Need-loop-again Inv-loop μ-loop
 loop-again c =
-    let q = c .before in
-    let t = q .before .before .before .before in (
-      inside t,
-      component-on (list t) (here t) (end t) (t .loop-test .taken) (inside t) (q .before .before .if1 .left) (q .before .if2 .left) (q .if3 .left) (c .if4 .left) ∙ on t,
-    )
+    let r = c .before in
+    let q = r .before in
+    let t = q .before .before .before .before in
+    let n = no-release (getD (list t) (here t) 0) (sym (r .near-release .ensures) ∙ c .if4 .left) in
+    (inside t, component-on (list t) (here t) (end t) (t .loop-test .taken) (inside t) (q .before .before .if1 .left) (q .before .if2 .left) (q .if3 .left) n ∙ on t)
 
 returns-5 : tie.Need-returns-5 Inv-loop μ-loop
 returns-5 c =
@@ -105,6 +108,7 @@ component-end-spec =
     returns
     returns-2
     returns-3
+    near-release-requires
     end-by-each-requires
     returns-4
     add-i
