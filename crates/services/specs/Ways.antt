@@ -27,8 +27,8 @@ use Rattle.services.specs.declared.Service.{Service}
 use Rattle.services.specs.declared.Found.the-variants as found
 use Rattle.services.specs.declared.FoundPeriod.the-variants as period
 use Rattle.services.specs.Rows.{offsetAt, isRow, rowCount, firstFrom}
-use Rattle.services.specs.Search.{row-inner, first-past, first-here, first-on, first-bounds, first-skips, first-through, some-holds, list-none, list-some, list-skip}
-use Rattle.services.specs.Inner.{Passes, passes-first}
+use Rattle.services.specs.Search.{row-other, first-past, first-here, first-on, first-bounds, first-skips, first-through, some-holds, list-none, list-some, list-skip}
+use Rattle.services.specs.Inner.{keyOf, key-other, Passes, passes-first}
 use Rattle.services.specs.Extents.{Reaches, reach-end, reach-removes}
 use Rattle.services.specs.Services.{isService, isPeriodRow, segmentOf, serviceNumber, saysNumber, saysRemoval, serviceEnd, removes, serviceAt, nextService, nextPeriod, hasPeriod, isWrong, isSameService, isTwice, testedOf, servicesFrom, periodsFrom, countOn, countedOf}
 
@@ -51,9 +51,10 @@ module _ (s : List ℕ) (i : ℕ) where
     unfolding firstPiece
     body-goes q = rw (drop-here s i h, ne-eqb (getD s i 0) terminator q) (omega arith)
 
--- a search for a period leaves out the rows of groups inside its own
-pub period-pass : (rows : List ℕ) (i to r : ℕ) → to ≤ length rows / 3 → Passes rows 5 i to r → firstFrom (isPeriodRow rows) r to ≡ firstFrom (isPeriodRow rows) i to
-period-pass rows i to r h p = passes-first rows (isPeriodRow rows) 5 i to r p (λ j l g. row-inner rows 4 POP j (omega arith) (λ e. omega arith))
+-- a search for a period leaves out the rows of other tags
+pub period-pass : (rows : List ℕ) (i to r : ℕ) → to ≤ length rows / 3 → Passes (keyOf rows 2 POP) 1 i r → r ≤ to → firstFrom (isPeriodRow rows) r to ≡ firstFrom (isPeriodRow rows) i to
+period-pass rows i to r h p d =
+    passes-first (keyOf rows 2 POP) (isPeriodRow rows) 1 i to r p d (λ j l g. row-other rows 4 POP j (omega arith) (key-other rows 2 POP j g))
 
 -- where a segment stands
 pub segment-is : (s : List ℕ) (at to : ℕ) → to ≡ at + length (bodyAt s at) → record { from = at; to = to } ≡ segmentOf s at
