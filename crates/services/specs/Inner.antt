@@ -1,14 +1,14 @@
 -- Rows that are passed several at a time, by a key of each.
 -- Assumes nothing.
-use Prim.Native.Nat.{ℕ, zero, suc, _+_, _-_, _*_, _/_, _≤_, _<_}
-use mathlib.Core.Path.{_≡_, refl, sym, ap, subst, _∙_}
-use mathlib.Core.Bool.{Bool, true, false}
+use Prim.Native.Nat.{ℕ, zero, suc, _+_, _-_, _*_, _≤_, _<_}
+use mathlib.Core.Path.{_≡_, sym, ap, subst, _∙_}
+use mathlib.Core.Bool.{Bool, false}
 use mathlib.Core.List.{List}
 use native.Mathlib.Omega.{arith}
 use native.Mathlib.Decide.{decLt}
 use lib.Bits.{bitXor, xor-self, xor-zero-r}
-use lib.ListN.{length, getD}
-use Rattle.services.specs.Rows.{isRow, firstFrom}
+use lib.ListN.{getD}
+use Rattle.services.specs.Rows.{firstFrom}
 use Rattle.services.specs.Search.{first-on}
 
 -- one of a row's three numbers, with some bits turned over

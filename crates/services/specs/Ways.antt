@@ -30,7 +30,7 @@ use Rattle.services.specs.Rows.{offsetAt, isRow, rowCount, firstFrom}
 use Rattle.services.specs.Search.{row-other, first-past, first-here, first-on, first-bounds, first-skips, first-through, some-holds, list-none, list-some, list-skip}
 use Rattle.services.specs.Inner.{keyOf, key-other, Passes, passes-first}
 use Rattle.services.specs.Extents.{Reaches, reach-end, reach-removes}
-use Rattle.services.specs.Services.{isService, isPeriodRow, segmentOf, serviceNumber, saysNumber, saysRemoval, serviceEnd, removes, serviceAt, nextService, nextPeriod, hasPeriod, isWrong, isSameService, isTwice, testedOf, servicesFrom, periodsFrom, countOn, countedOf}
+use Rattle.services.specs.Services.{isService, isPeriodRow, segmentOf, serviceNumber, saysNumber, saysRemoval, serviceEnd, removes, serviceAt, nextService, nextPeriod, hasPeriod, numberFits, isWrong, isSameService, isTwice, testedOf, servicesFrom, periodsFrom, countOn, countedOf}
 
 -- one byte of a segment at an index of the input
 module _ (s : List ℕ) (i : ℕ) where
@@ -126,23 +126,19 @@ module _ (s rows : List ℕ) (i m n k : ℕ) (a : n ≡ rowCount rows m) (b : k 
   next-some v e h = rw (sym a, sym b, lt-ltb k n h, e)
 
 -- 11
-module _ (s rows : List ℕ) (v : Service) (n : ℕ) (a : n ≡ length (plain (bytesOf s (v .number)))) where
-  pub wrong-short : n < 1 → true ≡ isWrong s rows v
+module _ (s rows : List ℕ) (v : Service) (fits : Bool) (a : fits ≡ numberFits (length (plain (bytesOf s (v .number))))) where
+  pub wrong-number : fits ≡ false → true ≡ isWrong s rows v
   unfolding isWrong
-  wrong-short h = rw (sym a, lt-leb 1 n h)
+  wrong-number h = rw (sym a, h)
 
-  pub wrong-long : 10 < n → true ≡ isWrong s rows v
-  unfolding isWrong
-  wrong-long h = rw (sym a, le-leb 1 n (omega arith), lt-leb n 10 h)
-
-  module _ (h : 1 ≤ n) (l : n ≤ 10) (x : Bool) (b : x ≡ hasPeriod rows (v .from) (v .to)) where
+  module _ (h : fits ≡ true) (x : Bool) (b : x ≡ hasPeriod rows (v .from) (v .to)) where
     pub wrong-removal : v .removal ≡ true → x ≡ isWrong s rows v
     unfolding isWrong
-    wrong-removal q = rw (sym a, le-leb 1 n h, le-leb n 10 l, sym b, q) (choose x (λ p. rw p) (λ p. rw p))
+    wrong-removal q = rw (sym a, h, sym b, q) (choose x (λ p. rw p) (λ p. rw p))
 
     pub wrong-put : v .removal ≡ false → not x ≡ isWrong s rows v
     unfolding isWrong
-    wrong-put q = rw (sym a, le-leb 1 n h, le-leb n 10 l, sym b, q)
+    wrong-put q = rw (sym a, h, sym b, q)
 
 -- 12: from one service to the next
 same-service : (s rows number : List ℕ) (j : ℕ) → isSameService s rows number j ≡ true → isService rows j ≡ true

@@ -84,6 +84,7 @@ pub(crate) fn period_row(rows: &[u32], from: usize, to: usize) -> usize
     requires { ⌜ to ≤ length (now rows) / 3 ⌝ }
     ensures { λ r. ⌜ r ≡ firstFrom (isPeriodRow (now (rows .entry))) from to ⌝ }
 {
+    // The tag of a POP with the same bits turned over is 0.
     let sought = Sought {
         column: 2,
         turned: POP,
@@ -119,6 +120,7 @@ pub(crate) fn reach_of(rows: &[u32], from: usize, n: usize) -> Extent
     requires { ⌜ n ≤ length (now rows) / 3 ⌝ }
     ensures { λ r. ⌜ Reaches (now (rows .entry)) from n (r .own) (r .to) ⌝ }
 {
+    // Rows of groups inside the service are passed.
     let sought = Sought {
         column: 1,
         turned: 0,
