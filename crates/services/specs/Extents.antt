@@ -12,7 +12,7 @@ use Rattle.laws.specs.Choice.{either}
 use Rattle.messages.specs.Tags.{PRD, MSD, UIT}
 use Rattle.services.specs.Rows.{isRow, firstFrom}
 use Rattle.services.specs.Services.{isService, serviceEnd, removes}
-use Rattle.services.specs.Inner.{Passes, passes-start, passes-one, passes-first}
+use Rattle.services.specs.Inner.{keyOf, key-plain, Passes, passes-one, passes-on, passes-first}
 use Rattle.services.specs.Search.{row-inner, first-past, first-here, first-on, first-bounds, first-skips, first-short, first-none, first-either}
 
 -- the rows of a service end before a row
@@ -57,34 +57,37 @@ module _ (rows : List ℕ) (from n own i : ℕ) (w : Walked rows from n own i) w
         record { starts = omega arith; within = omega arith; onward = sym (first-on (endsService rows) i n h q) ∙ w .onward; free = λ j a b. absurd (omega arith) }
 
   -- rows of groups inside the service
-  pub walked-pass : (r : ℕ) → n ≤ length rows / 3 → Passes rows 3 i n r → Walked rows from n own r
-  walked-pass r l p =
+  pub walked-pass : (r : ℕ) → n ≤ length rows / 3 → Passes (keyOf rows 1 0) 3 i r → r ≤ n → Walked rows from n own r
+  walked-pass r l p d =
       let a = p .onward in
       let b = w .within in
-      let d = p .within in
       record {
         starts = w .starts;
         within = omega arith;
-        onward = passes-first rows (endsService rows) 3 i n r p goes-on ∙ w .onward;
+        onward = passes-first (keyOf rows 1 0) (endsService rows) 3 i n r p d goes-on ∙ w .onward;
         free = free-here;
       }
     where
-      goes-on : (j : ℕ) → j < n → 3 ≤ getD rows (3 * j + 1) 0 → endsService rows j ≡ false
-      goes-on j h g = rw (row-inner rows 2 PRD j (omega arith) (λ e. omega arith), row-inner rows 0 UIT j (omega arith) (λ e. omega arith))
+      goes-on : (j : ℕ) → j < n → 3 ≤ keyOf rows 1 0 j → endsService rows j ≡ false
+      goes-on j h g =
+          let e = key-plain rows 1 j in
+          rw (row-inner rows 2 PRD j (omega arith) (λ x. omega arith), row-inner rows 0 UIT j (omega arith) (λ x. omega arith))
 
       free-here : (j : ℕ) → own ≤ j → j < r → isRow rows 2 MSD j ≡ false
       free-here j a b =
-          let d = p .within in
           elim (decLt j i) [
             | yes m ↦ w .free j a m
             | no m ↦
                 let g = p .inner j (omega arith) b in
+                let e = key-plain rows 1 j in
                 row-inner rows 2 MSD j (omega arith) (λ x. omega arith)
           ]
 
-  -- one such row
-  pub walked-inner : i < n → n ≤ length rows / 3 → 3 ≤ getD rows (3 * i + 1) 0 → Walked rows from n own (i + 1)
-  walked-inner h l g = walked-pass (i + 1) l (passes-one rows 3 i n i (passes-start rows 3 i n (omega arith)) h g)
+  -- from one such row on
+  pub walked-inner : (r : ℕ) → n ≤ length rows / 3 → 3 ≤ getD rows (3 * i + 1) 0 → Passes (keyOf rows 1 0) 3 (i + 1) r → r ≤ n → Walked rows from n own r
+  walked-inner r l g p d =
+      let e = key-plain rows 1 i in
+      walked-pass r l (passes-on (keyOf rows 1 0) 3 i (i + 1) r (passes-one (keyOf rows 1 0) 3 i (omega arith)) p) d
 
 -- the two searches of the definition are that one
 pub reach-end : (rows : List ℕ) (k n own to : ℕ) → Reaches rows (k + 1) n own to → to ≡ serviceEnd rows n k

@@ -6,17 +6,18 @@ use mathlib.Core.Bool.{Bool, true, false}
 use mathlib.Core.List.{List, [], _∷_}
 use mathlib.Core.Logic.{_⊎_, inl, inr, ⊎-elim}
 use native.Mathlib.Omega.{arith}
-use borrow.Author.Tests.{eqb-true, ne-eqb, ltb-true, leb-true}
-use lib.Dec.{eqb, ltb, leb}
+use borrow.Author.Tests.{ne-eqb, le-leb, lt-leb}
+use lib.Dec.{eqb, leb}
 use lib.ListN.{length, getD, drop}
 use Rattle.laws.specs.Choice.{pick, either, choose, false≢true}
 use Rattle.laws.specs.Lists.{between, drop-here}
+use Rattle.syntax.specs.Bytes.{releaseMark, releases, stands, plainOn, plain}
 use Rattle.syntax.specs.Pieces.{firstPiece, laterPieces, pieces, elements, nth}
 use Rattle.syntax.specs.Segment.{bodyAt}
 use Rattle.parts.specs.declared.Part.{Part}
 use Rattle.parts.specs.Places.{bytesOf, spanOf, countedAt, elementAt}
 use Rattle.parts.specs.Located.{span-bytes, element-bytes}
-use Rattle.services.specs.Services.{segmentOf, serviceNumber}
+use Rattle.services.specs.Services.{segmentOf, serviceNumber, numberFits}
 use Rattle.services.specs.Ways.{segment-bytes}
 
 -- a digit, or a byte behind the service characters
@@ -80,6 +81,33 @@ product-here s at h a b c d =
           ∙ rw (b, two) (ap (λ (l : List ℕ). 82 ∷ l) (drop-here s (at + 2) (omega arith)
           ∙ rw (c, three) (ap (λ (l : List ℕ). 68 ∷ l) (drop-here s (at + 3) (omega arith) ∙ rw (d, four)))))));
     }
+
+-- after release a text has no more bytes than written, and some where it has two or more
+plain-few : (r : Bool) (l : List ℕ) → length (plainOn r l) ≤ length l
+unfolding plainOn
+plain-few r [] = omega arith
+plain-few r (b ∷ l) =
+    let h = plain-few (releases r b) l in
+    choose (stands releaseMark r b) (λ p. rw p (omega arith)) (λ p. rw p (omega arith))
+
+plain-some : (l : List ℕ) → 2 ≤ length l → 1 ≤ length (plain l)
+unfolding plainOn
+plain-some [] h = absurd (omega arith)
+plain-some (b ∷ []) h = absurd (omega arith)
+plain-some (b ∷ c ∷ l) h = choose (eqb b releaseMark) (λ p. rw p (omega arith)) (λ p. rw p (omega arith))
+
+pub fits-short : (l : List ℕ) → 2 ≤ length l → length l ≤ 10 → true ≡ numberFits (length (plain l))
+fits-short l h k =
+    let a = plain-few false l in
+    let b = plain-some l h in
+    rw (le-leb 1 (length (plain l)) b, le-leb (length (plain l)) 10 (omega arith))
+
+module _ (l : List ℕ) (n : ℕ) (a : n ≡ length (plain l)) where
+  pub fits-none : n < 1 → false ≡ numberFits (length (plain l))
+  fits-none h = rw (sym a, lt-leb 1 n h)
+
+  pub fits-few : 1 ≤ n → leb n 10 ≡ numberFits (length (plain l))
+  fits-few h = rw (sym a, le-leb 1 n h)
 
 -- the first piece of a part whose bytes are known
 module _ (s : List ℕ) (p : Part) (c : ℕ) (n : eqb c 63 ≡ false) (t : List ℕ) (e : bytesOf s p ≡ t) where

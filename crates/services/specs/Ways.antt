@@ -27,10 +27,10 @@ use Rattle.services.specs.declared.Service.{Service}
 use Rattle.services.specs.declared.Found.the-variants as found
 use Rattle.services.specs.declared.FoundPeriod.the-variants as period
 use Rattle.services.specs.Rows.{offsetAt, isRow, rowCount, firstFrom}
-use Rattle.services.specs.Search.{row-inner, first-past, first-here, first-on, first-bounds, first-skips, first-through, some-holds, list-none, list-some, list-skip}
-use Rattle.services.specs.Inner.{Passes, passes-first}
+use Rattle.services.specs.Search.{row-other, first-past, first-here, first-on, first-bounds, first-skips, first-through, some-holds, list-none, list-some, list-skip}
+use Rattle.services.specs.Inner.{keyOf, key-other, Passes, passes-first}
 use Rattle.services.specs.Extents.{Reaches, reach-end, reach-removes}
-use Rattle.services.specs.Services.{isService, isPeriodRow, segmentOf, serviceNumber, saysNumber, saysRemoval, serviceEnd, removes, serviceAt, nextService, nextPeriod, hasPeriod, isWrong, isSameService, isTwice, testedOf, servicesFrom, periodsFrom, countOn, countedOf}
+use Rattle.services.specs.Services.{isService, isPeriodRow, segmentOf, serviceNumber, saysNumber, saysRemoval, serviceEnd, removes, serviceAt, nextService, nextPeriod, hasPeriod, numberFits, isWrong, isSameService, isTwice, testedOf, servicesFrom, periodsFrom, countOn, countedOf}
 
 -- one byte of a segment at an index of the input
 module _ (s : List ℕ) (i : ℕ) where
@@ -51,9 +51,10 @@ module _ (s : List ℕ) (i : ℕ) where
     unfolding firstPiece
     body-goes q = rw (drop-here s i h, ne-eqb (getD s i 0) terminator q) (omega arith)
 
--- a search for a period leaves out the rows of groups inside its own
-pub period-pass : (rows : List ℕ) (i to r : ℕ) → to ≤ length rows / 3 → Passes rows 5 i to r → firstFrom (isPeriodRow rows) r to ≡ firstFrom (isPeriodRow rows) i to
-period-pass rows i to r h p = passes-first rows (isPeriodRow rows) 5 i to r p (λ j l g. row-inner rows 4 POP j (omega arith) (λ e. omega arith))
+-- a search for a period leaves out the rows of other tags
+pub period-pass : (rows : List ℕ) (i to r : ℕ) → to ≤ length rows / 3 → Passes (keyOf rows 2 POP) 1 i r → r ≤ to → firstFrom (isPeriodRow rows) r to ≡ firstFrom (isPeriodRow rows) i to
+period-pass rows i to r h p d =
+    passes-first (keyOf rows 2 POP) (isPeriodRow rows) 1 i to r p d (λ j l g. row-other rows 4 POP j (omega arith) (key-other rows 2 POP j g))
 
 -- where a segment stands
 pub segment-is : (s : List ℕ) (at to : ℕ) → to ≡ at + length (bodyAt s at) → record { from = at; to = to } ≡ segmentOf s at
@@ -125,23 +126,19 @@ module _ (s rows : List ℕ) (i m n k : ℕ) (a : n ≡ rowCount rows m) (b : k 
   next-some v e h = rw (sym a, sym b, lt-ltb k n h, e)
 
 -- 11
-module _ (s rows : List ℕ) (v : Service) (n : ℕ) (a : n ≡ length (plain (bytesOf s (v .number)))) where
-  pub wrong-short : n < 1 → true ≡ isWrong s rows v
+module _ (s rows : List ℕ) (v : Service) (fits : Bool) (a : fits ≡ numberFits (length (plain (bytesOf s (v .number))))) where
+  pub wrong-number : fits ≡ false → true ≡ isWrong s rows v
   unfolding isWrong
-  wrong-short h = rw (sym a, lt-leb 1 n h)
+  wrong-number h = rw (sym a, h)
 
-  pub wrong-long : 10 < n → true ≡ isWrong s rows v
-  unfolding isWrong
-  wrong-long h = rw (sym a, le-leb 1 n (omega arith), lt-leb n 10 h)
-
-  module _ (h : 1 ≤ n) (l : n ≤ 10) (x : Bool) (b : x ≡ hasPeriod rows (v .from) (v .to)) where
+  module _ (h : fits ≡ true) (x : Bool) (b : x ≡ hasPeriod rows (v .from) (v .to)) where
     pub wrong-removal : v .removal ≡ true → x ≡ isWrong s rows v
     unfolding isWrong
-    wrong-removal q = rw (sym a, le-leb 1 n h, le-leb n 10 l, sym b, q) (choose x (λ p. rw p) (λ p. rw p))
+    wrong-removal q = rw (sym a, h, sym b, q) (choose x (λ p. rw p) (λ p. rw p))
 
     pub wrong-put : v .removal ≡ false → not x ≡ isWrong s rows v
     unfolding isWrong
-    wrong-put q = rw (sym a, le-leb 1 n h, le-leb n 10 l, sym b, q)
+    wrong-put q = rw (sym a, h, sym b, q)
 
 -- 12: from one service to the next
 same-service : (s rows number : List ℕ) (j : ℕ) → isSameService s rows number j ≡ true → isService rows j ≡ true

@@ -1,10 +1,12 @@
 //! The services of an accepted interchange, one by one, and the tests 11 and 12 (document 01, "The register", Stage).
 //! The rows are those that the reader wrote: three numbers each, offset, group and tag. Any other numbers do no harm.
 
+mod eights;
 mod numbers;
 mod rows;
 mod segments;
 
+use crate::numbers::number_fits;
 use crate::rows::first_row;
 use crate::rows::offset_of;
 use crate::rows::period_row;
@@ -148,11 +150,7 @@ pub fn is_wrong(s: &[u8], rows: &[u32], service: Service) -> bool
     ensures { λ r. ⌜ r ≡ isWrong (now (s .entry)) (now (rows .entry)) service ⌝ }
 {
     let number = service.number;
-    let length = values::plain_length(bytes_of(s, number));
-    if length < 1 {
-        return true;
-    }
-    if 10 < length {
+    if !number_fits(bytes_of(s, number)) {
         return true;
     }
     let carries = has_period(rows, service.from, service.to);

@@ -1,5 +1,7 @@
 //! Rows in a buffer: three numbers each, offset, group and tag.
 
+use crate::eights::Sought;
+use crate::eights::past_others;
 use messages::POP;
 use messages::PRD;
 use messages::UIT;
@@ -8,7 +10,6 @@ ghost use Prim.Native.Nat.{_+_, _*_, _/_, _≤_, _<_};
 ghost use lib.ListN.{length, getD};
 ghost use Rattle.services.specs.Rows.{offsetAt, isRow, rowCount, firstFrom};
 ghost use Rattle.services.specs.Services.{isPeriodRow};
-ghost use Rattle.services.specs.Inner.{Passes};
 ghost use Rattle.services.specs.Extents.{endsService, Reaches};
 
 /// How far the rows of a service go.
@@ -52,31 +53,6 @@ fn group_of(rows: &[u32], i: usize) -> u32
     rows[3 * i + 1]
 }
 
-// Past rows that are all of a group or of later ones: most rows of a service are of groups inside it. Four at a time, so that up to three
-// of them may be left.
-fn past_inner(rows: &[u32], from: usize, to: usize, group: u32) -> usize
-    requires { ⌜ (from ≤ to) × (to ≤ length (now rows) / 3) ⌝ }
-    ensures { λ r. ⌜ Passes (now (rows .entry)) group from to r ⌝ }
-{
-    let mut i = from;
-    while i + 4 <= to {
-        if group_of(rows, i) < group {
-            return i;
-        }
-        if group_of(rows, i + 1) < group {
-            return i + 1;
-        }
-        if group_of(rows, i + 2) < group {
-            return i + 2;
-        }
-        if group_of(rows, i + 3) < group {
-            return i + 3;
-        }
-        i += 4;
-    }
-    i
-}
-
 // Whether row i has a group and a tag.
 fn is_row(rows: &[u32], i: usize, group: u32, tag: u32) -> bool
     requires { ⌜ i < length (now rows) / 3 ⌝ }
@@ -108,9 +84,15 @@ pub(crate) fn period_row(rows: &[u32], from: usize, to: usize) -> usize
     requires { ⌜ to ≤ length (now rows) / 3 ⌝ }
     ensures { λ r. ⌜ r ≡ firstFrom (isPeriodRow (now (rows .entry))) from to ⌝ }
 {
+    // The tag of a POP with the same bits turned over is 0.
+    let sought = Sought {
+        column: 2,
+        turned: POP,
+        bound: 1,
+    };
     let mut i = from;
     while i < to {
-        i = past_inner(rows, i, to, 5);
+        i = past_others(rows, i, to, sought);
         if to <= i {
             return i;
         }
@@ -138,20 +120,24 @@ pub(crate) fn reach_of(rows: &[u32], from: usize, n: usize) -> Extent
     requires { ⌜ n ≤ length (now rows) / 3 ⌝ }
     ensures { λ r. ⌜ Reaches (now (rows .entry)) from n (r .own) (r .to) ⌝ }
 {
+    // Rows of groups inside the service are passed.
+    let sought = Sought {
+        column: 1,
+        turned: 0,
+        bound: 3,
+    };
     let mut own = from;
     let mut i = from;
     while i < n {
-        i = past_inner(rows, i, n, 3);
-        if n <= i {
-            return Extent { own, to: i };
-        }
         if group_of(rows, i) < 3 {
             if is_end(rows, i) {
                 return Extent { own, to: i };
             }
-            own = i + 1;
+            i += 1;
+            own = i;
+            continue;
         }
-        i += 1;
+        i = past_others(rows, i + 1, n, sought);
     }
     Extent { own, to: i }
 }

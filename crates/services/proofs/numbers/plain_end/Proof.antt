@@ -1,6 +1,6 @@
 -- `services::numbers::plain_end` meets its contract: the number ends where what is left of it does.
 -- Assumes nothing.
-use mathlib.Core.Path.{_≡_, refl, sym, _∙_}
+use mathlib.Core.Path.{_≡_, sym, _∙_}
 use Prim.Native.Nat.{_-_}
 use native.Mathlib.Omega.{arith}
 use borrow.Author.Needs.{needs}
@@ -17,8 +17,11 @@ Inv-loop s from i₀ i = numberEnd s i ≡ numberEnd s from
 abbrev μ-loop : tie.MeasureT-loop
 μ-loop s from i₀ i = length s - i
 
+past-plain-requires : tie.Need-past-plain-requires Inv-loop μ-loop
+past-plain-requires c κs = search needs
+
 loop-holds : tie.Need-loop-holds Inv-loop μ-loop
-loop-holds c = refl
+loop-holds c = sym (c .past-plain .ensures)
 
 shared-slice-read-b : tie.Need-shared-slice-read-b Inv-loop μ-loop
 shared-slice-read-b c = omega arith
@@ -34,7 +37,7 @@ returns c =
     let p = c .before in
     let b = p .before .before .before .before in
     let o = b .before in
-    let a = o .before .before .args in
+    let a = o .before .before .before .args in
     λ h. sym (number-stops (now (a .s)) (o .loop .i) (b .loop-test .taken) (p .is-closing .ensures (c .if2 .taken))) ∙ o .loop .inv
 
 returns-2 : tie.Need-returns-2 Inv-loop μ-loop
@@ -51,7 +54,7 @@ loop-again c =
     let p = c .before in
     let b = p .before .before in
     let o = b .before in
-    let a = o .before .before .args in
+    let a = o .before .before .before .args in
     sym (number-on (now (a .s)) (o .loop .i) (b .loop-test .taken) (p .is-plain .ensures (not-false (p .is-plain .result) (c .if1 .left)))) ∙ o .loop .inv
 
 returns-3 : tie.Need-returns-3 Inv-loop μ-loop
@@ -63,6 +66,7 @@ plain-end-spec =
     (tie.spec
     Inv-loop
     μ-loop
+    past-plain-requires
     loop-holds
     shared-slice-read-b
     is-plain-requires
