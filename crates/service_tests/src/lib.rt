@@ -11,6 +11,7 @@ use period::Period;
 use period::read_period;
 use service_entries::Known;
 use service_entries::held;
+use service_entries::number_of;
 use service_entries::put_order;
 use services::Found;
 use services::FoundPeriod;
@@ -38,7 +39,7 @@ ghost use Rattle.stages.specs.Stage.{numberIn, outsideBy, firstOutside, daysOf}
 ghost use Rattle.service_tests.specs.Tests.{windowFound, totalsAnswer, unknownBy, adds, drops, removals, testKnown, testInside, testAll, noTotals};
 ghost use Rattle.service_tests.specs.Marks.{markOf, Marked};
 ghost use Rattle.service_tests.specs.Orders.{ordersAll};
-ghost use Rattle.service_entries.specs.Room.{lookAt};
+ghost use Rattle.service_entries.specs.Room.{heldAt, lookAt};
 
 /// What the services of an interchange come to.
 pub struct Totals {
@@ -216,12 +217,11 @@ fn is_unknown(removal: bool, held: Known) -> bool
 }
 
 // Tests a service for 14, and counts it.
-fn test_known(room: &[u8], s: &[u8], service: Service, totals: Totals) -> Tested
+fn test_known(room: &[u8], number: [u8; 10], service: Service, totals: Totals) -> Tested
     requires { ⌜ (totals .services < 18446744073709551615) × (totals .added < 18446744073709551615) × (totals .dropped < 18446744073709551615) × (totals .removals < 18446744073709551615) ⌝ }
-    ensures { λ r. ⌜ totalsAnswer r ≡ testKnown (service .removal) (service .prd) (lookAt (now (room .entry)) (numberIn (now (s .entry)) service)) totals ⌝ }
+    ensures { λ r. ⌜ totalsAnswer r ≡ testKnown (service .removal) (service .prd) (heldAt (now (room .entry)) number) totals ⌝ }
 {
-    let number = service.number;
-    let known = held(room, s, number);
+    let known = held(room, number);
     if is_unknown(service.removal, known) {
         return refuse(14, service.prd);
     }
@@ -254,12 +254,18 @@ fn test_number(marks: &mut [u8], s: &[u8], rows: &[u32], service: Service) -> se
 }
 
 // Tests a service that passes 11 and 12 for 13 and 14, and counts it.
-fn test_one(room: &[u8], s: &[u8], service: Service, window: Window, totals: Totals) -> Tested
+fn test_one(
+    room: &[u8],
+    number: [u8; 10],
+    service: Service,
+    window: Window,
+    totals: Totals,
+) -> Tested
     requires { ⌜ (totals .services < 18446744073709551615) × (totals .added < 18446744073709551615) × (totals .dropped < 18446744073709551615) × (totals .removals < 18446744073709551615) ⌝ }
-    ensures { λ r. ⌜ totalsAnswer r ≡ testInside (windowFound window) (testKnown (service .removal) (service .prd) (lookAt (now (room .entry)) (numberIn (now (s .entry)) service)) totals) ⌝ }
+    ensures { λ r. ⌜ totalsAnswer r ≡ testInside (windowFound window) (testKnown (service .removal) (service .prd) (heldAt (now (room .entry)) number) totals) ⌝ }
 {
     match window {
-        Window::Inside => test_known(room, s, service, totals),
+        Window::Inside => test_known(room, number, service, totals),
         Window::Outside(at) => refuse(13, at),
     }
 }
@@ -288,12 +294,14 @@ pub fn test_all(
         match next_service(s, rows, n, i) {
             Found::At(service) => match test_number(&mut marks, s, rows, service) {
                 services::Tested::Good => {
+                    let part = service.number;
+                    let number = number_of(s, part);
                     let joined = join_days(first, s, rows, service.from, service.to);
                     let window = joined.window;
                     let days = joined.days;
-                    match test_one(room, s, service, window, totals) {
+                    match test_one(room, number, service, window, totals) {
                         Tested::Passed(more) => {
-                            put_order(orders, totals.services, s, service, days);
+                            put_order(orders, totals.services, number, service.removal, days);
                             i = service.to;
                             totals = more;
                         }

@@ -15,9 +15,11 @@ use Rattle.services.specs.Services.{periodsOf, servicesFrom, servicesOf}
 use Rattle.services.specs.Ways.{Next, next-found, next-gone}
 use Rattle.stages.specs.Stage.{numberIn, daysOf}
 use Rattle.service_entries.specs.Room.{numberBytes, lookAt}
+use Rattle.service_entries.specs.declared.Known.{Known}
 use Rattle.service_entries.specs.Orders.{flagOf, ordered}
+use Rattle.service_entries.specs.Ways.{look-held}
 use Rattle.service_tests.specs.declared.Totals.{Totals}
-use Rattle.service_tests.specs.Tests.{totalsAnswer, windowFound, testOne, testAll, noTotals}
+use Rattle.service_tests.specs.Tests.{totalsAnswer, windowFound, testKnown, testInside, testOne, testAll, noTotals}
 use Rattle.service_tests.specs.Marks.{Marked, marked-start, marked-to, marked-on}
 use Rattle.service_tests.specs.Passed.{passed}
 use Rattle.service_tests.specs.Orders.{ordersAll, orders-done, orders-on, orders-stop}
@@ -63,7 +65,7 @@ abbrev found : tie.After-test-number Inv-loop μ-loop → tie.After-service Inv-
 found t = t .before .before .before
 
 abbrev numbered : tie.After-test-one Inv-loop μ-loop → tie.After-test-number Inv-loop μ-loop
-numbered o = o .before .before .before .before .before .before
+numbered o = o .before .before .before .before .before .before .before .before
 
 -- and tested for the rest
 module _ (o : tie.After-test-one Inv-loop μ-loop) where
@@ -75,8 +77,10 @@ module _ (o : tie.After-test-one Inv-loop μ-loop) where
       let j = o .before .before in
       let a = start at .args in
       o .test-one .ensures
+      ∙ ap (λ (k : Known). testInside (windowFound (j .join-days .result .window)) (testKnown (service at .removal) (service at .prd) k (own at .loop .totals)))
+      (look-held (now (a .room)) (j .before .number-of .result) (numberIn (now (a .s)) (service at)) (j .before .number-of .ensures))
       ∙ one-tested (now (a .s)) (now (a .rows)) (service at) (a .first) (lookAt (now (a .room))) (own at .loop .totals)
-      (sym (sym (numbered o .test-number .ensures .0) ∙ ap services.testedAnswer (j .before .enum-told .given .1))) (windowFound (j .join-days .result .window)) (j .join-days .ensures .0)
+      (sym (sym (numbered o .test-number .ensures .0) ∙ ap services.testedAnswer (j .before .before .before .enum-told .given .1))) (windowFound (j .join-days .result .window)) (j .join-days .ensures .0)
 
   days-joined : (u : Totals) → totalsAnswer (o .test-one .result) ≡ done u → o .before .before .join-days .result .days ≡ daysOf (start at .args .first) (now (start at .args .s)) (periodsOf (now (start at .args .rows)) (service at))
   days-joined u e =
@@ -114,12 +118,15 @@ few : (t : Totals) (i : ℕ) → (t .services ≤ i) × (t .added ≤ i) × (t .
     → (t .services < 18446744073709551615) × (t .added < 18446744073709551615) × (t .dropped < 18446744073709551615) × (t .removals < 18446744073709551615)
 few t i v h = (omega arith, omega arith, omega arith, omega arith)
 
+number-of-requires : tie.Need-number-of-requires Inv-loop μ-loop
+number-of-requires c κs = search needs
+
 join-days-requires : tie.Need-join-days-requires Inv-loop μ-loop
 join-days-requires c κs = search needs
 
 test-one-requires : tie.Need-test-one-requires Inv-loop μ-loop
 test-one-requires c κs =
-    let f = found (c .before .before .before .before .before) in
+    let f = found (c .before .before .before .before .before .before .before) in
     let w = next f in
     let k = start f .fits .n in
     few (own f .loop .totals) (own f .loop .i) (own f .loop .inv .0) (omega arith)
@@ -149,7 +156,9 @@ loop-again c =
     let u = m .more .given .0 .0 in
     let e = sym (ap totalsAnswer (m .more .given .1)) ∙ tested o in
     let h = one-more (a .first) (now (a .s)) (now (a .rows)) (lookAt (now (a .room))) (service f) (l .totals) u e in
-    let d = ap (λ (x : List ℕ). ordered (l .orders) (l .totals .services) (numberBytes (numberIn (now (a .s)) (service f)) ++ (flagOf (service f .removal) ∷ x))) (days-joined o u (ap totalsAnswer (m .more .given .1))) in (
+    let x = o .before .before .before .number-of in
+    let d = ap (λ (y : List ℕ). ordered (l .orders) (l .totals .services) (y ++ (flagOf (service f .removal) ∷ o .before .before .join-days .result .days))) (x .ensures)
+    ∙ ap (λ (y : List ℕ). ordered (l .orders) (l .totals .services) (numberBytes (numberIn (now (a .s)) (service f)) ++ (flagOf (service f .removal) ∷ y))) (days-joined o u (ap totalsAnswer (m .more .given .1))) in (
       (omega arith, omega arith, omega arith, omega arith),
       subst (λ (l : List ℕ). Marked l (now (a .s)) (now (a .rows)) (service f .to)) (sym (t .test-number .ensures .1))
           (marked-on (l .marks) (now (a .s)) (now (a .rows)) (l .i) (v .1) (a .n) (service f) w),
@@ -228,6 +237,7 @@ test-all-spec =
     slice-aggregate-test-number
     test-number-requires
     enum-told
+    number-of-requires
     join-days-requires
     test-one-requires
     enum-known-more
