@@ -60,12 +60,15 @@ module _ (f : tie.After-service Inv-loop μ-loop) where
   abbrev rest : List Service
   rest = servicesFrom (now (start .args .s)) (now (start .args .rows)) (rowCount (now (start .args .rows)) (start .args .n)) (service .to)
 
--- and its number tested
+-- and its number copied and tested
+abbrev copied : tie.After-test-number Inv-loop μ-loop → tie.After-number-of Inv-loop μ-loop
+copied t = t .before .before
+
 abbrev found : tie.After-test-number Inv-loop μ-loop → tie.After-service Inv-loop μ-loop
-found t = t .before .before .before
+found t = t .before .before .before .before .before
 
 abbrev numbered : tie.After-test-one Inv-loop μ-loop → tie.After-test-number Inv-loop μ-loop
-numbered o = o .before .before .before .before .before .before .before .before
+numbered o = o .before .before .before .before .before .before
 
 -- and tested for the rest
 module _ (o : tie.After-test-one Inv-loop μ-loop) where
@@ -78,9 +81,9 @@ module _ (o : tie.After-test-one Inv-loop μ-loop) where
       let a = start at .args in
       o .test-one .ensures
       ∙ ap (λ (k : Known). testInside (windowFound (j .join-days .result .window)) (testKnown (service at .removal) (service at .prd) k (own at .loop .totals)))
-      (look-held (now (a .room)) (j .before .number-of .result) (numberIn (now (a .s)) (service at)) (j .before .number-of .ensures))
+      (look-held (now (a .room)) (copied (numbered o) .number-of .result) (numberIn (now (a .s)) (service at)) (copied (numbered o) .number-of .ensures))
       ∙ one-tested (now (a .s)) (now (a .rows)) (service at) (a .first) (lookAt (now (a .room))) (own at .loop .totals)
-      (sym (sym (numbered o .test-number .ensures .0) ∙ ap services.testedAnswer (j .before .before .before .enum-told .given .1))) (windowFound (j .join-days .result .window)) (j .join-days .ensures .0)
+      (sym (sym (numbered o .test-number .ensures .0) ∙ ap services.testedAnswer (j .before .enum-told .given .1))) (windowFound (j .join-days .result .window)) (j .join-days .ensures .0)
 
   days-joined : (u : Totals) → totalsAnswer (o .test-one .result) ≡ done u → o .before .before .join-days .result .days ≡ daysOf (start at .args .first) (now (start at .args .s)) (periodsOf (now (start at .args .rows)) (service at))
   days-joined u e =
@@ -102,14 +105,17 @@ enum-known-service c = search needs
 
 slice-aggregate-test-number : tie.Need-slice-aggregate-test-number Inv-loop μ-loop
 slice-aggregate-test-number c =
-    let e = own (c .before .before) .loop .inv .1 .size in
+    let e = own (c .before .before .before .before) .loop .inv .1 .size in
     omega arith
 
 test-number-requires : tie.Need-test-number-requires Inv-loop μ-loop
 test-number-requires c κs =
-    let f = c .before .before in
-    let a = start f .args in
-    marked-to (own f .loop .marks) (now (a .s)) (now (a .rows)) (own f .loop .i) (own f .loop .inv .1) (a .n) (service f) (next f)
+    let n = c .before in
+    let f = n .before .before .before in
+    let a = start f .args in (
+      marked-to (own f .loop .marks) (now (a .s)) (now (a .rows)) (own f .loop .i) (own f .loop .inv .1) (a .n) (service f) (next f),
+      n .number-of .ensures,
+    )
 
 enum-told : tie.Need-enum-told Inv-loop μ-loop
 enum-told c = search needs
@@ -126,7 +132,7 @@ join-days-requires c κs = search needs
 
 test-one-requires : tie.Need-test-one-requires Inv-loop μ-loop
 test-one-requires c κs =
-    let f = found (c .before .before .before .before .before .before .before) in
+    let f = found (c .before .before .before .before .before) in
     let w = next f in
     let k = start f .fits .n in
     few (own f .loop .totals) (own f .loop .i) (own f .loop .inv .0) (omega arith)
@@ -156,7 +162,7 @@ loop-again c =
     let u = m .more .given .0 .0 in
     let e = sym (ap totalsAnswer (m .more .given .1)) ∙ tested o in
     let h = one-more (a .first) (now (a .s)) (now (a .rows)) (lookAt (now (a .room))) (service f) (l .totals) u e in
-    let x = o .before .before .before .number-of in
+    let x = copied t .number-of in
     let d = ap (λ (y : List ℕ). ordered (l .orders) (l .totals .services) (y ++ (flagOf (service f .removal) ∷ o .before .before .join-days .result .days))) (x .ensures)
     ∙ ap (λ (y : List ℕ). ordered (l .orders) (l .totals .services) (numberBytes (numberIn (now (a .s)) (service f)) ++ (flagOf (service f .removal) ∷ y))) (days-joined o u (ap totalsAnswer (m .more .given .1))) in (
       (omega arith, omega arith, omega arith, omega arith),
@@ -234,10 +240,10 @@ test-all-spec =
     loop-holds
     next-service-requires
     enum-known-service
+    number-of-requires
     slice-aggregate-test-number
     test-number-requires
     enum-told
-    number-of-requires
     join-days-requires
     test-one-requires
     enum-known-more
