@@ -1,4 +1,5 @@
 pub mod Room
+pub mod Numbers
 pub mod Ways
 pub mod Orders
 pub mod Front

@@ -60,14 +60,13 @@ pub ordered-not : (d : List ℕ) (k : ℕ) (o : List ℕ) → length d / 75 ≤ 
 unfolding ordered
 ordered-not d k o h = rw (le-ltb k (length d / 75) h)
 
-pub ordered-is : (d : List ℕ) (k : ℕ) (x e : List ℕ) {a b y f : List ℕ} → k < length d / 75 → a ≡ putAt d (75 * k) y → b ≡ putAt a (75 * k + 10) f → y ≡ x → f ≡ e → length y ≡ 10 → length f ≡ 65
+pub ordered-is : (d : List ℕ) (k : ℕ) (x e : List ℕ) {a b f : List ℕ} → k < length d / 75 → a ≡ putAt d (75 * k) x → b ≡ putAt a (75 * k + 10) f → f ≡ e → length x ≡ 10 → length f ≡ 65
     → b ≡ ordered d k (x ++ e)
 unfolding ordered
-ordered-is d k x e {a} {b} {y} {f} h p q g i l m =
-    let l₁ : length x ≡ 10 = ap length (sym g) ∙ l in
+ordered-is d k x e {a} {b} {f} h p q i l m =
     let m₁ : length e ≡ 65 = ap length (sym i) ∙ m in
     rw (lt-ltb k (length d / 75) h)
-    (put-behind d (75 * k) x e (75 * k + 10) (p ∙ ap (putAt d (75 * k)) g) q i (omega arith) (omega arith))
+    (put-behind d (75 * k) x e (75 * k + 10) p q i (omega arith) (omega arith))
 
 pub order-not : (o room : List ℕ) → (getD o 10 0 ≡ 1 → ⊥) → room ≡ putOrder o room
 unfolding putOrder

@@ -32,9 +32,12 @@ abbrev pub knownBy : List ℕ → Found → Known
 knownBy room (At k) = knownAt room (k * 140)
 knownBy room (Gap k) = known.Nothing
 
--- what a room holds of a number
+-- what a room holds of a number, first as it stands in a slot
+abbrev pub heldAt : List ℕ → List ℕ → Known
+heldAt room x = knownBy room (findOf room x)
+
 unfoldable pub lookAt : List ℕ → List ℕ → Known
-lookAt room x = knownBy room (findOf room (numberBytes x))
+lookAt room x = heldAt room (numberBytes x)
 
 -- a pending put: its flag, and its calendar
 abbrev pub putEntry : List ℕ → List ℕ

@@ -26,7 +26,7 @@ use Rattle.services.specs.Services.{segmentOf, periodsOf}
 use Rattle.service_entries.specs.declared.Known.{Known}
 use Rattle.service_entries.specs.declared.Known.the-variants as known
 use Rattle.stages.specs.Stage.{numberIn, daysOf}
-use Rattle.service_entries.specs.Room.{numberBytes, knownAt, knownBy, lookAt, removalEntry, newSlot, putBy, putIn, slotRemoved, removeBy, removeIn, removeBytes, putBytes, removesIn, putsIn}
+use Rattle.service_entries.specs.Room.{numberBytes, knownAt, knownBy, heldAt, lookAt, removalEntry, newSlot, putBy, putIn, slotRemoved, removeBy, removeIn, removeBytes, putBytes, removesIn, putsIn}
 
 -- ---- the days of a service
 
@@ -50,6 +50,10 @@ pub number-copied : (x y last : List ℕ) → y ≡ x → last ≡ putAt (replic
 unfolding numberBytes
 number-copied x y last e q = q ∙ ap (λ (z : List ℕ). putAt (replicate 10 0) 0 (plain z)) e
 
+pub look-held : (room x y : List ℕ) → x ≡ numberBytes y → heldAt room x ≡ lookAt room y
+unfolding lookAt
+look-held room x y e = ap (heldAt room) e
+
 pub known-is : (room : List ℕ) (at : ℕ) → known.Record (not (eqb (getD room (at + 10) 0) 0)) (eqb (getD room (at + 75) 0) 2) ≡ knownAt room at
 unfolding knownAt
 known-is room at = refl
@@ -65,14 +69,11 @@ module _ (room x : List ℕ) (f : Found) (q : f ≡ findOf room x) where
       let w : k ≤ length room / 140 = subst (Within (length room / 140)) (sym q ∙ e) (find-within room x) in
       omega arith
 
-  module _ (y : List ℕ) (n : x ≡ numberBytes y) where
-    pub look-found : (k : ℕ) (r : Known) → f ≡ At k → r ≡ knownAt room (k * 140) → r ≡ lookAt room y
-    unfolding lookAt
-    look-found k r e a = a ∙ sym (ap (λ (z : List ℕ). knownBy room (findOf room z)) (sym n) ∙ ap (knownBy room) (sym q ∙ e))
+  pub held-found : (k : ℕ) (r : Known) → f ≡ At k → r ≡ knownAt room (k * 140) → r ≡ heldAt room x
+  held-found k r e a = a ∙ sym (ap (knownBy room) (sym q ∙ e))
 
-    pub look-gap : (k : ℕ) → f ≡ Gap k → known.Nothing ≡ lookAt room y
-    unfolding lookAt
-    look-gap k e = sym (ap (λ (z : List ℕ). knownBy room (findOf room z)) (sym n) ∙ ap (knownBy room) (sym q ∙ e))
+  pub held-gap : (k : ℕ) → f ≡ Gap k → known.Nothing ≡ heldAt room x
+  held-gap k e = sym (ap (knownBy room) (sym q ∙ e))
 
   pub put-found : (k : ℕ) (entry last : List ℕ) → f ≡ At k → last ≡ putAt room (k * 140 + 75) entry → last ≡ putIn room x entry
   unfolding putIn

@@ -1,12 +1,12 @@
 //! What an account's room holds of a number, and what a service makes of it: on any bytes.
 
+mod numbers;
 mod orders;
 
 use joining::join_period;
+pub use numbers::number_of;
 pub use orders::put_order;
 pub use orders::put_orders;
-use parts::Part;
-use parts::bytes_of;
 use services::Found;
 use services::FoundPeriod;
 use services::Service;
@@ -17,14 +17,12 @@ ghost use mathlib.Core.Path.{_≡_};
 ghost use mathlib.Core.List.{_∷_, map};
 ghost use Prim.Native.Nat.{_+_, _≤_, min, max};
 ghost use lib.ListN.{length};
-ghost use Rattle.syntax.specs.Bytes.{plain};
 ghost use Rattle.syntax.specs.Segment.{bodyAt};
-ghost use Rattle.parts.specs.Places.{bytesOf};
 ghost use Rattle.joining.specs.Joined.{joinAll};
 ghost use Rattle.gaps.specs.Move.{insertedIn};
 ghost use Rattle.services.specs.Services.{periodsFrom, servicesOf};
 ghost use Rattle.stages.specs.Stage.{daysOf};
-ghost use Rattle.service_entries.specs.Room.{numberBytes, knownAt, lookAt, newSlot, putIn, slotRemoved, removeIn, removeBytes, putBytes, removesIn, putsIn};
+ghost use Rattle.service_entries.specs.Room.{knownAt, heldAt, newSlot, putIn, slotRemoved, removeIn, removeBytes, putBytes, removesIn, putsIn};
 ghost use Rattle.service_entries.specs.Front.{Ends};
 
 const SLOT: usize = 140;
@@ -41,15 +39,6 @@ pub enum Known {
     Record(bool, bool),
 }
 
-// The number of a service after release, as it stands in a slot.
-pub(crate) fn number_of(s: &[u8], part: Part) -> [u8; 10]
-    ensures { λ r. ⌜ r ≡ numberBytes (plain (bytesOf (now (s .entry)) part)) ⌝ }
-{
-    let mut number = [0u8; 10];
-    values::copy_plain(bytes_of(s, part), &mut number);
-    number
-}
-
 // The flags of the slot at an index.
 fn known_at(room: &[u8], at: usize) -> Known
     requires { ⌜ at + 140 ≤ length (now room) ⌝ }
@@ -58,11 +47,10 @@ fn known_at(room: &[u8], at: usize) -> Known
     Known::Record(room[at + LIVE] != 0, room[at + PENDING] == 2)
 }
 
-/// What a room holds of a number.
-pub fn held(room: &[u8], s: &[u8], part: Part) -> Known
-    ensures { λ r. ⌜ r ≡ lookAt (now (room .entry)) (plain (bytesOf (now (s .entry)) part)) ⌝ }
+/// What a room holds of a number as it stands in a slot.
+pub fn held(room: &[u8], number: [u8; 10]) -> Known
+    ensures { λ r. ⌜ r ≡ heldAt (now (room .entry)) number ⌝ }
 {
-    let number = number_of(s, part);
     match slots::find(room, &number) {
         slots::Found::At(k) => known_at(room, k * SLOT),
         slots::Found::Gap(_) => Known::Nothing,

@@ -2,15 +2,11 @@
 
 use crate::end_of;
 use crate::entry_of;
-use crate::number_of;
 use crate::put_service;
-use services::Service;
 ghost use mathlib.Core.Path.{_≡_};
 ghost use mathlib.Core.List.{_∷_, _++_};
 ghost use Prim.Native.Nat.{_/_, min};
 ghost use lib.ListN.{length};
-ghost use Rattle.stages.specs.Stage.{numberIn};
-ghost use Rattle.service_entries.specs.Room.{numberBytes};
 ghost use Rattle.service_entries.specs.Orders.{flagOf, ordered, putOrder, putOrders};
 ghost use Rattle.service_entries.specs.Front.{Ends};
 
@@ -26,16 +22,14 @@ fn flag_of(removal: bool) -> u8
     if removal { 2 } else { 1 }
 }
 
-/// Keeps the number of a service and its days as an order, where there is room for so many.
-pub fn put_order(orders: &mut [u8], k: usize, s: &[u8], service: Service, days: [u8; 64])
-    ensures { λ _. ⌜ now (orders .exit) ≡ ordered (now (orders .entry)) k (numberBytes (numberIn (now (s .entry)) service) ++ (flagOf (service .removal) ∷ days)) ⌝ }
+/// Keeps the number of a service as it stands in a slot, and its days, as an order, where there is room for so many.
+pub fn put_order(orders: &mut [u8], k: usize, number: [u8; 10], removal: bool, days: [u8; 64])
+    ensures { λ _. ⌜ now (orders .exit) ≡ ordered (now (orders .entry)) k (number ++ (flagOf removal ∷ days)) ⌝ }
 {
     if orders.len() / ORDER <= k {
         return;
     }
-    let part = service.number;
-    let number = number_of(s, part);
-    let entry = entry_of(flag_of(service.removal), days);
+    let entry = entry_of(flag_of(removal), days);
     let at = ORDER * k;
     bytes::put_bytes(orders, at, &number);
     bytes::put_bytes(orders, at + NUMBER, &entry);

@@ -1,14 +1,14 @@
--- A mark for each number: a number below 16,384 made of its characters. Numbers that are the same have the same mark, so that a number whose
+-- A mark for each number: a number below 16,384 made of its bytes in a slot. Numbers that are the same have the same mark, so that a number whose
 -- mark is not set is that of no service before.
 -- Assumes nothing.
 use Prim.Native.Nat.{ℕ, _+_, _*_, _%_, _≤_, _<_}
 use mathlib.Core.Path.{_≡_, sym, ap, subst, _∙_}
 use mathlib.Core.Bool.{Bool, true, false, not}
-use mathlib.Core.List.{List, [], _∷_}
+use mathlib.Core.List.{List}
 use native.Mathlib.Omega.{arith}
 use native.Mathlib.Decide.{decLt}
 use borrow.Author.Tests.{eqb-true, eqb-false}
-use lib.Dec.{eqb, lit≤}
+use lib.Dec.{eqb}
 use lib.ListN.{length, getD, set, replicate, length-replicate, length-set}
 use lib.Seq.{getD-set-same, getD-set-other}
 use Rattle.laws.specs.Choice.{choose, both-parts, false≢true}
@@ -21,15 +21,17 @@ use Rattle.services.specs.Rows.{offsetAt, rowCount}
 use Rattle.services.specs.Search.{none-holds}
 use Rattle.services.specs.Services.{isService, serviceNumber, saysNumber, isSameService, isTwice, serviceAt, isWrong, testedOf}
 use Rattle.services.specs.Ways.{Next}
+use Rattle.slots.specs.Words.{highOf, lowOf}
+use Rattle.service_entries.specs.Room.{numberBytes}
 use Rattle.rooms.specs.Order.{same-told}
 use Rattle.stages.specs.Stage.{numberIn}
 
-unfoldable pub markFrom : ℕ → List ℕ → ℕ
-markFrom m [] = m
-markFrom m (b ∷ l) = markFrom ((m * 10 + b) % 16384) l
+-- the mark of ten bytes, and of the number that stands in them
+unfoldable pub tenMark : List ℕ → ℕ
+tenMark x = (highOf x % 15997 * 65536 + lowOf x % 65536) % 15997
 
 abbrev pub markOf : List ℕ → ℕ
-markOf x = markFrom 0 x
+markOf x = tenMark (numberBytes x)
 
 unfoldable pub isMarked : List ℕ → ℕ → Bool
 isMarked marks k = not (eqb (getD marks k 0) 0)
@@ -41,21 +43,13 @@ pub record Marked (marks s rows : List ℕ) (i : ℕ) : Type 0 where
 
 -- ---- marks
 
-pub mark-none : (m : ℕ) (l : List ℕ) → l ≡ [] → markFrom m l ≡ m
-unfolding markFrom
-mark-none m l e = rw e
+pub mark-is : (x : List ℕ) {h l : ℕ} → h ≡ highOf x → l ≡ lowOf x → (h % 15997 * 65536 + l % 65536) % 15997 ≡ tenMark x
+unfolding tenMark
+mark-is x a b = rw (a, b)
 
-pub mark-goes : (m b : ℕ) (l rest : List ℕ) → l ≡ b ∷ rest → markFrom m l ≡ markFrom ((m * 10 + b) % 16384) rest
-unfolding markFrom
-mark-goes m b l rest e = rw e
-
-mark-within : (m : ℕ) (l : List ℕ) → m < 16384 → markFrom m l < 16384
-unfolding markFrom
-mark-within m [] h = h
-mark-within m (b ∷ l) h = mark-within ((m * 10 + b) % 16384) l (omega arith)
-
-pub mark-below : (x : List ℕ) → markOf x < 16384
-mark-below x = mark-within 0 x (lit≤ tt)
+pub mark-below : (x : List ℕ) → tenMark x < 16384
+unfolding tenMark
+mark-below x = omega arith
 
 marked-there : (marks : List ℕ) (k : ℕ) → k < length marks → isMarked (set marks k 1) k ≡ true
 unfolding isMarked
@@ -115,7 +109,7 @@ module _ (marks s rows : List ℕ) (i : ℕ) (w : Marked marks s rows i) where
       below : markOf (numberIn s v) < length marks
       below =
           let e = w .size in
-          let h = mark-below (numberIn s v) in
+          let h = mark-below (numberBytes (numberIn s v)) in
           omega arith
 
       seen-there : (j : ℕ) → j < v .to → isService rows j ≡ true → isMarked (set marks (markOf (numberIn s v)) 1) (markOf (plain (bytesOf s (serviceNumber s (offsetAt rows j))))) ≡ true

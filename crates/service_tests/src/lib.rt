@@ -6,11 +6,11 @@ use crate::numbers::mark_of;
 use crate::numbers::set_mark;
 use joining::Joined;
 use joining::join_period;
-use parts::bytes_of;
 use period::Period;
 use period::read_period;
 use service_entries::Known;
 use service_entries::held;
+use service_entries::number_of;
 use service_entries::put_order;
 use services::Found;
 use services::FoundPeriod;
@@ -38,7 +38,7 @@ ghost use Rattle.stages.specs.Stage.{numberIn, outsideBy, firstOutside, daysOf}
 ghost use Rattle.service_tests.specs.Tests.{windowFound, totalsAnswer, unknownBy, adds, drops, removals, testKnown, testInside, testAll, noTotals};
 ghost use Rattle.service_tests.specs.Marks.{markOf, Marked};
 ghost use Rattle.service_tests.specs.Orders.{ordersAll};
-ghost use Rattle.service_entries.specs.Room.{lookAt};
+ghost use Rattle.service_entries.specs.Room.{numberBytes, heldAt, lookAt};
 
 /// What the services of an interchange come to.
 pub struct Totals {
@@ -216,12 +216,11 @@ fn is_unknown(removal: bool, held: Known) -> bool
 }
 
 // Tests a service for 14, and counts it.
-fn test_known(room: &[u8], s: &[u8], service: Service, totals: Totals) -> Tested
+fn test_known(room: &[u8], number: [u8; 10], service: Service, totals: Totals) -> Tested
     requires { ⌜ (totals .services < 18446744073709551615) × (totals .added < 18446744073709551615) × (totals .dropped < 18446744073709551615) × (totals .removals < 18446744073709551615) ⌝ }
-    ensures { λ r. ⌜ totalsAnswer r ≡ testKnown (service .removal) (service .prd) (lookAt (now (room .entry)) (numberIn (now (s .entry)) service)) totals ⌝ }
+    ensures { λ r. ⌜ totalsAnswer r ≡ testKnown (service .removal) (service .prd) (heldAt (now (room .entry)) number) totals ⌝ }
 {
-    let number = service.number;
-    let known = held(room, s, number);
+    let known = held(room, number);
     if is_unknown(service.removal, known) {
         return refuse(14, service.prd);
     }
@@ -235,13 +234,18 @@ fn test_known(room: &[u8], s: &[u8], service: Service, totals: Totals) -> Tested
 
 // Tests a service for 11, then for 12: `marks` has the marks of the numbers before it, and then its own too. A number whose mark is new is
 // that of no service before it, so that few are compared.
-fn test_number(marks: &mut [u8], s: &[u8], rows: &[u32], service: Service) -> services::Tested
-    requires { ⌜ Marked (now marks) (now s) (now rows) (service .from) ⌝ }
+fn test_number(
+    marks: &mut [u8],
+    s: &[u8],
+    rows: &[u32],
+    service: Service,
+    number: [u8; 10],
+) -> services::Tested
+    requires { ⌜ Marked (now marks) (now s) (now rows) (service .from) × (number ≡ numberBytes (numberIn (now s) service)) ⌝ }
     ensures told { λ r. ⌜ services.testedAnswer r ≡ services.testedOf (now (s .entry)) (now (rows .entry)) service ⌝ }
     ensures left { λ _. ⌜ now (marks .exit) ≡ set (now (marks .entry)) (markOf (numberIn (now (s .entry)) service)) 1 ⌝ }
 {
-    let number = service.number;
-    if set_mark(marks, mark_of(bytes_of(s, number))) {
+    if set_mark(marks, mark_of(number)) {
         return test_service(s, rows, service);
     }
     if is_wrong(s, rows, service) {
@@ -254,12 +258,18 @@ fn test_number(marks: &mut [u8], s: &[u8], rows: &[u32], service: Service) -> se
 }
 
 // Tests a service that passes 11 and 12 for 13 and 14, and counts it.
-fn test_one(room: &[u8], s: &[u8], service: Service, window: Window, totals: Totals) -> Tested
+fn test_one(
+    room: &[u8],
+    number: [u8; 10],
+    service: Service,
+    window: Window,
+    totals: Totals,
+) -> Tested
     requires { ⌜ (totals .services < 18446744073709551615) × (totals .added < 18446744073709551615) × (totals .dropped < 18446744073709551615) × (totals .removals < 18446744073709551615) ⌝ }
-    ensures { λ r. ⌜ totalsAnswer r ≡ testInside (windowFound window) (testKnown (service .removal) (service .prd) (lookAt (now (room .entry)) (numberIn (now (s .entry)) service)) totals) ⌝ }
+    ensures { λ r. ⌜ totalsAnswer r ≡ testInside (windowFound window) (testKnown (service .removal) (service .prd) (heldAt (now (room .entry)) number) totals) ⌝ }
 {
     match window {
-        Window::Inside => test_known(room, s, service, totals),
+        Window::Inside => test_known(room, number, service, totals),
         Window::Outside(at) => refuse(13, at),
     }
 }
@@ -286,26 +296,30 @@ pub fn test_all(
     };
     loop {
         match next_service(s, rows, n, i) {
-            Found::At(service) => match test_number(&mut marks, s, rows, service) {
-                services::Tested::Good => {
-                    let joined = join_days(first, s, rows, service.from, service.to);
-                    let window = joined.window;
-                    let days = joined.days;
-                    match test_one(room, s, service, window, totals) {
-                        Tested::Passed(more) => {
-                            put_order(orders, totals.services, s, service, days);
-                            i = service.to;
-                            totals = more;
-                        }
-                        Tested::Refused(refusal) => {
-                            return Tested::Refused(refusal);
+            Found::At(service) => {
+                let part = service.number;
+                let number = number_of(s, part);
+                match test_number(&mut marks, s, rows, service, number) {
+                    services::Tested::Good => {
+                        let joined = join_days(first, s, rows, service.from, service.to);
+                        let window = joined.window;
+                        let days = joined.days;
+                        match test_one(room, number, service, window, totals) {
+                            Tested::Passed(more) => {
+                                put_order(orders, totals.services, number, service.removal, days);
+                                i = service.to;
+                                totals = more;
+                            }
+                            Tested::Refused(refusal) => {
+                                return Tested::Refused(refusal);
+                            }
                         }
                     }
+                    services::Tested::Refused(refusal) => {
+                        return Tested::Refused(refusal);
+                    }
                 }
-                services::Tested::Refused(refusal) => {
-                    return Tested::Refused(refusal);
-                }
-            },
+            }
             Found::NoMore => {
                 return Tested::Passed(totals);
             }

@@ -1,39 +1,18 @@
 //! A mark for each number that came: a number whose mark is not set did not come.
 
-use values::Next;
-use values::next_byte;
+use slots::words::high;
+use slots::words::low;
 ghost use mathlib.Core.Path.{_≡_};
-ghost use Prim.Native.Nat.{_+_, _*_, _%_, _<_};
+ghost use Prim.Native.Nat.{_<_};
 ghost use lib.ListN.{length, set};
-ghost use Rattle.syntax.specs.Bytes.{plain};
-ghost use Rattle.service_tests.specs.Marks.{markOf, isMarked};
+ghost use Rattle.service_tests.specs.Marks.{tenMark, isMarked};
 
-// The mark of a number that goes on with a character. Numbers of as many digits differ in it up to 16,384.
-fn mark_on(mark: usize, b: u8) -> usize
-    requires { ⌜ mark < 16384 ⌝ }
-    ensures { λ r. ⌜ r ≡ (mark * 10 + b) % 16384 ⌝ }
+// The mark of a number as it stands in a slot: its ten bytes as one number, divided. What remains by 15,997 differs for all numbers of four
+// digits, and for some hundreds of as many digits that follow one another.
+pub(crate) fn mark_of(number: [u8; 10]) -> usize
+    ensures { λ r. ⌜ r ≡ tenMark number ⌝ }
 {
-    (mark * 10 + b as usize) % 16384
-}
-
-// The mark of what a number says after release.
-pub(crate) fn mark_of(number: &[u8]) -> usize
-    ensures { λ r. ⌜ r ≡ markOf (plain (now (number .entry))) ⌝ }
-{
-    let mut i = 0;
-    let mut mark = 0;
-    while i < number.len() {
-        match next_byte(number, i) {
-            Next::Byte(b, k) => {
-                mark = mark_on(mark, b);
-                i = k;
-            }
-            Next::Done => {
-                return mark;
-            }
-        }
-    }
-    mark
+    (high(&number) % 15997 * 65536 + low(&number) % 65536) % 15997
 }
 
 // Sets a mark, and tells whether it was set.

@@ -15,9 +15,11 @@ use Rattle.services.specs.Services.{periodsOf, servicesFrom, servicesOf}
 use Rattle.services.specs.Ways.{Next, next-found, next-gone}
 use Rattle.stages.specs.Stage.{numberIn, daysOf}
 use Rattle.service_entries.specs.Room.{numberBytes, lookAt}
+use Rattle.service_entries.specs.declared.Known.{Known}
 use Rattle.service_entries.specs.Orders.{flagOf, ordered}
+use Rattle.service_entries.specs.Ways.{look-held}
 use Rattle.service_tests.specs.declared.Totals.{Totals}
-use Rattle.service_tests.specs.Tests.{totalsAnswer, windowFound, testOne, testAll, noTotals}
+use Rattle.service_tests.specs.Tests.{totalsAnswer, windowFound, testKnown, testInside, testOne, testAll, noTotals}
 use Rattle.service_tests.specs.Marks.{Marked, marked-start, marked-to, marked-on}
 use Rattle.service_tests.specs.Passed.{passed}
 use Rattle.service_tests.specs.Orders.{ordersAll, orders-done, orders-on, orders-stop}
@@ -58,9 +60,12 @@ module _ (f : tie.After-service Inv-loop μ-loop) where
   abbrev rest : List Service
   rest = servicesFrom (now (start .args .s)) (now (start .args .rows)) (rowCount (now (start .args .rows)) (start .args .n)) (service .to)
 
--- and its number tested
+-- and its number copied and tested
+abbrev copied : tie.After-test-number Inv-loop μ-loop → tie.After-number-of Inv-loop μ-loop
+copied t = t .before .before
+
 abbrev found : tie.After-test-number Inv-loop μ-loop → tie.After-service Inv-loop μ-loop
-found t = t .before .before .before
+found t = t .before .before .before .before .before
 
 abbrev numbered : tie.After-test-one Inv-loop μ-loop → tie.After-test-number Inv-loop μ-loop
 numbered o = o .before .before .before .before .before .before
@@ -75,6 +80,8 @@ module _ (o : tie.After-test-one Inv-loop μ-loop) where
       let j = o .before .before in
       let a = start at .args in
       o .test-one .ensures
+      ∙ ap (λ (k : Known). testInside (windowFound (j .join-days .result .window)) (testKnown (service at .removal) (service at .prd) k (own at .loop .totals)))
+      (look-held (now (a .room)) (copied (numbered o) .number-of .result) (numberIn (now (a .s)) (service at)) (copied (numbered o) .number-of .ensures))
       ∙ one-tested (now (a .s)) (now (a .rows)) (service at) (a .first) (lookAt (now (a .room))) (own at .loop .totals)
       (sym (sym (numbered o .test-number .ensures .0) ∙ ap services.testedAnswer (j .before .enum-told .given .1))) (windowFound (j .join-days .result .window)) (j .join-days .ensures .0)
 
@@ -98,14 +105,17 @@ enum-known-service c = search needs
 
 slice-aggregate-test-number : tie.Need-slice-aggregate-test-number Inv-loop μ-loop
 slice-aggregate-test-number c =
-    let e = own (c .before .before) .loop .inv .1 .size in
+    let e = own (c .before .before .before .before) .loop .inv .1 .size in
     omega arith
 
 test-number-requires : tie.Need-test-number-requires Inv-loop μ-loop
 test-number-requires c κs =
-    let f = c .before .before in
-    let a = start f .args in
-    marked-to (own f .loop .marks) (now (a .s)) (now (a .rows)) (own f .loop .i) (own f .loop .inv .1) (a .n) (service f) (next f)
+    let n = c .before in
+    let f = n .before .before .before in
+    let a = start f .args in (
+      marked-to (own f .loop .marks) (now (a .s)) (now (a .rows)) (own f .loop .i) (own f .loop .inv .1) (a .n) (service f) (next f),
+      n .number-of .ensures,
+    )
 
 enum-told : tie.Need-enum-told Inv-loop μ-loop
 enum-told c = search needs
@@ -113,6 +123,9 @@ enum-told c = search needs
 few : (t : Totals) (i : ℕ) → (t .services ≤ i) × (t .added ≤ i) × (t .dropped ≤ i) × (t .removals ≤ i) → i < 18446744073709551615
     → (t .services < 18446744073709551615) × (t .added < 18446744073709551615) × (t .dropped < 18446744073709551615) × (t .removals < 18446744073709551615)
 few t i v h = (omega arith, omega arith, omega arith, omega arith)
+
+number-of-requires : tie.Need-number-of-requires Inv-loop μ-loop
+number-of-requires c κs = search needs
 
 join-days-requires : tie.Need-join-days-requires Inv-loop μ-loop
 join-days-requires c κs = search needs
@@ -149,7 +162,9 @@ loop-again c =
     let u = m .more .given .0 .0 in
     let e = sym (ap totalsAnswer (m .more .given .1)) ∙ tested o in
     let h = one-more (a .first) (now (a .s)) (now (a .rows)) (lookAt (now (a .room))) (service f) (l .totals) u e in
-    let d = ap (λ (x : List ℕ). ordered (l .orders) (l .totals .services) (numberBytes (numberIn (now (a .s)) (service f)) ++ (flagOf (service f .removal) ∷ x))) (days-joined o u (ap totalsAnswer (m .more .given .1))) in (
+    let x = copied t .number-of in
+    let d = ap (λ (y : List ℕ). ordered (l .orders) (l .totals .services) (y ++ (flagOf (service f .removal) ∷ o .before .before .join-days .result .days))) (x .ensures)
+    ∙ ap (λ (y : List ℕ). ordered (l .orders) (l .totals .services) (numberBytes (numberIn (now (a .s)) (service f)) ++ (flagOf (service f .removal) ∷ y))) (days-joined o u (ap totalsAnswer (m .more .given .1))) in (
       (omega arith, omega arith, omega arith, omega arith),
       subst (λ (l : List ℕ). Marked l (now (a .s)) (now (a .rows)) (service f .to)) (sym (t .test-number .ensures .1))
           (marked-on (l .marks) (now (a .s)) (now (a .rows)) (l .i) (v .1) (a .n) (service f) w),
@@ -225,6 +240,7 @@ test-all-spec =
     loop-holds
     next-service-requires
     enum-known-service
+    number-of-requires
     slice-aggregate-test-number
     test-number-requires
     enum-told

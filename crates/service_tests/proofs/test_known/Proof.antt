@@ -3,8 +3,7 @@
 use mathlib.Core.Path.{_∙_}
 use borrow.Author.Needs.{needs}
 use denote.Ref.{now}
-use Rattle.stages.specs.Stage.{numberIn}
-use Rattle.service_entries.specs.Room.{lookAt}
+use Rattle.service_entries.specs.Room.{heldAt}
 use Rattle.service_tests.specs.Ways.{known-refused, known-counted}
 use Rattle.service_tests.proofs.test_known.Statement.{statement}
 use Rattle.service_tests.proofs.test_known.Tie as tie
@@ -22,30 +21,30 @@ returns : tie.Need-returns
 returns c =
     let u = c .before .before in
     let k = u .before in
-    let a = k .before .before .before .before .args in
+    let a = k .before .before .args in
     c .refuse .ensures
-    ∙ known-refused (a .service .removal) (a .service .prd) (lookAt (now (a .room)) (numberIn (now (a .s)) (a .service))) (a .totals) (k .held .result) (k .held .ensures) (u .is-unknown .result) (u .is-unknown .ensures) (c .before .if1 .taken)
+    ∙ known-refused (a .service .removal) (a .service .prd) (heldAt (now (a .room)) (a .number)) (a .totals) (k .held .result) (k .held .ensures) (u .is-unknown .result) (u .is-unknown .ensures) (c .before .if1 .taken)
 
-add-t8 : tie.Need-add-t8
-add-t8 c = search needs
+add-t7 : tie.Need-add-t7
+add-t7 c = search needs
 
 added-by-requires : tie.Need-added-by-requires
 added-by-requires c κs = search needs
 
-add-t10 : tie.Need-add-t10
-add-t10 c = search needs
+add-t9 : tie.Need-add-t9
+add-t9 c = search needs
 
 dropped-by-requires : tie.Need-dropped-by-requires
 dropped-by-requires c κs = search needs
 
-add-t12 : tie.Need-add-t12
-add-t12 c = search needs
+add-t11 : tie.Need-add-t11
+add-t11 c = search needs
 
 removals-by-requires : tie.Need-removals-by-requires
 removals-by-requires c κs = search needs
 
-add-t14 : tie.Need-add-t14
-add-t14 c = search needs
+add-t13 : tie.Need-add-t13
+add-t13 c = search needs
 
 returns-2 : tie.Need-returns-2
 returns-2 c =
@@ -55,8 +54,8 @@ returns-2 c =
     let l = b .before .before in
     let u = l .before in
     let k = u .before in
-    let a = k .before .before .before .before .args in
-    known-counted (a .service .removal) (a .service .prd) (lookAt (now (a .room)) (numberIn (now (a .s)) (a .service))) (a .totals) (k .held .result) (k .held .ensures) (u .is-unknown .result) (u .is-unknown .ensures) (l .if1 .left)
+    let a = k .before .before .args in
+    known-counted (a .service .removal) (a .service .prd) (heldAt (now (a .room)) (a .number)) (a .totals) (k .held .result) (k .held .ensures) (u .is-unknown .result) (u .is-unknown .ensures) (l .if1 .left)
     (b .added-by .result) (d .dropped-by .result) (m .removals-by .result) (b .added-by .ensures .0) (d .dropped-by .ensures .0) (m .removals-by .ensures .0)
 
 pub test-known-spec : {M : Type 1} → statement M
@@ -67,11 +66,11 @@ test-known-spec =
     is-unknown-requires
     refuse-requires
     returns
-    add-t8
+    add-t7
     added-by-requires
-    add-t10
+    add-t9
     dropped-by-requires
-    add-t12
+    add-t11
     removals-by-requires
-    add-t14
+    add-t13
     returns-2)

@@ -7,22 +7,21 @@ use native.Mathlib.Omega.{arith}
 use borrow.Author.Needs.{needs}
 use denote.Ref.{now}
 use lib.ListN.{set}
-use Rattle.syntax.specs.Bytes.{plain}
 use Rattle.stages.specs.Stage.{numberIn}
-use Rattle.service_tests.specs.Marks.{markOf, isMarked, mark-below, new-wrong, new-good}
+use Rattle.service_tests.specs.Marks.{tenMark, markOf, isMarked, mark-below, new-wrong, new-good}
 use Rattle.service_tests.proofs.test_number.Statement.{statement}
 use Rattle.service_tests.proofs.test_number.Tie as tie
 
 -- the mark of the number
 module _ (t : tie.After-set-mark) where
   abbrev start : tie.Start
-  start = t .before .before .before .before .before .before .before .before
+  start = t .before .before .before .before .before .before
 
   abbrev number : List ℕ
   number = numberIn (now (start .args .s)) (start .args .service)
 
   mark-is : t .before .mark-of .result ≡ markOf number
-  mark-is = t .before .mark-of .ensures ∙ ap (λ (x : List ℕ). markOf (plain x)) (t .before .before .bytes-of .ensures)
+  mark-is = t .before .mark-of .ensures ∙ ap tenMark (start .pre .1)
 
   left : t .set-mark .last .0 ≡ set (now (start .args .marks)) (markOf number) 1
   left = t .set-mark .ensures .1 ∙ ap (λ (k : ℕ). set (now (start .args .marks)) k 1) mark-is
@@ -30,17 +29,15 @@ module _ (t : tie.After-set-mark) where
   was : t .set-mark .result ≡ isMarked (now (start .args .marks)) (markOf number)
   was = t .set-mark .ensures .0 ∙ ap (isMarked (now (start .args .marks))) mark-is
 
-bytes-of-requires : tie.Need-bytes-of-requires
-bytes-of-requires c κs = search needs
-
 mark-of-requires : tie.Need-mark-of-requires
 mark-of-requires c κs = search needs
 
 set-mark-requires : tie.Need-set-mark-requires
 set-mark-requires c κs =
-    let h = mark-below (plain (now (c .before .bytes-of .result))) in
+    let i = c .before .before .before .before .before in
+    let h = mark-below (i .args .number) in
     let e = c .mark-of .ensures in
-    let l = c .before .before .before .before .before .before .before .pre .size in
+    let l = i .pre .0 .size in
     omega arith
 
 test-service-requires : tie.Need-test-service-requires
@@ -64,7 +61,7 @@ returns-2 c =
     let e = c .before .before in
     let i = start t in
     let a = i .args in (
-      new-wrong (now (a .marks)) (now (a .s)) (now (a .rows)) (a .service) (i .pre) (t .set-mark .result) (was t) (e .if1 .left) (c .before .is-wrong .result) (c .before .is-wrong .ensures) (c .if2 .taken),
+      new-wrong (now (a .marks)) (now (a .s)) (now (a .rows)) (a .service) (i .pre .0) (t .set-mark .result) (was t) (e .if1 .left) (c .before .is-wrong .result) (c .before .is-wrong .ensures) (c .if2 .taken),
       left t,
     )
 
@@ -77,7 +74,7 @@ returns-3 c =
     let e = c .before .before in
     let i = start t in
     let a = i .args in (
-      new-good (now (a .marks)) (now (a .s)) (now (a .rows)) (a .service) (i .pre) (t .set-mark .result) (was t) (e .if1 .left) (c .before .is-wrong .result) (c .before .is-wrong .ensures) (c .if2 .left),
+      new-good (now (a .marks)) (now (a .s)) (now (a .rows)) (a .service) (i .pre .0) (t .set-mark .result) (was t) (e .if1 .left) (c .before .is-wrong .result) (c .before .is-wrong .ensures) (c .if2 .left),
       left t,
     )
 
@@ -85,7 +82,6 @@ pub test-number-spec : {M : Type 1} → statement M
 test-number-spec =
     tie.close
     (tie.spec
-    bytes-of-requires
     mark-of-requires
     set-mark-requires
     test-service-requires

@@ -2,8 +2,7 @@
 -- Assumes nothing.
 use mathlib.Core.Path.{sym, ap, _∙_}
 use denote.Ref.{now}
-use Rattle.stages.specs.Stage.{numberIn}
-use Rattle.service_entries.specs.Room.{lookAt}
+use Rattle.service_entries.specs.Room.{heldAt}
 use Rattle.service_tests.specs.declared.Window.{Window}
 use Rattle.service_tests.specs.Tests.{windowFound, testKnown, testInside}
 use borrow.Author.Needs.{needs}
@@ -25,14 +24,14 @@ refuse-requires c κs = search needs
 returns : tie.Need-returns
 returns c =
     let e = c .before in
-    let a = e .before .before .before .before .args in
-    c .test-known .ensures ∙ sym (ap (λ (w : Window). testInside (windowFound w) (testKnown (a .service .removal) (a .service .prd) (lookAt (now (a .room)) (numberIn (now (a .s)) (a .service))) (a .totals))) (e .enum-told .given .1))
+    let a = e .before .before .before .args in
+    c .test-known .ensures ∙ sym (ap (λ (w : Window). testInside (windowFound w) (testKnown (a .service .removal) (a .service .prd) (heldAt (now (a .room)) (a .number)) (a .totals))) (e .enum-told .given .1))
 
 returns-2 : tie.Need-returns-2
 returns-2 c =
     let e = c .before .before in
-    let a = e .before .before .before .before .args in
-    c .refuse .ensures ∙ sym (ap (λ (w : Window). testInside (windowFound w) (testKnown (a .service .removal) (a .service .prd) (lookAt (now (a .room)) (numberIn (now (a .s)) (a .service))) (a .totals))) (e .window .given .1))
+    let a = e .before .before .before .args in
+    c .refuse .ensures ∙ sym (ap (λ (w : Window). testInside (windowFound w) (testKnown (a .service .removal) (a .service .prd) (heldAt (now (a .room)) (a .number)) (a .totals))) (e .window .given .1))
 
 pub test-one-spec : {M : Type 1} → statement M
 test-one-spec =

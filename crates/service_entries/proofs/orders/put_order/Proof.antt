@@ -5,8 +5,6 @@ use mathlib.Core.List.{_∷_, _++_}
 use Prim.Native.Nat.{ℕ}
 use denote.Ref.{now}
 use lib.ListN.{length}
-use Rattle.stages.specs.Stage.{numberIn}
-use Rattle.service_entries.specs.Room.{numberBytes}
 use Rattle.service_entries.specs.Orders.{flagOf, ordered-not, ordered-is}
 use borrow.Author.Needs.{needs}
 use Rattle.service_entries.proofs.orders.put_order.Statement.{statement}
@@ -14,11 +12,8 @@ use Rattle.service_entries.proofs.orders.put_order.Tie as tie
 
 returns : tie.Need-returns
 returns c =
-    let a = c .before .before .before .args in
-    ordered-not (now (a .orders)) (a .k) (numberBytes (numberIn (now (a .s)) (a .service)) ++ (flagOf (a .service .removal) ∷ a .days)) (c .if1 .taken)
-
-number-of-requires : tie.Need-number-of-requires
-number-of-requires c κs = search needs
+    let a = c .before .before .args in
+    ordered-not (now (a .orders)) (a .k) (a .t3 ++ (flagOf (a .removal) ∷ a .days)) (c .if1 .taken)
 
 flag-of-requires : tie.Need-flag-of-requires
 flag-of-requires c κs = search needs
@@ -47,26 +42,27 @@ put-bytes-requires-2 c κs = search needs
 same-length : tie.Need-same-length
 same-length c = search needs
 
+ten : (i : tie.Start) → length (i .args .t3) ≡ 10
+ten i = search needs
+
 returns-2 : tie.Need-returns-2
 returns-2 c =
     let q = c .before .before in
     let p = q .before .before .before .before .before in
     let e = p .before .before .before in
     let g = e .before in
-    let n = g .before in
-    let l = n .before .before in
-    let a = l .before .before .before .args in
-    let x : length (n .number-of .result) ≡ 10 = search needs in
+    let l = g .before in
+    let i = l .before .before in
+    let a = i .args in
     let y : length (e .entry-of .result) ≡ 65 = search needs in
-    ordered-is (now (a .orders)) (a .k) (numberBytes (numberIn (now (a .s)) (a .service))) (flagOf (a .service .removal) ∷ a .days) (l .if1 .left)
-    (p .put-bytes .ensures .1) (q .put-bytes2 .ensures .1) (n .number-of .ensures) (e .entry-of .ensures ∙ ap (λ (z : ℕ). z ∷ a .days) (g .flag-of .ensures)) x y
+    ordered-is (now (a .orders)) (a .k) (a .t3) (flagOf (a .removal) ∷ a .days) (l .if1 .left)
+    (p .put-bytes .ensures .1) (q .put-bytes2 .ensures .1) (e .entry-of .ensures ∙ ap (λ (z : ℕ). z ∷ a .days) (g .flag-of .ensures)) (ten i) y
 
 pub put-order-spec : {M : Type 1} → statement M
 put-order-spec =
     tie.close
     (tie.spec
     returns
-    number-of-requires
     flag-of-requires
     entry-of-requires
     mul-at
