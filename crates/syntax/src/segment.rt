@@ -4,6 +4,7 @@ use crate::bytes::is_mark;
 use crate::bytes::permitted;
 use crate::bytes::released_end;
 use crate::bytes::wide;
+use crate::ends::common_end;
 use crate::ends::find_end;
 use crate::ends::run_end;
 use crate::limits::Counts;
@@ -115,7 +116,7 @@ fn near(at: usize, n: usize) -> usize
     at + 513
 }
 
-// The same as `find_end`, except that no more than 513 bytes from an offset on are looked at.
+// The same as `find_end`, except that no more than 513 bytes from an offset on are looked at. Most ends are found here, without that call.
 fn near_end(s: &[u8], at: usize, from: usize) -> usize
     requires { ⌜ at ≤ length (now s) ⌝ }
     ensures { λ r. ⌜ min r (at + 513) ≡ min (endFrom (now (s .entry)) from) (at + 513) ⌝ }
@@ -126,7 +127,13 @@ fn near_end(s: &[u8], at: usize, from: usize) -> usize
         }
     }
     let cut = near(at, s.len());
-    find_end(&s[..cut], from)
+    let j = common_end(&s[..cut], from);
+    if j < cut {
+        if s[j] == b'\'' {
+            return j;
+        }
+    }
+    find_end(&s[..cut], j)
 }
 
 // The same as `quick_end`, from a byte on before which the segment does not end. In a function of its own, so that little is left where
@@ -140,9 +147,6 @@ fn small_end(s: &[u8], at: usize, from: usize) -> usize
         return end;
     }
     if 512 < end - at {
-        return s.len();
-    }
-    if s.len() <= end {
         return s.len();
     }
     if is_small(&s[at..end]) {

@@ -9,8 +9,8 @@ use denote.Ref.{now}
 use lib.ListN.{length}
 use Rattle.laws.specs.Choice.{pick}
 use Rattle.syntax.specs.Found.{endFrom}
-use Rattle.syntax.specs.Whole.{end-past-start}
-use Rattle.syntax.specs.Quick.{quickEnd, quick-none, quick-short, quick-small, quick-far}
+use Rattle.syntax.specs.Whole.{end-past-start, end-most}
+use Rattle.syntax.specs.Quick.{quickEnd, quick-short, quick-small, quick-far}
 use borrow.Author.Needs.{needs}
 use Rattle.syntax.proofs.segment.small_end.Statement.{statement}
 use Rattle.syntax.proofs.segment.small_end.Tie as tie
@@ -65,19 +65,18 @@ returns-2 c =
     let e = near f in
     quick-far (list f) (from f) (endFrom (list f) (from f + 4)) refl (omega arith)
 
-returns-3 : tie.Need-returns-3
-returns-3 c =
-    let f = c .before .before .before in
-    quick-none (list f) (from f) (end f) (found f (c .before .if2 .left)) (c .if3 .taken)
-
 sub-is-small : tie.Need-sub-is-small
-sub-is-small c = past (c .before .before .before)
+sub-is-small c = past (c .before .before)
 
 part-is-small-start : tie.Need-part-is-small-start
 part-is-small-start c = search needs
 
 part-is-small-end : tie.Need-part-is-small-end
-part-is-small-end c = search needs
+part-is-small-end c =
+    let f = c .before .before in
+    let e = found f (c .if2 .left) in
+    let m = end-most (list f) (from f + 4) in
+    omega arith
 
 is-small-requires : tie.Need-is-small-requires
 is-small-requires c κs = search needs
@@ -85,18 +84,18 @@ is-small-requires c κs = search needs
 -- after the marks are looked at
 module _ (t : tie.After-is-small) where
   abbrev there : tie.After-near-end
-  there = t .before .before .before .before .before
+  there = t .before .before .before .before
 
   small : pick (t .is-small .result) (end there) (length (list there)) ≡ quickEnd (list there) (from there)
   small =
-      let h = t .before .before .before .if2 .left in
+      let h = t .before .before .if2 .left in
       quick-small (list there) (from there) (end there) (found there h) (t .is-small .result) (t .is-small .ensures) (omega arith) h
 
-returns-4 : tie.Need-returns-4
-returns-4 c = ap (λ (b : Bool). pick b (end (there (c .before))) (length (list (there (c .before))))) (sym (c .if4 .taken)) ∙ small (c .before)
+returns-3 : tie.Need-returns-3
+returns-3 c = ap (λ (b : Bool). pick b (end (there (c .before))) (length (list (there (c .before))))) (sym (c .if3 .taken)) ∙ small (c .before)
 
-returns-5 : tie.Need-returns-5
-returns-5 c = ap (λ (b : Bool). pick b (end (there (c .before))) (length (list (there (c .before))))) (sym (c .if4 .left)) ∙ small (c .before)
+returns-4 : tie.Need-returns-4
+returns-4 c = ap (λ (b : Bool). pick b (end (there (c .before))) (length (list (there (c .before))))) (sym (c .if3 .left)) ∙ small (c .before)
 
 pub small-end-spec : {M : Type 1} → statement M
 small-end-spec =
@@ -107,10 +106,9 @@ small-end-spec =
     returns
     sub-if2
     returns-2
-    returns-3
     sub-is-small
     part-is-small-start
     part-is-small-end
     is-small-requires
-    returns-4
-    returns-5)
+    returns-3
+    returns-4)
