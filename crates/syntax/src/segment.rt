@@ -12,7 +12,7 @@ use crate::marks::is_small;
 use crate::texts::text_end;
 ghost use mathlib.Core.Path.{_≡_};
 ghost use mathlib.Core.Bool.{not};
-ghost use Prim.Native.Nat.{_+_, _≤_, min};
+ghost use Prim.Native.Nat.{_+_, _≤_, _<_, min};
 ghost use lib.ListN.{length, drop};
 ghost use Rattle.laws.specs.Choice.{pick, both};
 ghost use Rattle.syntax.specs.Segment.{capital, segmentAt, scannedAnswer, refusalOf, segmentAnswer, tagNumber};
@@ -121,11 +121,6 @@ fn near_end(s: &[u8], at: usize, from: usize) -> usize
     requires { ⌜ at ≤ length (now s) ⌝ }
     ensures { λ r. ⌜ min r (at + 513) ≡ min (endFrom (now (s .entry)) from) (at + 513) ⌝ }
 {
-    if from < s.len() {
-        if s[from] == b'\'' {
-            return from;
-        }
-    }
     let cut = near(at, s.len());
     let j = common_end(&s[..cut], from);
     if j < cut {
@@ -136,8 +131,22 @@ fn near_end(s: &[u8], at: usize, from: usize) -> usize
     find_end(&s[..cut], j)
 }
 
-// The same as `quick_end`, from a byte on before which the segment does not end. In a function of its own, so that little is left where
-// the end is found at once.
+// The same as `quick_end`, where the end is sought already. In a function of its own, as `small_end` is, so that little is left where the end is found
+// at once and is near.
+fn long_end(s: &[u8], at: usize, end: usize) -> usize
+    requires { ⌜ (at + 34 < end) × (min end (at + 513) ≡ min (endFrom (now s) (at + 4)) (at + 513)) ⌝ }
+    ensures { λ r. ⌜ r ≡ quickEnd (now (s .entry)) at ⌝ }
+{
+    if 512 < end - at {
+        return s.len();
+    }
+    if is_small(&s[at..end]) {
+        return end;
+    }
+    s.len()
+}
+
+// The same from a byte on before which the segment does not end.
 fn small_end(s: &[u8], at: usize, from: usize) -> usize
     requires { ⌜ (at + 4 ≤ length (now s)) × (endFrom (now s) from ≡ endFrom (now s) (at + 4)) ⌝ }
     ensures { λ r. ⌜ r ≡ quickEnd (now (s .entry)) at ⌝ }
@@ -146,13 +155,7 @@ fn small_end(s: &[u8], at: usize, from: usize) -> usize
     if end - at <= 34 {
         return end;
     }
-    if 512 < end - at {
-        return s.len();
-    }
-    if is_small(&s[at..end]) {
-        return end;
-    }
-    s.len()
+    long_end(s, at, end)
 }
 
 /// The terminator's index of a segment that has too few characters and marks to pass a limit, its tag with the `+` behind it at an offset; the input's length for any other.
@@ -171,6 +174,7 @@ pub fn quick_end(s: &[u8], at: usize) -> usize
             if j - at <= 34 {
                 return j;
             }
+            return long_end(s, at, j);
         }
     }
     small_end(s, at, j)

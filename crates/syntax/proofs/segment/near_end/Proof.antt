@@ -1,6 +1,6 @@
 -- `near_end` meets its contract.
 -- Assumes nothing.
-use mathlib.Core.Path.{_≡_, sym, ap, _∙_}
+use mathlib.Core.Path.{_≡_, sym, _∙_}
 use mathlib.Core.List.{List}
 use Prim.Native.Nat.{ℕ, _+_, _≤_, min}
 use native.Mathlib.Omega.{arith}
@@ -19,27 +19,19 @@ use Rattle.syntax.proofs.ends.common_end.Reads as common-end-reads
 use Rattle.syntax.proofs.ends.find_end.Reads as find-end-reads
 use Rattle.syntax.proofs.segment.near.Reads as near-reads
 
-shared-slice-read-if2 : tie.Need-shared-slice-read-if2
-shared-slice-read-if2 c = search needs
-
-returns : tie.Need-returns
-returns c =
-    let a = c .before .before .before .before .args in
-    ap (λ (e : ℕ). min e (a .at + 513)) (sym (end-quote (now (a .s)) (a .from) (c .before .before .if1 .taken) (c .if2 .taken)))
-
 near-requires : tie.Need-near-requires
 near-requires c κs = search needs
 
 -- the front that is looked at
 module _ (n : tie.After-near) where
   abbrev list : List ℕ
-  list = now (n .before .before .before .args .s)
+  list = now (n .before .before .args .s)
 
   abbrev from : ℕ
-  from = n .before .before .before .args .from
+  from = n .before .before .args .from
 
   abbrev at : ℕ
-  at = n .before .before .before .args .at
+  at = n .before .before .args .at
 
   abbrev cut : ℕ
   cut = n .near .result
@@ -64,19 +56,19 @@ slice-aggregate-common-end c = front (c .before)
 common-end-requires : tie.Need-common-end-requires
 common-end-requires c κs = search needs
 
-shared-slice-read-if4 : tie.Need-shared-slice-read-if4
-shared-slice-read-if4 c =
+shared-slice-read-if2 : tie.Need-shared-slice-read-if2
+shared-slice-read-if2 c =
     let h = within (c .before .before .before .before) in
     omega arith
 
-returns-2 : tie.Need-returns-2
-returns-2 c =
+returns : tie.Need-returns
+returns c =
     let t = c .before .before .before in
     let n = t .before .before in
     let j = t .common-end .result in
-    let l = c .before .before .if3 .taken in
+    let l = c .before .before .if1 .taken in
     let h = within n in
-    let q = end-quote (list n) j (omega arith) (c .if4 .taken) in
+    let q = end-quote (list n) j (omega arith) (c .if2 .taken) in
     let g = end-front (list n) (cut n) j h in
     let e : j ≡ endFrom (take (cut n) (list n)) j = omega arith in
     ends n j (e ∙ t .common-end .ensures .1)
@@ -87,8 +79,8 @@ slice-aggregate-find-end c = front (c .before .before .before .before)
 find-end-requires : tie.Need-find-end-requires
 find-end-requires c κs = search needs
 
-returns-3 : tie.Need-returns-3
-returns-3 c =
+returns-2 : tie.Need-returns-2
+returns-2 c =
     let t = c .before .before .before in
     ends (t .before .before) (c .find-end .result) (c .find-end .ensures ∙ t .common-end .ensures .1)
 
@@ -96,13 +88,11 @@ pub near-end-spec : {M : Type 1} → statement M
 near-end-spec =
     tie.close
     (tie.spec
-    shared-slice-read-if2
-    returns
     near-requires
     slice-aggregate-common-end
     common-end-requires
-    shared-slice-read-if4
-    returns-2
+    shared-slice-read-if2
+    returns
     slice-aggregate-find-end
     find-end-requires
-    returns-3)
+    returns-2)
