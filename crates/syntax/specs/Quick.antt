@@ -37,12 +37,6 @@ module _ (s : List ℕ) (at e : ℕ) (f : e ≡ endFrom s (at + 4)) where
   unfolding quickEnd
   by-few = ap (λ (x : ℕ). pick (isFew s at x) x (length s)) f
 
-  pub quick-none : length s ≤ e → length s ≡ quickEnd s at
-  quick-none h =
-      let m = end-most s (at + 4) in
-      let g : length s ≡ e = omega arith in
-      choose (isFew s at e) (λ p. g ∙ (rw p at by-few)) (λ p. rw p at by-few)
-
   pub quick-short : e - at ≤ 34 → e ≡ quickEnd s at
   unfolding isFew
   quick-short h = rw (le-leb (e - at) 34 h) at by-few

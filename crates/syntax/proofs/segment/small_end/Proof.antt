@@ -5,7 +5,6 @@ use mathlib.Core.List.{List}
 use Prim.Native.Nat.{ℕ, _+_, _≤_, min}
 use native.Mathlib.Omega.{arith}
 use denote.Ref.{now}
-use lib.ListN.{length}
 use Rattle.syntax.specs.Found.{endFrom}
 use Rattle.syntax.specs.Whole.{end-past-start}
 use Rattle.syntax.specs.Quick.{quick-short}
