@@ -9,7 +9,7 @@ use lib.Dec.{ltb}
 use borrow.Author.Tests.{lt-ltb, le-ltb, ltb-true, ltb-false}
 use lib.ListN.{length, take, drop, length-take}
 use lib.Seq.{take-all, length-take-le}
-use Rattle.laws.specs.Choice.{pick, both, all, choose, both-false}
+use Rattle.laws.specs.Choice.{both, all, choose, both-false}
 use Rattle.laws.specs.Lists.{drop-take}
 use Rattle.syntax.specs.Bytes.{permittedOf, stands, releases}
 use Rattle.syntax.specs.Pieces.{firstPiece}

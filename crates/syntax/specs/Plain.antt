@@ -3,15 +3,15 @@
 use mathlib.Core.Path.{_≡_, sym, ap₂, _∙_}
 use mathlib.Core.Bool.{Bool, true, false, not}
 use mathlib.Core.List.{List, [], _∷_}
-use Prim.Native.Nat.{ℕ, zero, suc, _+_, _≤_, _<_}
+use Prim.Native.Nat.{ℕ, zero, suc, _+_, _≤_}
 use native.Mathlib.Omega.{arith}
 use native.Mathlib.Decide.{decLt}
 use lib.Dec.{eqb, eqb→eq}
 use lib.Bits.{bitAnd, bitOr, bitXor, and-le-r, xor-lt}
-use lib.ListN.{length, drop}
+use lib.ListN.{drop}
 use lib.Seq.{drop-drop}
 use borrow.Author.Tests.{lt-leb, ne-eqb}
-use Rattle.laws.specs.Choice.{pick, both, either, choose, both-parts, both-false, false≢true}
+use Rattle.laws.specs.Choice.{pick, both, choose, both-parts, both-false, false≢true}
 use Rattle.laws.specs.Sweep.{at, agree}
 use Rattle.laws.specs.Words.{wordBy, Every, Byte, word-same, or-word, xor-word}
 use Rattle.laws.specs.Eight.{eightAt, Word}

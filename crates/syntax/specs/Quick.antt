@@ -1,13 +1,13 @@
 -- The end of a segment that has too few characters and marks to pass a limit, which is found without counting its parts.
 -- Assumes nothing.
-use mathlib.Core.Path.{_≡_, sym, ap, _∙_}
+use mathlib.Core.Path.{_≡_, refl, sym, ap, _∙_}
 use mathlib.Core.Bool.{Bool, true, false}
 use mathlib.Core.List.{List}
-use Prim.Native.Nat.{ℕ, _+_, _-_, _*_, _≤_, _<_}
+use Prim.Native.Nat.{ℕ, zero, suc, _+_, _-_, _*_, _≤_, _<_}
 use native.Mathlib.Omega.{arith}
-use lib.Dec.{leb, ltb}
-use borrow.Author.Tests.{leb-true, le-leb, lt-leb, lt-ltb, le-ltb, ltb-true}
-use lib.Bits.{bitOr, bitXor, or-add-and, and-le-l, and-le-r}
+use lib.Dec.{leb, ltb, eqb}
+use borrow.Author.Tests.{eqb-true, eqb-false, leb-true, le-leb, lt-leb, lt-ltb, le-ltb, ltb-true}
+use lib.Bits.{bitOr, bitXor, or-add-and, and-le-r, or-zero-l, xor-self}
 use lib.ListN.{length, drop, getD}
 use Rattle.laws.specs.Choice.{pick, both, either, choose, false≢true}
 use Rattle.laws.specs.Lists.{between, length-between}
@@ -29,30 +29,43 @@ isFew s at e = either (leb (e - at) 34) (both (leb (length (between s at e)) 512
 unfoldable pub quickEnd : List ℕ → ℕ → ℕ
 quickEnd s at = pick (isFew s at (endFrom s (at + 4))) (endFrom s (at + 4)) (length s)
 
+-- an index as an end, and none where it is the input's length
+unfoldable pub toldOf : ℕ → ℕ → Quick
+toldOf n e = pick (ltb e n) (Ends e) Unsure
+
+pub told-ends : (n e : ℕ) → e < n → Ends e ≡ toldOf n e
+unfolding toldOf
+told-ends n e h = rw (lt-ltb e n h)
+
+pub told-unsure : (n e : ℕ) → n ≤ e → Unsure ≡ toldOf n e
+unfolding toldOf
+told-unsure n e h = rw (le-ltb e n h)
+
 -- the same as it is told
 unfoldable pub quickOf : List ℕ → ℕ → Quick
-quickOf s at = pick (ltb (quickEnd s at) (length s)) (Ends (quickEnd s at)) Unsure
+quickOf s at = toldOf (length s) (quickEnd s at)
 
-module _ (s : List ℕ) (at e : ℕ) (q : e ≡ quickEnd s at) where
-  as-told : pick (ltb e (length s)) (Ends e) Unsure ≡ quickOf s at
-  unfolding quickOf
-  as-told = ap (λ (x : ℕ). pick (ltb x (length s)) (Ends x) Unsure) q
-
-  pub quick-ends : e < length s → Ends e ≡ quickOf s at
-  quick-ends h = rw (lt-ltb e (length s) h) at as-told
-
-  pub quick-unsure : length s ≤ e → Unsure ≡ quickOf s at
-  quick-unsure h = rw (le-ltb e (length s) h) at as-told
+pub quick-told : (s : List ℕ) (at e : ℕ) → e ≡ quickEnd s at → toldOf (length s) e ≡ quickOf s at
+unfolding quickOf
+quick-told s at e q = ap (toldOf (length s)) q
 
 -- a terminator and a count of at most 34, in one number
-pub close-two : (b n : ℕ) → leb (bitOr (bitXor b 39 * 256) n) 34 ≡ true → (b ≡ 39) × (n ≤ 34)
-close-two b n q =
-    let h = leb-true (bitOr (bitXor b 39 * 256) n) 34 q in
+pub close-two : (b n : ℕ) → leb (bitOr (bitXor b 39 * 256) n) 34 ≡ both (eqb b 39) (leb n 34)
+close-two b n =
+    choose (eqb b 39)
+    (λ p.
+    let z = eqb-true b 39 p in
+    let e : bitXor b 39 ≡ 0 = ap (λ (x : ℕ). bitXor x 39) z ∙ xor-self 39 in
+    rw (p, e, or-zero-l n))
+    (λ p.
     let s = or-add-and (bitXor b 39 * 256) n in
-    let l = and-le-l (bitXor b 39 * 256) n in
     let r = and-le-r (bitXor b 39 * 256) n in
-    let e : bitXor b 39 ≡ 0 = omega arith in
-    (xor-zero b 39 e, omega arith)
+    let d : 0 < bitXor b 39 = some (bitXor b 39) (λ e. eqb-false b 39 p (xor-zero b 39 e)) in
+    rw (p, lt-leb (bitOr (bitXor b 39 * 256) n) 34 (omega arith)))
+  where
+    some : (k : ℕ) → (k ≡ 0 → ⊥) → 0 < k
+    some zero h = absurd (h refl)
+    some (suc k) h = omega arith
 
 -- an input that ends before that has none
 pub quick-past : (s : List ℕ) (at : ℕ) → length s < at + 4 → length s ≡ quickEnd s at
@@ -65,12 +78,6 @@ module _ (s : List ℕ) (at e : ℕ) (f : e ≡ endFrom s (at + 4)) where
   by-few : pick (isFew s at e) e (length s) ≡ quickEnd s at
   unfolding quickEnd
   by-few = ap (λ (x : ℕ). pick (isFew s at x) x (length s)) f
-
-  pub quick-none : length s ≤ e → length s ≡ quickEnd s at
-  quick-none h =
-      let m = end-most s (at + 4) in
-      let g : length s ≡ e = omega arith in
-      choose (isFew s at e) (λ p. g ∙ (rw p at by-few)) (λ p. rw p at by-few)
 
   pub quick-short : e - at ≤ 34 → e ≡ quickEnd s at
   unfolding isFew
@@ -129,7 +136,7 @@ module _ (s : List ℕ) (at : ℕ) (q : tagAhead (drop at s) ≡ true) where
       (λ p. let g = rw p at h in absurd (omega arith))
 
   pub quick-segment : (e : ℕ) → getD s (at + 3) 0 ≡ 43 → quickOf s at ≡ Ends e → segmentAt s at ≡ End e
-  unfolding quickOf
+  unfolding quickOf toldOf
   quick-segment e d h =
       choose (ltb (quickEnd s at) (length s))
       (λ p. quick-whole d (ltb-true (quickEnd s at) (length s) p) ∙ ap End (ends-same (rw p at h)))

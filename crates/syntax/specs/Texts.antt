@@ -70,7 +70,7 @@ unfolding wordBy
 times-word f [] = refl
 times-word f (b ∷ l) = let h = times-word f l in omega arith
 
--- a number of eight bytes, each at most n, that come to t
+-- a number of eight bytes, each at most n, of which the sum is t
 pub record Bytes (n t x : ℕ) : Type 0 where
   pub a : ℕ
   pub b : ℕ
@@ -170,7 +170,7 @@ unfolding marksIn
 marks-joined [] m = sym (zero-add (marksIn m))
 marks-joined (b ∷ l) m = let h = marks-joined l m in omega arith
 
-pub marks-eight : (s : List ℕ) (i : ℕ) → i + 8 ≤ length s → marksIn (drop i s) ≡ marksIn (eightAt s i) + marksIn (drop (i + 8) s)
+marks-eight : (s : List ℕ) (i : ℕ) → i + 8 ≤ length s → marksIn (drop i s) ≡ marksIn (eightAt s i) + marksIn (drop (i + 8) s)
 marks-eight s i h = ap marksIn (drop-eight s i h) ∙ marks-joined (eightAt s i) (drop (i + 8) s)
 
 -- of the bytes from one index to another as many are seen to be no marks as the bytes of x come to

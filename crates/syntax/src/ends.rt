@@ -84,8 +84,8 @@ pub(crate) fn run_end(s: &[u8], from: usize) -> Run
     Run::Left(i)
 }
 
-// The same, past the space as well, which costs a little more for eight bytes.
-fn common_end(s: &[u8], from: usize) -> usize
+/// The same, past the space as well, which costs a little more for eight bytes.
+pub(crate) fn common_end(s: &[u8], from: usize) -> usize
     ensures { λ r. ⌜ (from ≤ r) × (endFrom (now (s .entry)) r ≡ endFrom (now (s .entry)) from) ⌝ }
 {
     if s.len() < 8 {

@@ -5,20 +5,22 @@ use crate::bytes::permitted;
 use crate::bytes::released_end;
 use crate::bytes::wide;
 use crate::ends::Run;
+use crate::ends::common_end;
 use crate::ends::find_end;
 use crate::ends::run_end;
 use crate::limits::Counts;
 use crate::marks::is_small;
 use crate::texts::text_end;
 ghost use mathlib.Core.Path.{_≡_};
-ghost use mathlib.Core.Bool.{true, not};
-ghost use Prim.Native.Nat.{_+_, _≤_, min};
+ghost use mathlib.Core.Bool.{not};
+ghost use Prim.Native.Nat.{_+_, _≤_, _<_, min};
+ghost use lib.Dec.{eqb, leb};
 ghost use lib.ListN.{length, drop};
 ghost use Rattle.laws.specs.Choice.{pick, both};
 ghost use Rattle.syntax.specs.Segment.{capital, segmentAt, scannedAnswer, refusalOf, segmentAnswer, tagNumber};
 ghost use Rattle.syntax.specs.Tags.{tagCloses, tagAhead};
 ghost use Rattle.syntax.specs.Found.{endFrom};
-ghost use Rattle.syntax.specs.Quick.{quickEnd, quickOf};
+ghost use Rattle.syntax.specs.Quick.{quickEnd, toldOf, quickOf};
 
 /// What stands at an offset.
 pub enum Scanned {
@@ -124,34 +126,28 @@ fn near(at: usize, n: usize) -> usize
     at + 513
 }
 
-// The same as `find_end`, except that no more than 513 bytes from an offset on are looked at.
+// The same as `find_end`, except that no more than 513 bytes from an offset on are looked at. Most ends are found here, without that call.
 fn near_end(s: &[u8], at: usize, from: usize) -> usize
     requires { ⌜ at ≤ length (now s) ⌝ }
     ensures { λ r. ⌜ min r (at + 513) ≡ min (endFrom (now (s .entry)) from) (at + 513) ⌝ }
 {
-    if from < s.len() {
-        if s[from] == b'\'' {
-            return from;
+    let cut = near(at, s.len());
+    let j = common_end(&s[..cut], from);
+    if j < cut {
+        if s[j] == b'\'' {
+            return j;
         }
     }
-    let cut = near(at, s.len());
-    find_end(&s[..cut], from)
+    find_end(&s[..cut], j)
 }
 
-// The same as `quick_end`, from a byte on before which the segment does not end. In a function of its own, so that little is left where
-// the end is found at once.
-fn small_end(s: &[u8], at: usize, from: usize) -> usize
-    requires { ⌜ (at + 4 ≤ length (now s)) × (endFrom (now s) from ≡ endFrom (now s) (at + 4)) ⌝ }
+// The terminator's index of a segment that is told at once, the input's length for any other, where the end is sought already. In a function of its own, as `small_end` is, so that little is left where the end is found
+// at once and is near.
+fn long_end(s: &[u8], at: usize, end: usize) -> usize
+    requires { ⌜ (at + 34 < end) × (min end (at + 513) ≡ min (endFrom (now s) (at + 4)) (at + 513)) ⌝ }
     ensures { λ r. ⌜ r ≡ quickEnd (now (s .entry)) at ⌝ }
 {
-    let end = near_end(s, at, from);
-    if end - at <= 34 {
-        return end;
-    }
     if 512 < end - at {
-        return s.len();
-    }
-    if s.len() <= end {
         return s.len();
     }
     if is_small(&s[at..end]) {
@@ -160,20 +156,30 @@ fn small_end(s: &[u8], at: usize, from: usize) -> usize
     s.len()
 }
 
+// The same from a byte on before which the segment does not end.
+fn small_end(s: &[u8], at: usize, from: usize) -> usize
+    requires { ⌜ (at + 4 ≤ length (now s)) × (endFrom (now s) from ≡ endFrom (now s) (at + 4)) ⌝ }
+    ensures { λ r. ⌜ r ≡ quickEnd (now (s .entry)) at ⌝ }
+{
+    let end = near_end(s, at, from);
+    if end - at <= 34 {
+        return end;
+    }
+    long_end(s, at, end)
+}
+
 // Whether a byte is the terminator and the segment before it has at most 34 bytes, in one test.
 fn closes(b: u8, n: usize) -> bool
-    ensures { λ r. ⌜ (r ≡ true → (b ≡ 39) × (n ≤ 34)) ⌝ }
+    ensures { λ r. ⌜ r ≡ both (eqb b 39) (leb n 34) ⌝ }
 {
     ((b ^ b'\'') as usize * 256) | n <= 34
 }
 
-// The same as `quick_end`, from a byte on before which the segment does not end.
-fn careful_end(s: &[u8], at: usize, from: usize) -> Quick
-    requires { ⌜ (at + 4 ≤ length (now s)) × (endFrom (now s) from ≡ endFrom (now s) (at + 4)) ⌝ }
-    ensures { λ r. ⌜ r ≡ quickOf (now (s .entry)) at ⌝ }
+// An end that is the input's length is none.
+fn told(n: usize, end: usize) -> Quick
+    ensures { λ r. ⌜ r ≡ toldOf n end ⌝ }
 {
-    let end = small_end(s, at, from);
-    if end < s.len() {
+    if end < n {
         return Quick::Ends(end);
     }
     Quick::Unsure
@@ -194,9 +200,12 @@ pub fn quick_end(s: &[u8], at: usize) -> Quick
             if closes(s[j], j - at) {
                 return Quick::Ends(j);
             }
-            careful_end(s, at, j)
+            if s[j] == b'\'' {
+                return told(s.len(), long_end(s, at, j));
+            }
+            told(s.len(), small_end(s, at, j))
         }
-        Run::Left(j) => careful_end(s, at, j),
+        Run::Left(j) => told(s.len(), small_end(s, at, j)),
     }
 }
 
