@@ -344,19 +344,13 @@ pub fn test_all(
                                 i = service.to;
                                 totals = more;
                             }
-                            Tested::Refused(refusal) => {
-                                return Tested::Refused(refusal);
-                            }
+                            Tested::Refused(refusal) => return Tested::Refused(refusal),
                         }
                     }
-                    services::Tested::Refused(refusal) => {
-                        return Tested::Refused(refusal);
-                    }
+                    services::Tested::Refused(refusal) => return Tested::Refused(refusal),
                 }
             }
-            Found::NoMore => {
-                return Tested::Passed(totals);
-            }
+            Found::NoMore => return Tested::Passed(totals),
         }
     }
 }
