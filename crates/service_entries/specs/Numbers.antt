@@ -12,7 +12,7 @@ use lib.Dec.{ltb}
 use lib.ListN.{length, getD, set, take, drop, replicate, length-take, length-drop}
 use lib.Seq.{take-all, take-suc, getD-take, getD-drop, set-getD, paste, paste-zero, drop-paste, length-take-le}
 use Rattle.laws.specs.Choice.{pick, all, both-parts}
-use Rattle.laws.specs.Lists.{between}
+use Rattle.laws.specs.Lists.{between, length-between}
 use Rattle.laws.specs.Put.{putAt, put-room, put-front, copied}
 use Rattle.laws.specs.Eight.{all-joined}
 use Rattle.free_texts.specs.Free.{quiet, plain-all}
@@ -101,11 +101,12 @@ pub quiet-whole : (l : List ℕ) (i : ℕ) → length l ≤ i → all (quiet 63)
 quiet-whole l i h p = sym (ap (all (quiet 63)) (take-all i l h)) ∙ p
 
 -- a number that holds no release is what its part says
-pub number-quiet : (s : List ℕ) (from to : ℕ) (l : List ℕ) → to ≤ from + 10 → l ≡ numberBytes (between s from to) → all (quiet 63) l ≡ true → l ≡ numberBytes (plain (between s from to))
+pub number-quiet : (s : List ℕ) (from to : ℕ) (l : List ℕ) → to ≤ from + 10 → to ≤ length s → l ≡ numberBytes (between s from to) → all (quiet 63) l ≡ true
+    → (l ≡ numberBytes (plain (between s from to))) × (to - from ≡ length (plain (between s from to)))
 unfolding numberBytes
-number-quiet s from to l h e q =
+number-quiet s from to l h k e q =
     let x = between s from to in
     let w = length-take (to - from) (drop from s) in
     let f : l ≡ x ++ drop (length x) (replicate 10 0) = e ∙ put-front (replicate 10 0) x (omega arith) in
     let p = both-parts (all (quiet 63) x) (all (quiet 63) (drop (length x) (replicate 10 0))) (sym (all-joined (quiet 63) x (drop (length x) (replicate 10 0))) ∙ sym (ap (all (quiet 63)) f) ∙ q) .0 in
-    e ∙ ap (putAt (replicate 10 0) 0) (sym (plain-all x p))
+    (e ∙ ap (putAt (replicate 10 0) 0) (sym (plain-all x p)), sym (length-between s from to k) ∙ ap length (sym (plain-all x p)))

@@ -4,7 +4,9 @@ mod numbers;
 mod orders;
 
 use joining::join_period;
+pub use numbers::Number;
 pub use numbers::number_of;
+pub use numbers::read_number;
 pub use orders::put_order;
 pub use orders::put_orders;
 use services::Found;

@@ -13,6 +13,14 @@ ghost use Rattle.syntax.specs.Bytes.{plain};
 ghost use Rattle.parts.specs.Places.{bytesOf};
 ghost use Rattle.service_entries.specs.Room.{numberBytes};
 
+/// A number after release.
+pub struct Number {
+    /// As it stands in a slot.
+    pub bytes: [u8; 10],
+    /// How many characters it has.
+    pub length: usize,
+}
+
 // A byte of a number, or 0 behind its end.
 fn kept(b: u8, inside: bool) -> u8
     ensures { λ r. ⌜ r ≡ pick inside b 0 ⌝ }
@@ -70,7 +78,7 @@ fn is_near(s: &[u8], from: usize, to: usize) -> bool
     from <= s.len() - 10
 }
 
-// The number of any part, byte by byte.
+// The number of any part in a slot, byte by byte.
 fn plain_number(s: &[u8], part: Part) -> [u8; 10]
     ensures { λ r. ⌜ r ≡ numberBytes (plain (bytesOf (now (s .entry)) part)) ⌝ }
 {
@@ -79,18 +87,36 @@ fn plain_number(s: &[u8], part: Part) -> [u8; 10]
     number
 }
 
-/// The number of a service after release, as it stands in a slot.
-pub fn number_of(s: &[u8], part: Part) -> [u8; 10]
-    ensures { λ r. ⌜ r ≡ numberBytes (plain (bytesOf (now (s .entry)) part)) ⌝ }
+// The number of any part.
+fn any_number(s: &[u8], part: Part) -> Number
+    ensures { λ r. ⌜ (r .bytes ≡ numberBytes (plain (bytesOf (now (s .entry)) part))) × (r .length ≡ length (plain (bytesOf (now (s .entry)) part))) ⌝ }
+{
+    let bytes = plain_number(s, part);
+    let length = values::plain_length(bytes_of(s, part));
+    Number { bytes, length }
+}
+
+/// The number of a service after release, and how long it is.
+pub fn read_number(s: &[u8], part: Part) -> Number
+    ensures { λ r. ⌜ (r .bytes ≡ numberBytes (plain (bytesOf (now (s .entry)) part))) × (r .length ≡ length (plain (bytesOf (now (s .entry)) part))) ⌝ }
 {
     let from = part.from;
     let to = part.to;
     if !is_near(s, from, to) {
-        return plain_number(s, part);
+        return any_number(s, part);
     }
-    let number = ten_at(s, from, to - from);
-    if is_quiet(&number) {
-        return number;
+    let length = to - from;
+    let bytes = ten_at(s, from, length);
+    if is_quiet(&bytes) {
+        return Number { bytes, length };
     }
-    plain_number(s, part)
+    any_number(s, part)
+}
+
+/// The number of a service after release, as it stands in a slot.
+pub fn number_of(s: &[u8], part: Part) -> [u8; 10]
+    ensures { λ r. ⌜ r ≡ numberBytes (plain (bytesOf (now (s .entry)) part)) ⌝ }
+{
+    let number = read_number(s, part);
+    number.bytes
 }

@@ -1,14 +1,15 @@
 -- The ways through the code, a law for each; what a call answered has a name of its own.
 -- Assumes nothing.
 use Prim.Native.Nat.{ℕ, _+_, _-_, _≤_, _<_}
-use mathlib.Core.Path.{_≡_, sym, ap, _∙_}
+use mathlib.Core.Path.{_≡_, refl, sym, ap, _∙_}
 use mathlib.Core.Bool.{Bool, true, false, not}
 use mathlib.Core.List.{List, [], _∷_}
 use mathlib.Core.Option.{Option, none, some}
 use native.Mathlib.Omega.{arith}
 use lib.Dec.{ltb}
+use lib.ListN.{length}
 use borrow.Author.Tests.{lt-leb, le-leb, ltb-true, ltb-false}
-use Rattle.laws.specs.Choice.{both, both-true, choose}
+use Rattle.laws.specs.Choice.{both, both-true, either, either-true, choose}
 use Rattle.answers.specs.Answers.{Answer, done, refused}
 use Rattle.answers.specs.Laws.{refused≢done}
 use Rattle.syntax.specs.Segment.{bodyAt}
@@ -19,7 +20,9 @@ use Rattle.period.specs.Period.{periodOf}
 use Rattle.joining.specs.Joined.{inWindow}
 use Rattle.services.specs.declared.Service.{Service}
 use Rattle.services.specs.Laws.{segment-body}
-use Rattle.services.specs.Services.{segmentOf, periodsOf, isWrong, isTwice, testedOf}
+use Rattle.services.specs.Rows.{offsetAt, rowCount, firstFrom}
+use Rattle.services.specs.Search.{list-none, list-some}
+use Rattle.services.specs.Services.{segmentOf, isPeriodRow, periodsFrom, periodsOf, hasPeriod, numberFits, periodsFit, isWrong, isTwice, testedOf}
 use Rattle.service_tests.specs.declared.Totals.{Totals}
 use Rattle.service_entries.specs.declared.Known.{Known}
 use Rattle.service_entries.specs.declared.Known.the-variants as known
@@ -59,6 +62,54 @@ module _ (first : ℕ) (s l : List ℕ) where
     pub outside-on : outsideBy first (periodOf (bodyAt s at)) ≡ false → firstOutside first s rest ≡ firstOutside first s l
     unfolding firstOutside
     outside-on q = rw (e, q)
+
+-- ---- whether there is any period
+
+abbrev pub anyOf : List ℕ → Bool
+anyOf [] = false
+anyOf (at ∷ l) = true
+
+pub any-period : (rows : List ℕ) (from to : ℕ) → anyOf (periodsFrom rows from to) ≡ hasPeriod rows from to
+unfolding hasPeriod
+any-period rows from to =
+    let n = rowCount rows to in
+    let k = firstFrom (isPeriodRow rows) from n in
+    choose (ltb k n)
+    (λ p. ap anyOf (list-some (isPeriodRow rows) (offsetAt rows) from n (ltb-true k n p)) ∙ sym p)
+    (λ p. ap anyOf (list-none (isPeriodRow rows) (offsetAt rows) from n (ltb-false k n p)) ∙ sym p)
+
+any-none : (carries : Bool) → either carries false ≡ carries
+any-none true = refl
+any-none false = refl
+
+-- what came so far, and what is left
+module _ (carries : Bool) (l : List ℕ) (x : Bool) (q : either carries (anyOf l) ≡ x) where
+  pub any-on : (at : ℕ) (rest : List ℕ) → l ≡ at ∷ rest → true ≡ x
+  any-on at rest e = sym (either-true carries) ∙ sym (ap (λ (k : List ℕ). either carries (anyOf k)) e) ∙ q
+
+  pub any-done : l ≡ [] → carries ≡ x
+  any-done e = sym (any-none carries) ∙ sym (ap (λ (k : List ℕ). either carries (anyOf k)) e) ∙ q
+
+-- ---- 11 by what is known of a service
+
+module _ (removal : Bool) (n : ℕ) (carries : Bool) where
+  pub wrong-short : n < 1 → true ≡ not (both (numberFits n) (periodsFit removal carries))
+  wrong-short h = rw (lt-leb 1 n h)
+
+  pub wrong-long : 10 < n → true ≡ not (both (numberFits n) (periodsFit removal carries))
+  wrong-long h = rw (le-leb 1 n (omega arith), lt-leb n 10 h)
+
+  module _ (h : 1 ≤ n) (l : n ≤ 10) where
+    pub wrong-removal : removal ≡ true → carries ≡ not (both (numberFits n) (periodsFit removal carries))
+    wrong-removal q = rw (le-leb 1 n h, le-leb n 10 l, q) (choose carries (λ p. rw p) (λ p. rw p))
+
+    pub wrong-put : removal ≡ false → not carries ≡ not (both (numberFits n) (periodsFit removal carries))
+    wrong-put q = rw (le-leb 1 n h, le-leb n 10 l, q)
+
+pub wrong-is : (s rows : List ℕ) (v : Service) (x : Bool) (n : ℕ) (carries : Bool) → x ≡ not (both (numberFits n) (periodsFit (v .removal) carries)) → n ≡ length (numberIn s v)
+    → carries ≡ hasPeriod rows (v .from) (v .to) → x ≡ isWrong s rows v
+unfolding isWrong
+wrong-is s rows v x n carries e a b = e ∙ rw (a, b)
 
 -- ---- the tests of a service
 

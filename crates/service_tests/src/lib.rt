@@ -9,13 +9,13 @@ use joining::join_period;
 use period::Period;
 use period::read_period;
 use service_entries::Known;
+use service_entries::Number;
 use service_entries::held;
-use service_entries::number_of;
 use service_entries::put_order;
+use service_entries::read_number;
 use services::Found;
 use services::FoundPeriod;
 use services::Service;
-use services::is_wrong;
 use services::next_period;
 use services::next_service;
 use services::segment_at;
@@ -33,7 +33,7 @@ ghost use Rattle.joining.specs.Joined.{inWindow, daysJoined, joinAll};
 ghost use lib.ListN.{length, set};
 ghost use Rattle.answers.specs.Answers.{done, refused};
 ghost use Rattle.services.specs.Services as services;
-ghost use Rattle.services.specs.Services.{periodsFrom, servicesOf};
+ghost use Rattle.services.specs.Services.{numberFits, periodsFit, periodsFrom, hasPeriod, servicesOf};
 ghost use Rattle.stages.specs.Stage.{numberIn, outsideBy, firstOutside, daysOf};
 ghost use Rattle.service_tests.specs.Tests.{windowFound, totalsAnswer, unknownBy, adds, drops, removals, testKnown, testInside, testAll, noTotals};
 ghost use Rattle.service_tests.specs.Marks.{markOf, Marked};
@@ -108,9 +108,15 @@ pub fn test_window(first: usize, s: &[u8], rows: &[u32], from: usize, to: usize)
     }
 }
 
-// The days of a service over the window, where none of its POPs goes past it.
-struct Days {
+// What the POPs of a service come to: the first that is not wholly in the window, and whether there is any POP.
+struct Walk {
     window: Window,
+    carries: bool,
+}
+
+// The same, and the days of a service over the window, where none of its POPs goes past it.
+struct Days {
+    walk: Walk,
     days: [u8; 64],
 }
 
@@ -135,22 +141,30 @@ fn join_window(
     rows: &[u32],
     from: usize,
     to: usize,
-) -> Window
+) -> Walk
     requires { ⌜ length (now days) ≡ 64 ⌝ }
-    ensures told { λ r. ⌜ windowFound r ≡ firstOutside first (now (s .entry)) (periodsFrom (now (rows .entry)) from to) ⌝ }
-    ensures left { λ r. ⌜ (windowFound r ≡ none → now (days .exit) ≡ joinAll (now (days .entry)) first (map (bodyAt (now (s .entry))) (periodsFrom (now (rows .entry)) from to))) ⌝ }
+    ensures told { λ r. ⌜ (windowFound (r .window) ≡ firstOutside first (now (s .entry)) (periodsFrom (now (rows .entry)) from to)) × (r .carries ≡ hasPeriod (now (rows .entry)) from to) ⌝ }
+    ensures left { λ r. ⌜ (windowFound (r .window) ≡ none → now (days .exit) ≡ joinAll (now (days .entry)) first (map (bodyAt (now (s .entry))) (periodsFrom (now (rows .entry)) from to))) ⌝ }
 {
     let mut i = from;
+    let mut carries = false;
     loop {
         match next_period(rows, i, to) {
             FoundPeriod::Pop(k, at) => {
                 if join_one(days, first, s, at) {
-                    return Window::Outside(at);
+                    return Walk {
+                        window: Window::Outside(at),
+                        carries: true,
+                    };
                 }
                 i = k + 1;
+                carries = true;
             }
             FoundPeriod::NoMore => {
-                return Window::Inside;
+                return Walk {
+                    window: Window::Inside,
+                    carries,
+                };
             }
         }
     }
@@ -158,12 +172,12 @@ fn join_window(
 
 // The same into a calendar of its own.
 fn join_days(first: usize, s: &[u8], rows: &[u32], from: usize, to: usize) -> Days
-    ensures told { λ r. ⌜ windowFound (r .window) ≡ firstOutside first (now (s .entry)) (periodsFrom (now (rows .entry)) from to) ⌝ }
-    ensures left { λ r. ⌜ (windowFound (r .window) ≡ none → r .days ≡ daysOf first (now (s .entry)) (periodsFrom (now (rows .entry)) from to)) ⌝ }
+    ensures told { λ r. ⌜ (windowFound (r .walk .window) ≡ firstOutside first (now (s .entry)) (periodsFrom (now (rows .entry)) from to)) × (r .walk .carries ≡ hasPeriod (now (rows .entry)) from to) ⌝ }
+    ensures left { λ r. ⌜ (windowFound (r .walk .window) ≡ none → r .days ≡ daysOf first (now (s .entry)) (periodsFrom (now (rows .entry)) from to)) ⌝ }
 {
     let mut days = [0u8; 64];
-    let window = join_window(&mut days, first, s, rows, from, to);
-    Days { window, days }
+    let walk = join_window(&mut days, first, s, rows, from, to);
+    Days { walk, days }
 }
 
 // What a refusal is.
@@ -232,6 +246,22 @@ fn test_known(room: &[u8], number: [u8; 10], service: Service, totals: Totals) -
     })
 }
 
+// 11: whether the number is wrong, or a POP is missing or present wrongly.
+fn is_wrong(removal: bool, length: usize, carries: bool) -> bool
+    ensures { λ r. ⌜ r ≡ not (both (numberFits length) (periodsFit removal carries)) ⌝ }
+{
+    if length < 1 {
+        return true;
+    }
+    if 10 < length {
+        return true;
+    }
+    if removal {
+        return carries;
+    }
+    !carries
+}
+
 // Tests a service for 11, then for 12: `marks` has the marks of the numbers before it, and then its own too. A number whose mark is new is
 // that of no service before it, so that few are compared.
 fn test_number(
@@ -239,16 +269,18 @@ fn test_number(
     s: &[u8],
     rows: &[u32],
     service: Service,
-    number: [u8; 10],
+    number: Number,
+    carries: bool,
 ) -> services::Tested
-    requires { ⌜ Marked (now marks) (now s) (now rows) (service .from) × (number ≡ numberBytes (numberIn (now s) service)) ⌝ }
+    requires { ⌜ Marked (now marks) (now s) (now rows) (service .from) × ((number .bytes ≡ numberBytes (numberIn (now s) service)) × (number .length ≡ length (numberIn (now s) service))) × (carries ≡ hasPeriod (now rows) (service .from) (service .to)) ⌝ }
     ensures told { λ r. ⌜ services.testedAnswer r ≡ services.testedOf (now (s .entry)) (now (rows .entry)) service ⌝ }
     ensures left { λ _. ⌜ now (marks .exit) ≡ set (now (marks .entry)) (markOf (numberIn (now (s .entry)) service)) 1 ⌝ }
 {
-    if set_mark(marks, mark_of(number)) {
+    let bytes = number.bytes;
+    if set_mark(marks, mark_of(bytes)) {
         return test_service(s, rows, service);
     }
-    if is_wrong(s, rows, service) {
+    if is_wrong(service.removal, number.length, carries) {
         return services::Tested::Refused(Refusal {
             number: 11,
             position: service.prd,
@@ -298,31 +330,27 @@ pub fn test_all(
         match next_service(s, rows, n, i) {
             Found::At(service) => {
                 let part = service.number;
-                let number = number_of(s, part);
-                match test_number(&mut marks, s, rows, service, number) {
+                let number = read_number(s, part);
+                let joined = join_days(first, s, rows, service.from, service.to);
+                let walk = joined.walk;
+                match test_number(&mut marks, s, rows, service, number, walk.carries) {
                     services::Tested::Good => {
-                        let joined = join_days(first, s, rows, service.from, service.to);
-                        let window = joined.window;
+                        let bytes = number.bytes;
+                        let window = walk.window;
                         let days = joined.days;
-                        match test_one(room, number, service, window, totals) {
+                        match test_one(room, bytes, service, window, totals) {
                             Tested::Passed(more) => {
-                                put_order(orders, totals.services, number, service.removal, days);
+                                put_order(orders, totals.services, bytes, service.removal, days);
                                 i = service.to;
                                 totals = more;
                             }
-                            Tested::Refused(refusal) => {
-                                return Tested::Refused(refusal);
-                            }
+                            Tested::Refused(refusal) => return Tested::Refused(refusal),
                         }
                     }
-                    services::Tested::Refused(refusal) => {
-                        return Tested::Refused(refusal);
-                    }
+                    services::Tested::Refused(refusal) => return Tested::Refused(refusal),
                 }
             }
-            Found::NoMore => {
-                return Tested::Passed(totals);
-            }
+            Found::NoMore => return Tested::Passed(totals),
         }
     }
 }

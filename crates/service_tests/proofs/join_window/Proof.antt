@@ -1,12 +1,14 @@
 -- `join_window` meets its contract.
 -- Assumes nothing.
 use mathlib.Core.Path.{_≡_, refl, sym, _∙_}
+use mathlib.Core.Bool.{true}
 use mathlib.Core.List.{map}
 use Prim.Native.Nat.{ℕ, _+_, _-_}
 use native.Mathlib.Omega.{arith}
 use borrow.Author.Needs.{needs}
 use denote.Ref.{now}
 use lib.ListN.{length}
+use Rattle.laws.specs.Choice.{either}
 use Rattle.syntax.specs.Segment.{bodyAt}
 use Rattle.joining.specs.Joined.{joinAll}
 use Rattle.services.specs.Rows.{rowCount}
@@ -15,18 +17,19 @@ use Rattle.services.specs.Ways.{NextPeriod, period-found, period-gone}
 use Rattle.stages.specs.Stage.{firstOutside}
 use Rattle.service_entries.specs.Ways.{join-none}
 use Rattle.service_tests.specs.Orders.{join-next, some≢none}
-use Rattle.service_tests.specs.Ways.{outside-none, outside-here, outside-on}
+use Rattle.service_tests.specs.Ways.{outside-none, outside-here, outside-on, anyOf, any-period, any-on, any-done}
 use Rattle.service_tests.proofs.join_window.Statement.{statement}
 use Rattle.service_tests.proofs.join_window.Tie as tie
 
 abbrev Inv-loop : tie.InvT-loop
-Inv-loop days₀ first s rows from to i₀ days i =
+Inv-loop days₀ first s rows from to i₀ carries₀ days i carries =
     (firstOutside first s (periodsFrom rows i to) ≡ firstOutside first s (periodsFrom rows from to))
     × (joinAll days first (map (bodyAt s) (periodsFrom rows i to)) ≡ joinAll days₀ first (map (bodyAt s) (periodsFrom rows from to)))
     × (length days ≡ length days₀)
+    × (either carries (anyOf (periodsFrom rows i to)) ≡ anyOf (periodsFrom rows from to))
 
 abbrev μ-loop : tie.MeasureT-loop
-μ-loop days₀ first s rows from to i₀ days i = rowCount rows to - i
+μ-loop days₀ first s rows from to i₀ carries₀ days i carries = rowCount rows to - i
 
 -- the POP that was found
 module _ (t : tie.After-join-one Inv-loop μ-loop) where
@@ -47,8 +50,14 @@ module _ (t : tie.After-join-one Inv-loop μ-loop) where
       period-found (now (start .args .rows)) (own .loop .i) (start .args .to) row at
       (sym (t .before .before .before .before .before .next-period .ensures) ∙ t .before .before .before .k .given .1)
 
+  -- so there is one
+  came : true ≡ anyOf (periodsFrom (now (start .args .rows)) (start .args .from) (start .args .to))
+  came =
+      any-on (own .loop .carries) (periodsFrom (now (start .args .rows)) (own .loop .i) (start .args .to)) (anyOf (periodsFrom (now (start .args .rows)) (start .args .from) (start .args .to))) (own .loop .inv .3) at
+      (periodsFrom (now (start .args .rows)) (row + 1) (start .args .to)) (next .rest)
+
 loop-holds : tie.Need-loop-holds Inv-loop μ-loop
-loop-holds c = (refl, refl, refl)
+loop-holds c = (refl, refl, refl, refl)
 
 next-period-requires : tie.Need-next-period-requires Inv-loop μ-loop
 next-period-requires c κs = search needs
@@ -70,8 +79,11 @@ returns : tie.Need-returns Inv-loop μ-loop
 returns c =
     let t = c .before .before .before in
     let a = start t .args in (
-      outside-here (a .first) (now (a .s)) (periodsFrom (now (a .rows)) (own t .loop .i) (a .to)) (at t) (periodsFrom (now (a .rows)) (row t + 1) (a .to)) (next t .rest) (sym (t .join-one .ensures .0) ∙ c .if1 .taken)
-          ∙ own t .loop .inv .0,
+      (
+        outside-here (a .first) (now (a .s)) (periodsFrom (now (a .rows)) (own t .loop .i) (a .to)) (at t) (periodsFrom (now (a .rows)) (row t + 1) (a .to)) (next t .rest) (sym (t .join-one .ensures .0) ∙ c .if1 .taken)
+            ∙ own t .loop .inv .0,
+        came t ∙ any-period (now (a .rows)) (a .from) (a .to),
+      ),
       λ q. absurd (some≢none q),
     )
 
@@ -95,6 +107,7 @@ loop-again c =
       join-next (a .first) (now (a .s)) (periodsFrom (now (a .rows)) (own t .loop .i) (a .to)) (own t .loop .days) (t .join-one .last .0) (at t) (periodsFrom (now (a .rows)) (row t + 1) (a .to)) (next t .rest) (t .join-one .ensures .1)
           ∙ v .1,
       t .join-one .kept .0 ∙ v .2,
+      came t,
     )
 
 enum-told : tie.Need-enum-told Inv-loop μ-loop
@@ -109,7 +122,10 @@ returns-2 c =
     let o = n .before in
     let a = o .before .before .before .before .args in
     let g = period-gone (now (a .rows)) (o .loop .i) (a .to) (sym (n .next-period .ensures) ∙ c .enum-told .given .1) in (
-      outside-none (a .first) (now (a .s)) (periodsFrom (now (a .rows)) (o .loop .i) (a .to)) g ∙ o .loop .inv .0,
+      (
+        outside-none (a .first) (now (a .s)) (periodsFrom (now (a .rows)) (o .loop .i) (a .to)) g ∙ o .loop .inv .0,
+        any-done (o .loop .carries) (periodsFrom (now (a .rows)) (o .loop .i) (a .to)) (anyOf (periodsFrom (now (a .rows)) (a .from) (a .to))) (o .loop .inv .3) g ∙ any-period (now (a .rows)) (a .from) (a .to),
+      ),
       λ q. sym (join-none (a .first) (now (a .s)) (periodsFrom (now (a .rows)) (o .loop .i) (a .to)) (o .loop .days) g) ∙ o .loop .inv .1,
     )
 

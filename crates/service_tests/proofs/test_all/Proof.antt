@@ -60,12 +60,12 @@ module _ (f : tie.After-service Inv-loop μ-loop) where
   abbrev rest : List Service
   rest = servicesFrom (now (start .args .s)) (now (start .args .rows)) (rowCount (now (start .args .rows)) (start .args .n)) (service .to)
 
--- and its number copied and tested
-abbrev copied : tie.After-test-number Inv-loop μ-loop → tie.After-number-of Inv-loop μ-loop
-copied t = t .before .before
+-- and its number read, its days joined and its number tested
+abbrev joined : tie.After-test-number Inv-loop μ-loop → tie.After-join-days Inv-loop μ-loop
+joined t = t .before .before .before
 
 abbrev found : tie.After-test-number Inv-loop μ-loop → tie.After-service Inv-loop μ-loop
-found t = t .before .before .before .before .before
+found t = t .before .before .before .before .before .before .before
 
 abbrev numbered : tie.After-test-one Inv-loop μ-loop → tie.After-test-number Inv-loop μ-loop
 numbered o = o .before .before .before .before .before .before
@@ -77,20 +77,21 @@ module _ (o : tie.After-test-one Inv-loop μ-loop) where
 
   tested : totalsAnswer (o .test-one .result) ≡ testOne (start at .args .first) (now (start at .args .s)) (now (start at .args .rows)) (lookAt (now (start at .args .room))) (service at) (own at .loop .totals)
   tested =
-      let j = o .before .before in
+      let j = joined (numbered o) in
+      let n = j .before .read-number in
       let a = start at .args in
       o .test-one .ensures
-      ∙ ap (λ (k : Known). testInside (windowFound (j .join-days .result .window)) (testKnown (service at .removal) (service at .prd) k (own at .loop .totals)))
-      (look-held (now (a .room)) (copied (numbered o) .number-of .result) (numberIn (now (a .s)) (service at)) (copied (numbered o) .number-of .ensures))
+      ∙ ap (λ (k : Known). testInside (windowFound (j .join-days .result .walk .window)) (testKnown (service at .removal) (service at .prd) k (own at .loop .totals)))
+      (look-held (now (a .room)) (n .result .bytes) (numberIn (now (a .s)) (service at)) (n .ensures .0))
       ∙ one-tested (now (a .s)) (now (a .rows)) (service at) (a .first) (lookAt (now (a .room))) (own at .loop .totals)
-      (sym (sym (numbered o .test-number .ensures .0) ∙ ap services.testedAnswer (j .before .enum-told .given .1))) (windowFound (j .join-days .result .window)) (j .join-days .ensures .0)
+      (sym (sym (numbered o .test-number .ensures .0) ∙ ap services.testedAnswer (o .before .before .before .enum-told .given .1))) (windowFound (j .join-days .result .walk .window)) (j .join-days .ensures .0 .0)
 
-  days-joined : (u : Totals) → totalsAnswer (o .test-one .result) ≡ done u → o .before .before .join-days .result .days ≡ daysOf (start at .args .first) (now (start at .args .s)) (periodsOf (now (start at .args .rows)) (service at))
+  days-joined : (u : Totals) → totalsAnswer (o .test-one .result) ≡ done u → joined (numbered o) .join-days .result .days ≡ daysOf (start at .args .first) (now (start at .args .s)) (periodsOf (now (start at .args .rows)) (service at))
   days-joined u e =
-      let j = o .before .before in
+      let j = joined (numbered o) in
       let a = start at .args in
       let p = passed (a .first) (now (a .s)) (now (a .rows)) (lookAt (now (a .room))) (service at) (own at .loop .totals) u (sym tested ∙ e) .0 in
-      j .join-days .ensures .1 (j .join-days .ensures .0 ∙ p .inside)
+      j .join-days .ensures .1 (j .join-days .ensures .0 .0 ∙ p .inside)
 
 loop-holds : tie.Need-loop-holds Inv-loop μ-loop
 loop-holds c =
@@ -105,16 +106,18 @@ enum-known-service c = search needs
 
 slice-aggregate-test-number : tie.Need-slice-aggregate-test-number Inv-loop μ-loop
 slice-aggregate-test-number c =
-    let e = own (c .before .before .before .before) .loop .inv .1 .size in
+    let e = own (c .before .before .before .before .before .before) .loop .inv .1 .size in
     omega arith
 
 test-number-requires : tie.Need-test-number-requires Inv-loop μ-loop
 test-number-requires c κs =
-    let n = c .before in
+    let j = c .before .before in
+    let n = j .before in
     let f = n .before .before .before in
     let a = start f .args in (
       marked-to (own f .loop .marks) (now (a .s)) (now (a .rows)) (own f .loop .i) (own f .loop .inv .1) (a .n) (service f) (next f),
-      n .number-of .ensures,
+      n .read-number .ensures,
+      j .join-days .ensures .0 .1,
     )
 
 enum-told : tie.Need-enum-told Inv-loop μ-loop
@@ -124,8 +127,8 @@ few : (t : Totals) (i : ℕ) → (t .services ≤ i) × (t .added ≤ i) × (t .
     → (t .services < 18446744073709551615) × (t .added < 18446744073709551615) × (t .dropped < 18446744073709551615) × (t .removals < 18446744073709551615)
 few t i v h = (omega arith, omega arith, omega arith, omega arith)
 
-number-of-requires : tie.Need-number-of-requires Inv-loop μ-loop
-number-of-requires c κs = search needs
+read-number-requires : tie.Need-read-number-requires Inv-loop μ-loop
+read-number-requires c κs = search needs
 
 join-days-requires : tie.Need-join-days-requires Inv-loop μ-loop
 join-days-requires c κs = search needs
@@ -162,8 +165,8 @@ loop-again c =
     let u = m .more .given .0 .0 in
     let e = sym (ap totalsAnswer (m .more .given .1)) ∙ tested o in
     let h = one-more (a .first) (now (a .s)) (now (a .rows)) (lookAt (now (a .room))) (service f) (l .totals) u e in
-    let x = copied t .number-of in
-    let d = ap (λ (y : List ℕ). ordered (l .orders) (l .totals .services) (y ++ (flagOf (service f .removal) ∷ o .before .before .join-days .result .days))) (x .ensures)
+    let j = joined t in
+    let d = ap (λ (y : List ℕ). ordered (l .orders) (l .totals .services) (y ++ (flagOf (service f .removal) ∷ j .join-days .result .days))) (j .before .read-number .ensures .0)
     ∙ ap (λ (y : List ℕ). ordered (l .orders) (l .totals .services) (numberBytes (numberIn (now (a .s)) (service f)) ++ (flagOf (service f .removal) ∷ y))) (days-joined o u (ap totalsAnswer (m .more .given .1))) in (
       (omega arith, omega arith, omega arith, omega arith),
       subst (λ (l : List ℕ). Marked l (now (a .s)) (now (a .rows)) (service f .to)) (sym (t .test-number .ensures .1))
@@ -240,11 +243,11 @@ test-all-spec =
     loop-holds
     next-service-requires
     enum-known-service
-    number-of-requires
+    read-number-requires
+    join-days-requires
     slice-aggregate-test-number
     test-number-requires
     enum-told
-    join-days-requires
     test-one-requires
     enum-known-more
     put-order-requires

@@ -7,21 +7,23 @@ use native.Mathlib.Omega.{arith}
 use borrow.Author.Needs.{needs}
 use denote.Ref.{now}
 use lib.ListN.{set}
+use Rattle.services.specs.Services.{isWrong}
 use Rattle.stages.specs.Stage.{numberIn}
 use Rattle.service_tests.specs.Marks.{tenMark, markOf, isMarked, mark-below, new-wrong, new-good}
+use Rattle.service_tests.specs.Ways.{wrong-is}
 use Rattle.service_tests.proofs.test_number.Statement.{statement}
 use Rattle.service_tests.proofs.test_number.Tie as tie
 
 -- the mark of the number
 module _ (t : tie.After-set-mark) where
   abbrev start : tie.Start
-  start = t .before .before .before .before .before .before
+  start = t .before .before .before .before .before .before .before
 
   abbrev number : List ℕ
   number = numberIn (now (start .args .s)) (start .args .service)
 
   mark-is : t .before .mark-of .result ≡ markOf number
-  mark-is = t .before .mark-of .ensures ∙ ap tenMark (start .pre .1)
+  mark-is = t .before .mark-of .ensures ∙ ap tenMark (start .pre .1 .0)
 
   left : t .set-mark .last .0 ≡ set (now (start .args .marks)) (markOf number) 1
   left = t .set-mark .ensures .1 ∙ ap (λ (k : ℕ). set (now (start .args .marks)) k 1) mark-is
@@ -34,8 +36,8 @@ mark-of-requires c κs = search needs
 
 set-mark-requires : tie.Need-set-mark-requires
 set-mark-requires c κs =
-    let i = c .before .before .before .before .before in
-    let h = mark-below (i .args .number) in
+    let i = c .before .before .before .before .before .before in
+    let h = mark-below (i .args .number .bytes) in
     let e = c .mark-of .ensures in
     let l = i .pre .0 .size in
     omega arith
@@ -52,6 +54,16 @@ returns c = (c .test-service .ensures, left (c .before .before .before .before))
 is-wrong-requires : tie.Need-is-wrong-requires
 is-wrong-requires c κs = search needs
 
+-- 11 by what is known of the service
+module _ (w : tie.After-is-wrong) where
+  abbrev begun : tie.Start
+  begun = start (w .before .before .before .before)
+
+  wrong : w .is-wrong .result ≡ isWrong (now (begun .args .s)) (now (begun .args .rows)) (begun .args .service)
+  wrong =
+      let a = begun .args in
+      wrong-is (now (a .s)) (now (a .rows)) (a .service) (w .is-wrong .result) (a .number .length) (a .carries) (w .is-wrong .ensures) (begun .pre .1 .1) (begun .pre .2)
+
 same-length-2 : tie.Need-same-length-2
 same-length-2 c = search needs
 
@@ -61,7 +73,7 @@ returns-2 c =
     let e = c .before .before in
     let i = start t in
     let a = i .args in (
-      new-wrong (now (a .marks)) (now (a .s)) (now (a .rows)) (a .service) (i .pre .0) (t .set-mark .result) (was t) (e .if1 .left) (c .before .is-wrong .result) (c .before .is-wrong .ensures) (c .if2 .taken),
+      new-wrong (now (a .marks)) (now (a .s)) (now (a .rows)) (a .service) (i .pre .0) (t .set-mark .result) (was t) (e .if1 .left) (c .before .is-wrong .result) (wrong (c .before)) (c .if2 .taken),
       left t,
     )
 
@@ -74,7 +86,7 @@ returns-3 c =
     let e = c .before .before in
     let i = start t in
     let a = i .args in (
-      new-good (now (a .marks)) (now (a .s)) (now (a .rows)) (a .service) (i .pre .0) (t .set-mark .result) (was t) (e .if1 .left) (c .before .is-wrong .result) (c .before .is-wrong .ensures) (c .if2 .left),
+      new-good (now (a .marks)) (now (a .s)) (now (a .rows)) (a .service) (i .pre .0) (t .set-mark .result) (was t) (e .if1 .left) (c .before .is-wrong .result) (wrong (c .before)) (c .if2 .left),
       left t,
     )
 

@@ -5,7 +5,7 @@ use Prim.Native.Nat.{_-_, min}
 use native.Mathlib.Omega.{arith}
 use borrow.Author.Needs.{needs}
 use denote.Ref.{now}
-use lib.ListN.{length, take, drop, replicate}
+use lib.ListN.{take, drop, replicate}
 use lib.Seq.{paste}
 use Rattle.service_entries.specs.Numbers.{ten-start, ten-step, ten-done}
 use Rattle.service_entries.proofs.numbers.ten_at.Statement.{statement}
