@@ -141,8 +141,7 @@ fn near_end(s: &[u8], at: usize, from: usize) -> usize
     find_end(&s[..cut], j)
 }
 
-// The terminator's index of a segment that is told at once, the input's length for any other, where the end is sought already. In a function of its own, as `small_end` is, so that little is left where the end is found
-// at once and is near.
+// The terminator's index of a segment that is told at once, the input's length for any other, where the end is sought already.
 fn long_end(s: &[u8], at: usize, end: usize) -> usize
     requires { ⌜ (at + 34 < end) × (min end (at + 513) ≡ min (endFrom (now s) (at + 4)) (at + 513)) ⌝ }
     ensures { λ r. ⌜ r ≡ quickEnd (now (s .entry)) at ⌝ }
@@ -156,11 +155,19 @@ fn long_end(s: &[u8], at: usize, end: usize) -> usize
     s.len()
 }
 
-// The same from a byte on before which the segment does not end.
+// The same from a byte on before which the segment does not end, which may be its end. In a function of its own, so that little is left where the end is
+// found at once and is near.
 fn small_end(s: &[u8], at: usize, from: usize) -> usize
-    requires { ⌜ (at + 4 ≤ length (now s)) × (endFrom (now s) from ≡ endFrom (now s) (at + 4)) ⌝ }
+    requires { ⌜ (at + 4 ≤ length (now s)) × (endFrom (now s) from ≡ endFrom (now s) (at + 4)) × (at ≤ from) ⌝ }
     ensures { λ r. ⌜ r ≡ quickEnd (now (s .entry)) at ⌝ }
 {
+    if 34 < from - at {
+        if from < s.len() {
+            if s[from] == b'\'' {
+                return long_end(s, at, from);
+            }
+        }
+    }
     let end = near_end(s, at, from);
     if end - at <= 34 {
         return end;
@@ -199,9 +206,6 @@ pub fn quick_end(s: &[u8], at: usize) -> Quick
         Run::Stops(j) => {
             if closes(s[j], j - at) {
                 return Quick::Ends(j);
-            }
-            if s[j] == b'\'' {
-                return told(s.len(), long_end(s, at, j));
             }
             told(s.len(), small_end(s, at, j))
         }

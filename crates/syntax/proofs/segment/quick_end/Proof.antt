@@ -1,10 +1,10 @@
 -- `quick_end` meets its contract.
 -- Assumes nothing.
-use mathlib.Core.Path.{_≡_, sym, ap, _∙_}
+use mathlib.Core.Path.{_≡_, sym, _∙_}
 use mathlib.Core.List.{List}
-use Prim.Native.Nat.{ℕ, _+_, _-_, _≤_, _<_, min}
+use Prim.Native.Nat.{ℕ, _+_, _-_, _≤_, _<_}
 use native.Mathlib.Omega.{arith}
-use borrow.Author.Tests.{eqb-true, eq-eqb, leb-true, leb-false}
+use borrow.Author.Tests.{eqb-true, leb-true}
 use denote.Ref.{now}
 use lib.Dec.{eqb, leb}
 use lib.ListN.{length, getD}
@@ -19,7 +19,6 @@ use Rattle.syntax.proofs.segment.quick_end.Reads as reads
 use Rattle.syntax.proofs.segment.quick_end.Lts as lts
 use Rattle.syntax.proofs.ends.run_end.Reads as run-end-reads
 use Rattle.syntax.proofs.segment.closes.Reads as closes-reads
-use Rattle.syntax.proofs.segment.long_end.Reads as long-end-reads
 use Rattle.syntax.proofs.segment.small_end.Reads as small-end-reads
 use Rattle.syntax.proofs.segment.told.Reads as told-reads
 
@@ -80,33 +79,13 @@ returns-3 c =
     told-ends (length (list e)) (stop e) (stopped e .1)
     ∙ quick-told (list e) (from e) (stop e) (quick-short (list e) (from e) (stop e) (here e (eqb-true _ 39 (k .0))) (leb-true _ 34 (k .1)))
 
-shared-slice-read-if4 : tie.Need-shared-slice-read-if4
-shared-slice-read-if4 c = stopped (c .before .before .before .before .before) .1
-
-long-end-requires : tie.Need-long-end-requires
-long-end-requires c κs =
-    let x = c .before .before in
-    let e = c .before .before .before .before .before .before in
-    let h = stopped e .0 in
-    let f = leb-false (stop e - from e) 34 (rw (eq-eqb (getD (list e) (stop e) 0) 39 (c .if4 .taken)) at (sym (x .before .closes .ensures) ∙ x .if3 .left)) in
-    (omega arith, ap (λ (k : ℕ). min k (from e + 513)) (here e (c .if4 .taken)))
+small-end-requires : tie.Need-small-end-requires
+small-end-requires c κs =
+    let q = stopped (c .before .before .before .before) in
+    (omega (arith, q .0, q .1), q .2, omega (arith, q .0))
 
 told-requires : tie.Need-told-requires
 told-requires c κs = search needs
-
-returns-4 : tie.Need-returns-4
-returns-4 c =
-    let f = c .before in
-    let e = f .before .before .before .before .before .before .before in
-    c .told .ensures ∙ quick-told (list e) (from e) (f .long-end .result) (f .long-end .ensures)
-
-small-end-requires : tie.Need-small-end-requires
-small-end-requires c κs =
-    let q = stopped (c .before .before .before .before .before .before) in
-    (omega (arith, q .0, q .1), q .2)
-
-told-requires-2 : tie.Need-told-requires-2
-told-requires-2 c κs = search needs
 
 enum-known-j-2 : tie.Need-enum-known-j-2
 enum-known-j-2 c = search needs
@@ -115,22 +94,23 @@ small-end-requires-2 : tie.Need-small-end-requires-2
 small-end-requires-2 c κs =
     let e = c .before in
     let a = e .before .before .before .before .before .before .args in
-    (omega arith, left-known (now (a .s)) (a .at + 4) (e .before .before .run-end .ensures) (e .j2 .given .1) .1)
+    let k = left-known (now (a .s)) (a .at + 4) (e .before .before .run-end .ensures) (e .j2 .given .1) in
+    (omega arith, k .1, omega (arith, k .0))
 
-told-requires-3 : tie.Need-told-requires-3
-told-requires-3 c κs = search needs
+told-requires-2 : tie.Need-told-requires-2
+told-requires-2 c κs = search needs
+
+returns-4 : tie.Need-returns-4
+returns-4 c =
+    let f = c .before in
+    let e = f .before .before .before .before .before in
+    c .told .ensures ∙ quick-told (list e) (from e) (f .small-end .result) (f .small-end .ensures)
 
 returns-5 : tie.Need-returns-5
 returns-5 c =
     let f = c .before in
-    let e = f .before .before .before .before .before .before .before in
-    c .told2 .ensures ∙ quick-told (list e) (from e) (f .small-end .result) (f .small-end .ensures)
-
-returns-6 : tie.Need-returns-6
-returns-6 c =
-    let f = c .before in
     let a = f .before .before .before .before .before .before .before .before .args in
-    c .told3 .ensures ∙ quick-told (now (a .s)) (a .at) (f .small-end2 .result) (f .small-end2 .ensures)
+    c .told2 .ensures ∙ quick-told (now (a .s)) (a .at) (f .small-end2 .result) (f .small-end2 .ensures)
 
 pub quick-end-spec : {M : Type 1} → statement M
 quick-end-spec =
@@ -146,14 +126,10 @@ quick-end-spec =
     sub-closes
     closes-requires
     returns-3
-    shared-slice-read-if4
-    long-end-requires
-    told-requires
-    returns-4
     small-end-requires
-    told-requires-2
+    told-requires
     enum-known-j-2
     small-end-requires-2
-    told-requires-3
-    returns-5
-    returns-6)
+    told-requires-2
+    returns-4
+    returns-5)

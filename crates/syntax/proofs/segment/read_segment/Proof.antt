@@ -56,7 +56,7 @@ add-small-end : tie.Need-add-small-end
 add-small-end c = let h = long (c .before .before) in omega arith
 
 small-end-requires : tie.Need-small-end-requires
-small-end-requires c κs = let h = long (c .before .before) in (h, refl)
+small-end-requires c κs = let h = long (c .before .before) in (h, refl, omega arith)
 
 returns-2 : tie.Need-returns-2
 returns-2 c =
