@@ -2,12 +2,13 @@
 -- Assumes nothing.
 use mathlib.Core.Path.{_≡_, refl, sym, ap, ap₂, _∙_}
 use mathlib.Core.Bool.{true}
-use mathlib.Core.List.{List, [], _∷_, _++_, append-assoc, append-nil}
+use mathlib.Core.List.{List, [], _∷_, _++_, append-nil}
 use Prim.Native.Nat.{ℕ, suc, _+_, _-_, _/_, _≤_, _<_}
 use native.Mathlib.Omega.{arith}
-use borrow.Author.Tests.{eq-eqb, ne-eqb, lt-ltb, le-ltb}
+use borrow.Author.Tests.{eq-eqb, ne-eqb}
 use lib.ListN.{length, drop, getD}
 use Rattle.laws.specs.Decimal.{digit, decimalOn, decimalOf}
+use Rattle.laws.specs.Digits.{decimal-last, decimal-step}
 use Rattle.laws.specs.Lists.{drop-here, drop-past}
 use Rattle.syntax.specs.Bytes.{plain, plainOn}
 use Rattle.values.specs.Values.{sameText}
@@ -39,14 +40,6 @@ none-compared l n h =
     let d = drop-past l (length l) (omega arith) in
     record { short = h; inside = omega arith; unreleased = rw d; digits = rw (e, d) (append-nil (decimalOn 20 n)) }
 
-last-digit : (f n : ℕ) (l : List ℕ) → n < 10 → decimalOn (suc f) n ++ l ≡ digit n ∷ l
-unfolding decimalOn
-last-digit f n l h = rw (lt-ltb n 10 h)
-
-digit-before : (f n : ℕ) (l : List ℕ) → 10 ≤ n → decimalOn (suc f) n ++ l ≡ decimalOn f (n / 10) ++ (digit n ∷ l)
-unfolding decimalOn
-digit-before f n l h = rw (le-ltb n 10 h) (append-assoc (decimalOn f (n / 10)) (digit n ∷ []) l)
-
 module _ (l : List ℕ) (n i left : ℕ) (c : Compared l n i left) (z : 0 < i) (q : getD l (i - 1) 0 ≡ digit left) where
   here : drop (i - 1) l ≡ digit left ∷ drop i l
   here =
@@ -73,12 +66,12 @@ module _ (l : List ℕ) (n i left : ℕ) (c : Compared l n i left) (z : 0 < i) (
         short = c .short;
         inside = omega arith;
         unreleased = plain-here;
-        digits = ap (λ (x : List ℕ). decimalOn (20 - length l + (i - 1)) (left / 10) ++ x) here ∙ sym (digit-before (20 - length l + (i - 1)) left (drop i l) h) ∙ from-here;
+        digits = ap (λ (x : List ℕ). decimalOn (20 - length l + (i - 1)) (left / 10) ++ x) here ∙ sym (decimal-step (20 - length l + (i - 1)) left (drop i l) h) ∙ from-here;
       }
 
   pub all-compared : left < 10 → i - 1 ≡ 0 → sameText (plain l) (decimalOf n) ≡ true
   all-compared h e =
       let d : drop (i - 1) l ≡ l = ap (λ (x : ℕ). drop x l) e in
       let p : plain l ≡ l = ap plain (sym d) ∙ plain-here ∙ d in
-      let w : l ≡ decimalOf n = sym d ∙ here ∙ sym (last-digit (20 - length l + (i - 1)) left (drop i l) h) ∙ from-here in
+      let w : l ≡ decimalOf n = sym d ∙ here ∙ sym (decimal-last (20 - length l + (i - 1)) left (drop i l) h) ∙ from-here in
       ap (λ (x : List ℕ). sameText x (decimalOf n)) (p ∙ w) ∙ same-self (decimalOf n)

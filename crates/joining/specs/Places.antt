@@ -14,6 +14,7 @@ use Rattle.laws.specs.Lists.{drop-here}
 use Rattle.laws.specs.Text.{bytes}
 use Rattle.laws.specs.Choice.{pick, both, either, all, both-parts, choose, false≢true}
 use Rattle.syntax.specs.Bytes.{stands, releases, unless, plain, plainOn}
+use Rattle.syntax.specs.Few.{plain-length}
 use Rattle.syntax.specs.Firsts.{first-take, first-length}
 use Rattle.syntax.specs.Pieces.{firstPiece, laterPieces, pieces, nth, elements, occurrences, components, partOf}
 use Rattle.parts.specs.Places.{bytesOf, present}
@@ -27,18 +28,13 @@ use Rattle.period.specs.Period.{qualifier, firstLast, dayText, weekText, spanIn
 use Rattle.period.specs.Facts.{good-told, form-told, good-bounds}
 use Rattle.joining.specs.Joined.{marked}
 
--- release takes bytes away, and none only where there is none to take
-plain-shorter : (r : Bool) (l : List ℕ) → length (plainOn r l) ≤ length l
-unfolding plainOn
-plain-shorter r [] = omega arith
-plain-shorter r (b ∷ l) = choose (stands 63 r b) (λ q. rw q (let h = plain-shorter (releases r b) l in omega arith)) (λ q. rw q (let h = plain-shorter (releases r b) l in omega arith))
-
+-- release takes no byte away only where there is none to take
 plain-same : (r : Bool) (l : List ℕ) → length (plainOn r l) ≡ length l → plainOn r l ≡ l
 unfolding plainOn
 plain-same r [] e = refl
 plain-same r (b ∷ l) e =
     choose (stands 63 r b)
-    (λ q. let f = rw q at e in let h = plain-shorter (releases r b) l in absurd (omega arith))
+    (λ q. let f = rw q at e in let h = plain-length (releases r b) l in absurd (omega arith))
     (λ q. let f = rw q at e in rw q (ap (λ (x : List ℕ). b ∷ x) (plain-same (releases r b) l (omega arith))))
 
 -- a day string as it stands
@@ -147,7 +143,7 @@ string-place g n s h e =
     let a = s .qualified in
     let b = s .dated in
     let c = s .told in
-    let d = plain-shorter false (partOf g 1 1 4) in
+    let d = plain-length false (partOf g 1 1 4) in
     let i : length (partOf g 1 1 1) ≡ length (nth (components (element (drop 4 g))) 1) = ap length (inside 1) in
     let j : length (partOf g 1 1 2) ≡ length (nth (components (element (drop 4 g))) 2) = ap length (inside 2) in
     let k : length (partOf g 1 1 4) ≡ length (nth (components (element (drop 4 g))) 4) = ap length (inside 4) in
@@ -188,10 +184,10 @@ module _ (g : List ℕ) (f n : ℕ) {form : Form} (e : periodOf g ≡ Good f n f
   qualifier-length = same-length (qualifier g) (50 ∷ 55 ∷ 51 ∷ []) (both-parts _ _ (good-told g f n form e .rest) .0)
 
   pub qualifier-bytes : 3 ≤ length (partOf g 1 1 1)
-  qualifier-bytes = omega (arith, qualifier-length, plain-shorter false (partOf g 1 1 1))
+  qualifier-bytes = omega (arith, qualifier-length, plain-length false (partOf g 1 1 1))
 
   pub dates-bytes : 21 ≤ length (partOf g 1 1 2)
-  dates-bytes = omega (arith, dates-length, plain-shorter false (partOf g 1 1 2))
+  dates-bytes = omega (arith, dates-length, plain-length false (partOf g 1 1 2))
 
   pub spoken : form ≡ ByString → Spoken g n
   spoken b =

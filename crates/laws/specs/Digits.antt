@@ -18,12 +18,12 @@ decimal-length zero n = omega arith
 decimal-length (suc f) n =
     choose (ltb n 10) (λ yes. rw yes (omega arith)) (λ no. rw (no, length-append) (let h = decimal-length f (n / 10) in omega arith))
 
--- i are still to be written, the others stand from index i on.
-decimal-last : (f n : ℕ) (l : List ℕ) → n < 10 → decimalOn (suc f) n ++ l ≡ digit n ∷ l
+-- the digits of a number before a list: one alone, or the last of several at the head of the list
+pub decimal-last : (f n : ℕ) (l : List ℕ) → n < 10 → decimalOn (suc f) n ++ l ≡ digit n ∷ l
 unfolding decimalOn
 decimal-last f n l h = rw (lt-ltb n 10 h)
 
-decimal-step : (f n : ℕ) (l : List ℕ) → 10 ≤ n → decimalOn (suc f) n ++ l ≡ decimalOn f (n / 10) ++ (digit n ∷ l)
+pub decimal-step : (f n : ℕ) (l : List ℕ) → 10 ≤ n → decimalOn (suc f) n ++ l ≡ decimalOn f (n / 10) ++ (digit n ∷ l)
 unfolding decimalOn
 decimal-step f n l h = rw (le-ltb n 10 h) (append-assoc (decimalOn f (n / 10)) (digit n ∷ []) l)
 
@@ -33,6 +33,7 @@ stored l i b h =
     let e : i < length (set l i b) = simp length-set h in
     drop-cons (set l i b) i 0 e ∙ rw (getD-set-same l i b 0 h, drop-set-lt (suc i) l i b (omega arith))
 
+-- i are still to be written, the others stand from index i on.
 module _ (l : List ℕ) (n d : ℕ) (q : d ≡ digit n) where
   pub last-written : (i : ℕ) → 0 < i → i ≤ length l → n < 10 → drop (i - 1) (set l (i - 1) d) ≡ decimalOn i n ++ drop i l
   last-written zero p h k = absurd (omega arith)

@@ -10,3 +10,5 @@ pub mod Digits
 pub mod Filled
 pub mod Words
 pub mod Eight
+pub mod Zeros
+pub mod Leads

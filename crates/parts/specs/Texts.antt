@@ -2,21 +2,20 @@
 -- Assumes nothing.
 use mathlib.Core.Path.{_≡_, refl, sym, ap, _∙_}
 use mathlib.Core.Bool.{Bool, true, false, not}
-use mathlib.Core.List.{List, [], _∷_, _++_}
-use Prim.Native.Nat.{ℕ, zero, suc, _+_, _*_, _/_, _≤_, _<_}
+use mathlib.Core.List.{List}
+use Prim.Native.Nat.{ℕ, zero, suc, _+_, _≤_}
 use native.Mathlib.Omega.{arith}
 use lib.Bits.{bitAnd, bitXor, and-le-r, xor-self}
-use lib.Count.{trailingZeros, trailing-of-zero}
 use lib.Dec.{eqb, leb, eqb→eq}
 use lib.ListN.{length, getD, drop}
 use Rattle.laws.specs.Choice.{pick, both, either, choose, false≢true}
 use Rattle.laws.specs.Lists.{drop-here}
 use Rattle.laws.specs.Sweep.{at}
 use Rattle.laws.specs.Words.{wordBy, wordOf, Every, Byte, word-same, and-word, xor-word}
-use Rattle.laws.specs.Eight.{eightAt, drop-eight}
+use Rattle.laws.specs.Eight.{eightAt}
+use Rattle.laws.specs.Leads.{runOf, eight-clear}
 use Rattle.bytes.specs.Eights.{Eights, eights-bytes}
 use Rattle.bytes.specs.Differing.{highOf, differsOf, high-words}
-use Rattle.syntax.specs.Zeros.{digitsOf, zeros-pass, zeros-stop}
 use Rattle.parts.specs.Plain.{high-byte}
 use Rattle.parts.specs.Component.{componentEnd, component-on}
 
@@ -32,22 +31,12 @@ text-plain : (b : ℕ) → isText b ≡ true → (b ≡ 43 → ⊥) × (b ≡ 42
 unfolding isText
 text-plain b t = (text-other b 43 refl t, text-other b 42 refl t, text-other b 58 refl t, text-other b 63 refl t)
 
--- how many such bytes a list begins with
-unfoldable pub textRun : List ℕ → ℕ
-textRun [] = 0
-textRun (b ∷ l) = pick (isText b) (suc (textRun l)) 0
-
-run-more : (l m : List ℕ) → textRun l ≤ textRun (l ++ m)
-unfolding textRun
-run-more [] m = omega arith
-run-more (b ∷ l) m = choose (isText b) (λ p. let h = run-more l m in rw p (omega arith)) (λ p. rw p (omega arith))
-
--- a component goes on behind them
-pub text-goes : (s : List ℕ) (b : ℕ) → b ≤ length s → (k i : ℕ) → i + k ≤ b → k ≤ textRun (drop i s) → componentEnd s (i + k) b ≡ componentEnd s i b
-unfolding textRun
+-- a component goes on behind a run of them
+pub text-goes : (s : List ℕ) (b : ℕ) → b ≤ length s → (k i : ℕ) → i + k ≤ b → k ≤ runOf isText (drop i s) → componentEnd s (i + k) b ≡ componentEnd s i b
+unfolding runOf
 text-goes s b g zero i h r = let e : i + 0 ≡ i = omega arith in rw e
 text-goes s b g (suc k) i h r =
-    let d = ap textRun (drop-here s i (omega arith)) in
+    let d = ap (runOf isText) (drop-here s i (omega arith)) in
     choose (isText (getD s i 0))
     (λ p.
     let f = rw p at d in
@@ -89,32 +78,13 @@ module _ {l : List ℕ} (r : Every Byte l) where
       )
       (word-same (λ b. bitXor (textByte b) 128) (λ b. pick (isText b) 0 128) stop-byte r)
 
--- the zeros below the first stop tell of a run that it has at least
-lead : (l : List ℕ) → trailingZeros (digitsOf l) (wordBy (λ b. pick (isText b) 0 128) l) ≤ 8 * textRun l + 7
-unfolding textRun wordBy trailingZeros
-lead [] = omega arith
-lead (b ∷ l) =
-    let w = wordBy (λ b. pick (isText b) 0 128) l in
-    choose (isText b)
-    (λ p. let z = zeros-pass (digitsOf l) w in let h = lead l in rw p (omega arith))
-    (λ p. let z = zeros-stop (digitsOf l) w in rw p (omega arith))
-
 module _ (s : List ℕ) (i : ℕ) {w : ℕ} (e : Eights s i w) (y : ℕ) (q : y ≡ textBits w) where
-  stops-word : bitXor y 9259542123273814144 ≡ wordBy (λ b. pick (isText b) 0 128) (eightAt s i)
+  pub stops-word : bitXor y 9259542123273814144 ≡ wordBy (λ b. pick (isText b) 0 128) (eightAt s i)
   unfolding wordBy differsOf
   stops-word =
       ap (λ (x : ℕ). bitXor x 9259542123273814144) (q ∙ ap textBits (e .is)) ∙ stops-bytes (eights-bytes s i e)
 
-  pub eight-lead : trailingZeros 64 (bitXor y 9259542123273814144) / 8 ≤ textRun (drop i s)
-  eight-lead =
-      let a = lead (eightAt s i) in
-      let b = run-more (eightAt s i) (drop (i + 8) s) in
-      let c = ap textRun (drop-eight s i (e .inside)) in
-      let d = ap (trailingZeros 64) stops-word in
-      omega arith
-
-  pub eight-text : y ≡ 9259542123273814144 → 8 ≤ textRun (drop i s)
+  pub eight-text : y ≡ 9259542123273814144 → 8 ≤ runOf isText (drop i s)
   eight-text z =
-      let a = eight-lead in
-      let b = ap (λ (y : ℕ). trailingZeros 64 (bitXor y 9259542123273814144)) z ∙ ap (trailingZeros 64) (xor-self 9259542123273814144) ∙ trailing-of-zero 64 in
-      omega arith
+      eight-clear isText s i (bitXor y 9259542123273814144) (e .inside) stops-word
+      (ap (λ (x : ℕ). bitXor x 9259542123273814144) z ∙ xor-self 9259542123273814144)

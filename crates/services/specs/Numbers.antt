@@ -2,7 +2,7 @@
 -- Assumes nothing.
 use Prim.Native.Nat.{ℕ, suc, _+_, _-_, _≤_, _<_}
 use mathlib.Core.Path.{_≡_, refl, sym, ap, _∙_}
-use mathlib.Core.Bool.{Bool, true, false}
+use mathlib.Core.Bool.{true, false}
 use mathlib.Core.List.{List, [], _∷_}
 use mathlib.Core.Logic.{_⊎_, inl, inr, ⊎-elim}
 use native.Mathlib.Omega.{arith}
@@ -11,7 +11,8 @@ use lib.Dec.{eqb, leb}
 use lib.ListN.{length, getD, drop}
 use Rattle.laws.specs.Choice.{pick, either, choose, false≢true}
 use Rattle.laws.specs.Lists.{between, drop-here}
-use Rattle.syntax.specs.Bytes.{releaseMark, releases, stands, plainOn, plain}
+use Rattle.syntax.specs.Bytes.{releaseMark, plainOn, plain}
+use Rattle.syntax.specs.Few.{plain-length}
 use Rattle.syntax.specs.Pieces.{firstPiece, laterPieces, pieces, elements, nth}
 use Rattle.syntax.specs.Segment.{bodyAt}
 use Rattle.parts.specs.declared.Part.{Part}
@@ -82,14 +83,7 @@ product-here s at h a b c d =
           ∙ rw (c, three) (ap (λ (l : List ℕ). 68 ∷ l) (drop-here s (at + 3) (omega arith) ∙ rw (d, four)))))));
     }
 
--- after release a text has no more bytes than written, and some where it has two or more
-plain-few : (r : Bool) (l : List ℕ) → length (plainOn r l) ≤ length l
-unfolding plainOn
-plain-few r [] = omega arith
-plain-few r (b ∷ l) =
-    let h = plain-few (releases r b) l in
-    choose (stands releaseMark r b) (λ p. rw p (omega arith)) (λ p. rw p (omega arith))
-
+-- after release a text has some bytes where it has two or more as it is written
 plain-some : (l : List ℕ) → 2 ≤ length l → 1 ≤ length (plain l)
 unfolding plainOn
 plain-some [] h = absurd (omega arith)
@@ -98,7 +92,7 @@ plain-some (b ∷ c ∷ l) h = choose (eqb b releaseMark) (λ p. rw p (omega ari
 
 pub fits-short : (l : List ℕ) → 2 ≤ length l → length l ≤ 10 → true ≡ numberFits (length (plain l))
 fits-short l h k =
-    let a = plain-few false l in
+    let a = plain-length false l in
     let b = plain-some l h in
     rw (le-leb 1 (length (plain l)) b, le-leb (length (plain l)) 10 (omega arith))
 

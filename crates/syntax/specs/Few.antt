@@ -50,7 +50,8 @@ first-marks c r [] = omega arith
 first-marks c r (b ∷ l) =
     choose (stands c r b) (λ q. rw q (omega arith)) (λ q. rw q (let h = first-marks c (releases r b) l in omega arith))
 
-plain-length : (r : Bool) (l : List ℕ) → length (plainOn r l) ≤ length l
+-- a text has no more bytes after release than as it is written
+pub plain-length : (r : Bool) (l : List ℕ) → length (plainOn r l) ≤ length l
 unfolding plainOn
 plain-length r [] = omega arith
 plain-length r (b ∷ l) =

@@ -12,9 +12,10 @@ use lib.ListN.{length, drop, getD}
 use lib.Seq.{drop-drop}
 use Rattle.laws.specs.Choice.{pick, both, all, choose}
 use Rattle.laws.specs.Lists.{drop-here, drop-past}
+use Rattle.laws.specs.Leads.{runOf}
 use Rattle.syntax.specs.Bytes.{permittedOf}
 use Rattle.syntax.specs.Pieces.{firstPiece}
-use Rattle.syntax.specs.Passed.{goes, common, Goes, goes-fine, common-fine, runOf}
+use Rattle.syntax.specs.Passed.{goes, common, Goes, goes-fine, common-fine}
 
 -- the index past the body g that begins at index i, where g is ended in an input of n bytes and all its bytes are permitted; else n
 unfoldable pub foundEnd : ℕ → ℕ → List ℕ → ℕ

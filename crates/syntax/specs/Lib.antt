@@ -11,7 +11,6 @@ pub mod Onward
 pub mod Scan
 pub mod Firsts
 pub mod Ends
-pub mod Zeros
 pub mod Passed
 pub mod Texts
 pub mod Plain

@@ -1,22 +1,19 @@
--- Runs of bytes that a scan for a segment's end passes over, eight at a time.
+-- Bytes that a scan for a segment's end passes over, eight at a time.
 -- Assumes nothing.
-use mathlib.Core.Path.{_≡_, refl, sym, ap, _∙_}
+use mathlib.Core.Path.{_≡_, sym, ap, _∙_}
 use mathlib.Core.Bool.{Bool, true, false, not}
-use mathlib.Core.List.{List, [], _∷_, _++_}
-use Prim.Native.Nat.{ℕ, suc, _+_, _*_, _/_, _^_, _≤_, _<_}
+use mathlib.Core.List.{List}
+use Prim.Native.Nat.{ℕ, _+_, _*_, _^_, _<_}
 use native.Mathlib.Omega.{arith}
 use native.Mathlib.Decide.{decLt}
 use lib.Dec.{leb, eqb, eqb→eq}
 use lib.Bits.{bitAnd, bitOr, bitXor, and-le-r, or-lt, xor-lt}
-use lib.Count.{trailingZeros, trailing-of-zero}
-use lib.ListN.{length, drop}
 use borrow.Author.Tests.{lt-leb, not-true, ne-eqb}
-use Rattle.laws.specs.Choice.{pick, both, either, choose, both-parts, both-false, false≢true}
+use Rattle.laws.specs.Choice.{pick, both, either, both-parts, both-false, false≢true}
 use Rattle.laws.specs.Sweep.{at, agree}
 use Rattle.laws.specs.Words.{wordBy, wordOf, Every, Byte, word-same, add-word, and-word, or-word, xor-word}
-use Rattle.laws.specs.Eight.{eightAt, Word, drop-eight}
+use Rattle.laws.specs.Eight.{eightAt, Word}
 use Rattle.syntax.specs.Bytes.{permittedOf}
-use Rattle.syntax.specs.Zeros.{digitsOf, zeros-pass, zeros-stop}
 
 -- the bytes that are passed over: those from `(` to `:`, and the letters
 unfoldable pub goes : ℕ → Bool
@@ -51,11 +48,6 @@ common-fine b q =
 pub goes-fine : (b : ℕ) → goes b ≡ true → Goes b
 unfolding common
 goes-fine b q = common-fine b (rw q)
-
--- how many bytes of a kind a list begins with
-unfoldable pub runOf : (ℕ → Bool) → List ℕ → ℕ
-runOf f [] = 0
-runOf f (b ∷ l) = pick (f b) (suc (runOf f l)) 0
 
 -- The highest digit of a byte, set where it is passed over. In each row of 32 bytes those that are passed over stand from 1 to 26, so that
 -- with five added the five lowest digits are 6 or more for them alone; a sum with 122 has its highest digit set from 6 on, and one with 88 from
@@ -160,53 +152,6 @@ common-bytes {l} r =
       and-word (λ b. pick (goes b) 0 128) (λ b. bitOr (bitXor (bitAnd b 127) 32 + 127) b) (λ b h. stop-below (goes b)) spaced-below r,
     )
     (word-same (λ b. bitAnd (pick (goes b) 0 128) (bitOr (bitXor (bitAnd b 127) 32 + 127) b)) (λ b. pick (common b) 0 128) common-byte r)
-
--- the zeros below the first stop tell of a run that it has at least
-module _ (f : ℕ → Bool) where
-  run-more : (l m : List ℕ) → runOf f l ≤ runOf f (l ++ m)
-  unfolding runOf
-  run-more [] m = omega arith
-  run-more (b ∷ l) m = choose (f b) (λ p. let h = run-more l m in rw p (omega arith)) (λ p. rw p (omega arith))
-
-  lead : (l : List ℕ) → trailingZeros (digitsOf l) (wordBy (λ b. pick (f b) 0 128) l) ≤ 8 * runOf f l + 7
-  unfolding runOf wordBy trailingZeros
-  lead [] = omega arith
-  lead (b ∷ l) =
-      let w = wordBy (λ b. pick (f b) 0 128) l in
-      choose (f b)
-      (λ p. let z = zeros-pass (digitsOf l) w in let h = lead l in rw p (omega arith))
-      (λ p. let z = zeros-stop (digitsOf l) w in rw p (omega arith))
-
-  -- and where one of the bytes stops, not all digits are zeros
-  lead-less : (l : List ℕ) → (wordBy (λ b. pick (f b) 0 128) l ≡ 0 → ⊥) → trailingZeros (digitsOf l) (wordBy (λ b. pick (f b) 0 128) l) < digitsOf l
-  unfolding wordBy trailingZeros
-  lead-less [] n = absurd (n refl)
-  lead-less (b ∷ l) n =
-      let w = wordBy (λ b. pick (f b) 0 128) l in
-      choose (f b)
-      (λ p. let z = zeros-pass (digitsOf l) w in let h = lead-less l (λ e. n (rw p (omega arith))) in rw p (omega arith))
-      (λ p. let z = zeros-stop (digitsOf l) w in rw p (omega arith))
-
-  module _ (s : List ℕ) (i y : ℕ) (h : i + 8 ≤ length s) (e : y ≡ wordBy (λ b. pick (f b) 0 128) (eightAt s i)) where
-    pub eight-inside : (y ≡ 0 → ⊥) → trailingZeros 64 y < 64
-    eight-inside n =
-        let d = ap (trailingZeros 64) e in
-        let a = lead-less (eightAt s i) (λ z. n (e ∙ z)) in
-        omega arith
-
-    pub eight-lead : trailingZeros 64 y / 8 ≤ runOf f (drop i s)
-    eight-lead =
-        let a = lead (eightAt s i) in
-        let b = run-more (eightAt s i) (drop (i + 8) s) in
-        let c = ap (runOf f) (drop-eight s i h) in
-        let d = ap (trailingZeros 64) e in
-        omega arith
-
-    pub eight-clear : y ≡ 0 → 8 ≤ runOf f (drop i s)
-    eight-clear z =
-        let a = eight-lead in
-        let b = ap (trailingZeros 64) z ∙ trailing-of-zero 64 in
-        omega arith
 
 -- what stops among eight bytes
 module _ (s : List ℕ) (i x : ℕ) (w : Word s i x) where

@@ -15,9 +15,10 @@ use Rattle.laws.specs.Choice.{pick, both, choose, both-parts, both-false, false
 use Rattle.laws.specs.Sweep.{at, agree}
 use Rattle.laws.specs.Words.{wordBy, Every, Byte, word-same, or-word, xor-word}
 use Rattle.laws.specs.Eight.{eightAt, Word}
+use Rattle.laws.specs.Leads.{runOf}
 use Rattle.syntax.specs.Bytes.{permittedOf, plainText, isMark}
 use Rattle.syntax.specs.Runs.{textRun}
-use Rattle.syntax.specs.Passed.{goes, common, runOf, stopsOf, eightTimes, stop-below, common-word}
+use Rattle.syntax.specs.Passed.{goes, common, stopsOf, eightTimes, stop-below, common-word}
 use Rattle.syntax.specs.Texts.{textsOf, texts-told}
 
 -- the bytes that a search for a segment's end passes over, and the space, without the marks

@@ -9,9 +9,10 @@ use denote.Ref.{now}
 use lib.Bits.{bitXor}
 use lib.Count.{trailingZeros, trailing-le}
 use lib.ListN.{length, drop}
+use Rattle.laws.specs.Leads.{runOf, eight-lead}
 use Rattle.bytes.specs.Eights.{Eights, eights-known}
 use Rattle.parts.specs.Component.{componentEnd}
-use Rattle.parts.specs.Texts.{textRun, text-goes, eight-lead, eight-text}
+use Rattle.parts.specs.Texts.{isText, text-goes, stops-word, eight-text}
 use Rattle.parts.proofs.ends.pass_text.Statement.{statement}
 use Rattle.parts.proofs.ends.pass_text.Tie as tie
 
@@ -67,7 +68,7 @@ module _ (t : tie.After-text-bits Inv-loop μ-loop) where
   few : zeros ≤ 64
   few = trailing-le 64 (bitXor (t .text-bits .result) 9259542123273814144)
 
-  goes-by : (k : ℕ) → own (t .before) .loop .i + k ≤ end (t .before) → k ≤ textRun (drop (own (t .before) .loop .i) (list (t .before)))
+  goes-by : (k : ℕ) → own (t .before) .loop .i + k ≤ end (t .before) → k ≤ runOf isText (drop (own (t .before) .loop .i) (list (t .before)))
       → componentEnd (list (t .before)) (own (t .before) .loop .i + k) (end (t .before)) ≡ componentEnd (list (t .before)) (own (t .before) .before .before .args .from) (end (t .before))
   goes-by k h r =
       let o = own (t .before) in
@@ -83,7 +84,11 @@ returns-3 : tie.Need-returns-3 Inv-loop μ-loop
 returns-3 c =
     let t = c .before in
     let h = few t in
-    goes-by t (zeros t / 8) (omega arith) (eight-lead (list (t .before)) (own (t .before) .loop .i) (found (t .before)) (t .text-bits .result) (t .text-bits .ensures))
+    let s = list (t .before) in
+    let i = own (t .before) .loop .i in
+    let f = found (t .before) in
+    goes-by t (zeros t / 8) (omega arith)
+    (eight-lead isText s i (bitXor (t .text-bits .result) 9259542123273814144) (f .inside) (stops-word s i f (t .text-bits .result) (t .text-bits .ensures)))
 
 add-i : tie.Need-add-i Inv-loop μ-loop
 add-i c = let f = found (c .before .before) .inside in omega arith

@@ -11,7 +11,8 @@ use lib.ListN.{length, drop}
 use Rattle.laws.specs.Choice.{pick}
 use Rattle.laws.specs.Words.{wordBy}
 use Rattle.laws.specs.Eight.{eightAt}
-use Rattle.syntax.specs.Passed.{common, runOf, eight-lead, eight-clear, common-word}
+use Rattle.laws.specs.Leads.{runOf, eight-lead, eight-clear}
+use Rattle.syntax.specs.Passed.{common, common-word}
 use Rattle.syntax.specs.Found.{endFrom, end-common}
 use Rattle.syntax.proofs.ends.common_end.Statement.{statement}
 use Rattle.syntax.proofs.ends.common_end.Tie as tie

@@ -12,7 +12,8 @@ use lib.ListN.{length, drop}
 use Rattle.laws.specs.Choice.{pick}
 use Rattle.laws.specs.Words.{wordBy, xor-zero}
 use Rattle.laws.specs.Eight.{eightAt}
-use Rattle.syntax.specs.Passed.{goes, runOf, eight-lead, eight-inside, eight-clear, passes-word}
+use Rattle.laws.specs.Leads.{runOf, eight-lead, eight-inside, eight-clear}
+use Rattle.syntax.specs.Passed.{goes, passes-word}
 use Rattle.syntax.specs.Found.{endFrom, end-run}
 use Rattle.syntax.proofs.ends.run_end.Statement.{statement}
 use Rattle.syntax.proofs.ends.run_end.Tie as tie

@@ -12,8 +12,8 @@ use lib.ListN.{length, drop}
 use Rattle.laws.specs.Choice.{pick}
 use Rattle.laws.specs.Words.{wordBy}
 use Rattle.laws.specs.Eight.{eightAt}
+use Rattle.laws.specs.Leads.{runOf, eight-lead, eight-clear}
 use Rattle.syntax.specs.Runs.{textRun}
-use Rattle.syntax.specs.Passed.{runOf, eight-lead, eight-clear}
 use Rattle.syntax.specs.Plain.{commonText, text-on, text-word}
 use Rattle.syntax.proofs.texts.words_end.Statement.{statement}
 use Rattle.syntax.proofs.texts.words_end.Tie as tie
