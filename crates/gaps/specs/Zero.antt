@@ -1,6 +1,6 @@
 -- Zeros.
 -- Assumes nothing.
-use mathlib.Core.Path.{_≡_, sym}
+use mathlib.Core.Path.{_≡_, sym, _∙_}
 use mathlib.Core.Bool.{Bool, true}
 use mathlib.Core.List.{List, [], _∷_, _++_, append-assoc, append-nil}
 use Prim.Native.Nat.{ℕ, suc, _+_, _-_, _≤_, _<_}
@@ -18,6 +18,10 @@ unfoldable pub allZero : List ℕ → Bool
 allZero [] = true
 allZero (b ∷ l) = both (eqb b 0) (allZero l)
 
+-- whether the bits gathered are 0, and all bytes from an index on
+abbrev pub zeroOn : List ℕ → ℕ → ℕ → Bool
+zeroOn s i gathered = both (eqb gathered 0) (allZero (drop i s))
+
 -- the bytes before an index, and zeros from there on
 unfoldable pub zeroFrom : List ℕ → ℕ → List ℕ
 zeroFrom s from = take from s ++ replicate (length s - from) 0
@@ -32,6 +36,13 @@ module _ (s : List ℕ) (i gathered : ℕ) where
   pub zero-end : length s ≤ i → eqb gathered 0 ≡ both (eqb gathered 0) (allZero (drop i s))
   unfolding allZero
   zero-end h = rw (drop-of-length-le s h) (sym (both-true (eqb gathered 0)))
+
+-- one byte more of a run
+pub zero-more : (s : List ℕ) (at i all gathered : ℕ) → at + i < length s → zeroOn s (at + i) all ≡ zeroOn s at gathered
+    → zeroOn s (at + (i + 1)) (bitOr all (getD s (at + i) 0)) ≡ zeroOn s at gathered
+zero-more s at i all gathered h q =
+    let e : at + (i + 1) ≡ at + i + 1 = omega arith in
+    rw e (zero-step s (at + i) all h ∙ q)
 
 -- ---- for `clear_from`
 
