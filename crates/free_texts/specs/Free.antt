@@ -2,7 +2,7 @@
 -- Assumes nothing.
 use mathlib.Core.Path.{_≡_, refl, sym, ap, _∙_}
 use mathlib.Core.Bool.{Bool, true, false, not}
-use mathlib.Core.List.{List, [], _∷_, _++_}
+use mathlib.Core.List.{List, [], _∷_, _++_, append-nil}
 use Prim.Native.Nat.{ℕ, _+_, _-_, _≤_}
 use native.Mathlib.Omega.{arith}
 use lib.Dec.{eqb, leb}
@@ -49,13 +49,18 @@ module _ (c : ℕ) where
       let q = quiet-parts c b (u .0) in
       rw (q .0, q .1) (later-all l (u .1))
 
-  pub first-cut : (l m : List ℕ) → all (quiet c) l ≡ true → firstPiece c false (l ++ (c ∷ m)) ≡ l
+  -- what begins with such a text
+  pub first-front : (l m : List ℕ) → all (quiet c) l ≡ true → firstPiece c false (l ++ m) ≡ l ++ firstPiece c false m
   unfolding firstPiece
-  first-cut [] m p = rw (eq-eqb c c refl)
-  first-cut (b ∷ l) m p =
+  first-front [] m p = refl
+  first-front (b ∷ l) m p =
       let u = both-parts (quiet c b) (all (quiet c) l) p in
       let q = quiet-parts c b (u .0) in
-      rw (q .0, q .1) (ap (λ (x : List ℕ). b ∷ x) (first-cut l m (u .1)))
+      rw (q .0, q .1) (ap (λ (x : List ℕ). b ∷ x) (first-front l m (u .1)))
+
+  pub first-cut : (l m : List ℕ) → all (quiet c) l ≡ true → firstPiece c false (l ++ (c ∷ m)) ≡ l
+  unfolding firstPiece
+  first-cut l m p = first-front l (c ∷ m) p ∙ ap (λ (x : List ℕ). l ++ x) (rw (eq-eqb c c refl)) ∙ append-nil l
 
   pub later-cut : (l m : List ℕ) → eqb c 63 ≡ false → all (quiet c) l ≡ true → laterPieces c false (l ++ (c ∷ m)) ≡ pieces c m
   unfolding laterPieces

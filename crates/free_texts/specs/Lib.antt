@@ -1,2 +1,3 @@
 pub mod Free
 pub mod Parts
+pub mod Whole

@@ -148,7 +148,7 @@ module _ (d : List ℕ) (pd : all numeric d ≡ true) where
       (empty-cut 42) (empty-cut 58)
 
   -- the dates and nothing more
-  alone-elements : elements (oneElement (withoutString d)) ≡ withoutString d ∷ []
+  pub alone-elements : elements (oneElement (withoutString d)) ≡ withoutString d ∷ []
   alone-elements = later-cut 43 (80 ∷ 79 ∷ 80 ∷ []) e₂ refl refl ∙ one-piece 43 e₂ (dates-quiet 43 refl refl (no-plus d pd))
 
   pub alone-cut : Cut (oneElement (withoutString d)) d [] []

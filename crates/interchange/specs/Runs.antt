@@ -51,7 +51,8 @@ use Rattle.interchange.specs.Reader.{isClosed, dialogueOf, headedReferen
 use Rattle.interchange.specs.Heads.{capitalTag}
 use Rattle.interchange.specs.Laws.{putRow}
 use Rattle.steps.specs.Ways.{inside-placed}
-use Rattle.interchange.specs.Turns.{turn-is, body-slice}
+use Rattle.syntax.specs.Ends.{body-slice}
+use Rattle.interchange.specs.Turns.{turn-is}
 use Rattle.interchange.specs.Moves.{Moved, moved-none, moved-turn, moved-both, moved-as}
 
 abbrev pub isInside : Phase → Bool
@@ -69,17 +70,6 @@ inside-is Closed q = absurd (false≢true q)
 -- a period that is read is good
 abbrev pub goodPart : MessageType → ℕ → ℕ → List ℕ → Bool
 goodPart message tag group g = pick (isPeriod message tag group) (isGood (periodOf g)) true
-
--- a segment that is not read, and one that is
-pub good-other : (read : Bool) (g : List ℕ) → read ≡ false → true ≡ pick read (isGood (periodOf g)) true
-good-other read g q = rw q
-
-pub good-read : (read : Bool) (g : List ℕ) → read ≡ true → (x : Period) → periodOf g ≡ x → isGood x ≡ pick read (isGood (periodOf g)) true
-good-read read g q x e = rw q (ap isGood (sym e))
-
--- the bytes from a segment's start to its end, as a part
-pub part-is : (s : List ℕ) (at e : ℕ) → segmentAt s at ≡ End e → bytesOf s (record { from = at; to = e }) ≡ bodyAt s at
-part-is s at e h = body-slice s at e h
 
 module _ (st : State) (at : ℕ) (g reference : List ℕ) (p : Place) (group : ℕ) where
   judged-good : (x : Period) → isGood x ≡ true → judged st at g p group x ≡ done (taken (onwardState st p) (rowOf at g group))

@@ -5,14 +5,12 @@ use mathlib.Core.List.{List, []}
 use mathlib.Core.Bool.{false}
 use Prim.Native.Nat.{ℕ, _+_, _-_, _≤_, _<_}
 use native.Mathlib.Omega.{arith}
-use lib.ListN.{length, take, drop, length-drop}
-use lib.Seq.{take-all}
+use lib.ListN.{length, drop}
 use Rattle.laws.specs.Lists.{between, between-past, drop-past}
 use Rattle.syntax.specs.declared.segment.Scanned.{Scanned}
 use Rattle.syntax.specs.declared.segment.Scanned.the-variants.{End, NotPermitted, Unended, Malformed}
 use Rattle.syntax.specs.Segment.{bodyAt, segmentAt, refusalOf}
-use Rattle.syntax.specs.Firsts.{first-take}
-use Rattle.syntax.specs.Ends.{ended, end-within}
+use Rattle.syntax.specs.Ends.{end-within}
 use Rattle.parts.specs.declared.Part.{Part}
 use Rattle.parts.specs.Places.{bytesOf}
 use Rattle.placing.specs.Table.{Table}
@@ -26,21 +24,10 @@ use Rattle.interchange.specs.Reader.{turnScan, turnAt}
 pub lent-past : (s : List ℕ) (at : ℕ) (p : Part) → length s < at → [] ≡ bytesOf (drop at s) p
 lent-past s at p h = sym (ap (λ (x : List ℕ). bytesOf x p) (drop-past s at (omega arith)) ∙ between-past {A = ℕ} [] (p .from) (p .to) (omega arith))
 
--- the bytes from a segment's start to its end are its body
-pub body-slice : (s : List ℕ) (at e : ℕ) → segmentAt s at ≡ End e → take (e - at) (drop at s) ≡ bodyAt s at
-body-slice s at e q =
-    let w = ended s at e q in
-    let d : e - at ≡ length (bodyAt s at) = omega (arith, w .place) in
-    ap (λ (n : ℕ). take n (drop at s)) d ∙ sym (first-take 39 false (drop at s))
-
 -- by what the scan found
 pub turn-is : (t : Table) (s : List ℕ) (st : State) (at : ℕ) (x : Scanned) → segmentAt s at ≡ x → turnScan t s st at x ≡ turnAt t s st at
 unfolding turnAt
 turn-is t s st at x e = ap (turnScan t s st at) (sym e)
-
--- what is lent from an offset to the end is what stands from there on
-pub rest-is : (s : List ℕ) (at : ℕ) → take (length s - at) (drop at s) ≡ drop at s
-rest-is s at = let d = length-drop at s in take-all (length s - at) (drop at s) (omega arith)
 
 -- the step depends on what is lent alone
 pub step-same : (t : Table) (st : State) (at : ℕ) {g h d e r q : List ℕ} → g ≡ h → d ≡ e → r ≡ q → segmentStep t st at g d r ≡ segmentStep t st at h e q

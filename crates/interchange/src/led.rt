@@ -2,6 +2,7 @@
 
 use crate::heads::end_at;
 use crate::heads::head_at;
+use crate::packed::Packed;
 use crate::packed::next_place;
 use syntax::segment::Quick;
 ghost use mathlib.Core.Path.{_≡_};
@@ -24,25 +25,25 @@ pub(crate) enum Led {
 // The tag's column of a table.
 const TAG: usize = 1;
 
-/// Where the segment at an offset leads from a place.
+/// Where the segment at an offset leads from a place, a good period where the row reached is that of the period that is read.
 pub(crate) fn lead_on(
     s: &[u8],
     at: usize,
     table: &[[u32; 8]],
     hints: &[[u16; 16]],
-    row: usize,
-    counts: u64,
+    place: Packed,
+    period: usize,
 ) -> Led
-    requires { ⌜ (at + 4 ≤ length (now s)) × (row < length (now hints)) × (length (now hints) ≡ length (now table)) × T (right (now table) (now hints)) × Stood (now table) (placeOf row counts) × Lettered (now table) × (length (now table) ≤ 104) ⌝ }
-    ensures { λ r. ⌜ LedTold (now (s .entry)) at (now (table .entry)) row counts r ⌝ }
+    requires { ⌜ (at + 4 ≤ length (now s)) × (place .row < length (now hints)) × (length (now hints) ≡ length (now table)) × T (right (now table) (now hints)) × Stood (now table) (placeOf (place .row) (place .counts)) × Lettered (now table) × (length (now table) ≤ 104) ⌝ }
+    ensures { λ r. ⌜ LedTold (now (s .entry)) at (now (table .entry)) (place .row) (place .counts) period r ⌝ }
 {
     let head = head_at(s, at);
-    let next = next_place(table, hints, row, counts, head / 256);
+    let next = next_place(table, hints, place.row, place.counts, head / 256);
     if !next.told {
         return Led::Unsure;
     }
     let to = next.row;
-    match end_at(s, at, head, table[to][TAG]) {
+    match end_at(s, at, head, table[to][TAG], to == period) {
         Quick::Ends(end) => Led::To(to, next.counts, end),
         Quick::Unsure => Led::Unsure,
     }

@@ -3,25 +3,19 @@
 
 use crate::led::Led;
 use crate::led::lead_on;
+use crate::packed::Packed;
 use crate::packed::pack;
 use crate::packed::unpack;
 use crate::rows::put_row;
 use crate::standing::Standing;
-use parts::Part;
-use period::Period;
-use period::read_period;
 use placing::Place;
 use steps::state::Phase;
 use steps::state::Row;
 use steps::state::State;
-use syntax::segment::Scanned;
 ghost use mathlib.Core.Path.{_≡_};
 ghost use mathlib.Core.Bool.{true};
 ghost use Prim.Native.Nat.{_≤_, _<_};
 ghost use lib.ListN.{length};
-ghost use Rattle.laws.specs.Choice.{pick};
-ghost use Rattle.syntax.specs.Segment.{bodyAt, segmentAt};
-ghost use Rattle.period.specs.Period.{isGood, periodOf};
 ghost use Rattle.placing.specs.Table.{rows};
 ghost use Rattle.placing.specs.Tables.{tableOf};
 ghost use Rattle.hints.specs.Hints.{hintsOf};
@@ -73,20 +67,6 @@ pub(crate) fn stay(from: Standing) -> Ran
     }
 }
 
-// Whether a segment is no period that is read, or a good one.
-fn is_good(s: &[u8], at: usize, end: usize, read: bool) -> bool
-    requires { ⌜ segmentAt (now s) at ≡ Scanned.End end ⌝ }
-    ensures { λ r. ⌜ r ≡ pick read (isGood (periodOf (bodyAt (now (s .entry)) at))) true ⌝ }
-{
-    if !read {
-        return true;
-    }
-    match read_period(s, Part { from: at, to: end }) {
-        Period::Good(_, _, _) => true,
-        Period::Wrong(_) => false,
-    }
-}
-
 // So many segments more.
 fn counted(segments: usize, more: usize) -> usize
     ensures { λ r. ⌜ r ≡ countedOf segments more ⌝ }
@@ -135,8 +115,8 @@ pub(crate) fn run(
     ensures { λ r. ⌜ Moved (now (s .entry)) (from .state) (from .at) (from .numbers) (now (room .entry)) (movedState (from .state) (r .place) (r .segments)) (r .at) (r .numbers) (now (room .exit)) × (r .numbers ≤ roomSize) ⌝ }
 {
     let st = from.state;
-    let place = st.place;
-    let start = pack(place, table);
+    let reached = st.place;
+    let start = pack(reached, table);
     if !is_within(s, from.at) {
         return stay(from);
     }
@@ -153,12 +133,14 @@ pub(crate) fn run(
         if last < at + 4 {
             break;
         }
-        let Led::To(to, next, end) = lead_on(s, at, table, hints, row, counts) else {
+        let place = Packed {
+            told: true,
+            row,
+            counts,
+        };
+        let Led::To(to, next, end) = lead_on(s, at, table, hints, place, period) else {
             break;
         };
-        if !is_good(s, at, end, to == period) {
-            break;
-        }
         put_row(room, numbers, at as u32, placed(table, to, at));
         row = to;
         counts = next;

@@ -28,6 +28,10 @@ drop-here s i h = rw (add-one, drop-cons s i 0)
 pub drop-past : (s : List ℕ) (i : ℕ) → length s ≤ i → drop i s ≡ []
 drop-past s i h = drop-of-length-le s h
 
+-- the part from an index to the end is what stands from there on
+pub rest-is : (s : List ℕ) (at : ℕ) → take (length s - at) (drop at s) ≡ drop at s
+rest-is s at = let d = length-drop at s in take-all (length s - at) (drop at s) (omega arith)
+
 pub drop-take : {A : Type 0} (k n : ℕ) (l : List A) → drop k (take n l) ≡ take (n - k) (drop k l)
 drop-take zero n l = rw sub-zero
 drop-take (suc k) zero l = rw zero-sub

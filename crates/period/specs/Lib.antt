@@ -8,3 +8,4 @@ pub mod Elements
 pub mod Second
 pub mod Facts
 pub mod Written
+pub mod Pops

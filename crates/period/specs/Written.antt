@@ -59,6 +59,11 @@ firsts : List ℕ → ℕ → ℕ → List ℕ
 firsts g k zero = []
 firsts g k (suc n) = getD g k 0 ∷ firsts g (k + 1) n
 
+length-firsts : (g : List ℕ) (n k : ℕ) → length (firsts g k n) ≡ n
+unfolding firsts
+length-firsts g zero k = refl
+length-firsts g (suc n) k = ap suc (length-firsts g n (k + 1))
+
 drop-firsts : (g : List ℕ) (n k : ℕ) → k + n ≤ length g → drop k g ≡ firsts g k n ++ drop (k + n) g
 unfolding firsts
 drop-firsts g zero k h = let e : k + 0 ≡ k = omega arith in rw e
@@ -107,7 +112,7 @@ module _ (y₀ y₁ y₂ y₃ y₄ y₅ y₆ y₇ y₈ y₉ : ℕ) where
 -- a POP that begins `POP+273:first/last`, with dates that give a period
 pub record Begins (g : List ℕ) (f n : ℕ) : Type 0 where
   pub dates : List ℕ
-  pub long : 29 ≤ length g
+  pub counted : length dates ≡ 21
   pub split : g ≡ oneElement (withoutString (dates ++ drop 29 g))
   pub numerics : all numeric dates ≡ true
   pub span : spanIn dates ≡ Days f n
@@ -117,16 +122,8 @@ abbrev pub spanTold : List ℕ → Span → Type 0
 spanTold g (Days f n) = Begins g f n
 spanTold g Bad = Unit
 
--- a good period that was found is the POP's; where none was found nothing is said
-abbrev pub periodTold : List ℕ → Period → Type 0
-periodTold g (Good f n form) = Good f n form ≡ periodOf g
-periodTold g (Wrong x) = Unit
-
 pub span-known : (g : List ℕ) {r : Span} {f n : ℕ} → spanTold g r → r ≡ Days f n → Begins g f n
 span-known g t e = subst (spanTold g) e t
-
-pub period-known : (g : List ℕ) {r : Period} {f n : ℕ} {form : Form} → periodTold g r → r ≡ Good f n form → Good f n form ≡ periodOf g
-period-known g t e = subst (periodTold g) e t
 
 pub record Same (a b c d x y z w : ℕ) : Type 0 where
   pub one : a ≡ x
@@ -194,75 +191,4 @@ module _ (g : List ℕ) (h : 29 ≤ length g) {a b : Date} (p : dateAt g 8 ≡ V
     pub begins-told : (r : Span) → r ≡ daysSpan a b → spanTold g r
     begins-told Bad e = tt
     begins-told (Days f n) e =
-        record { dates = firsts g 8 21; long = h; split = begins-split; numerics = dates-numeric; span = sym (e ∙ dates-span) }
-
--- the characters of the forms
-day-numeric : (b : ℕ) → zeroOrOne b ≡ true → numeric b ≡ true
-day-numeric b p =
-    choose (eqb b 48) (λ q. rw (eqb-true b 48 q)) (λ q. rw (eqb-true b 49 (rw q at p)))
-
-rising-numeric : (low : ℕ) (l : List ℕ) → 45 ≤ low → risingDays low l ≡ true → all numeric l ≡ true
-unfolding risingDays
-rising-numeric low [] h p = refl
-rising-numeric low (b ∷ l) h p =
-    let u = both-parts (both (ltb low b) (leb b 55)) (risingDays b l) p in
-    let v = both-parts (ltb low b) (leb b 55) (u .0) in
-    let k = ltb-true low b (v .0) in
-    let m = leb-true b 55 (v .1) in
-    rw (le-leb 45 b (omega arith), le-leb b 57 (omega arith)) (rising-numeric b l (omega arith) (u .1))
-
-some-text : (l : List ℕ) → 1 ≤ length l → present l ≡ true
-some-text [] h = absurd (omega arith)
-some-text (b ∷ l) h = refl
-
-module _ (n : ℕ) (l : List ℕ) (k : present l ≡ true) where
-  told-weekdays : risingDays 48 l ≡ true → formedOf n [] l ≡ Told ByWeekdays
-  unfolding formedOf
-  told-weekdays r = rw (r, k)
-
-  told-string : length l ≡ n → all zeroOrOne l ≡ true → formedOf n l [] ≡ Told ByString
-  unfolding formedOf risingDays dayString
-  told-string e z = rw (k, eq-eqb (length l) n e, z)
-
-told-every : (n : ℕ) → formedOf n [] [] ≡ Told Every
-unfolding formedOf risingDays
-told-every n = refl
-
--- what stands behind the dates tells the form
-module _ (g : List ℕ) {f n : ℕ} (b : Begins g f n) where
-  of-rest : (rest : List ℕ) (form : Form) → drop 29 g ≡ rest → Good f n form ≡ periodOf (oneElement (withoutString (b .dates ++ rest))) → Good f n form ≡ periodOf g
-  of-rest rest form e k = k ∙ ap (λ (x : List ℕ). periodOf (oneElement (withoutString (b .dates ++ x)))) (sym e) ∙ ap periodOf (sym (b .split))
-
-  pub alone-good : length g ≡ 29 → Good f n Every ≡ periodOf g
-  alone-good h =
-      of-rest [] Every (drop-past g 29 (omega arith))
-      (cut-good (oneElement (withoutString (b .dates))) (b .dates) [] [] (alone-cut (b .dates) (b .numerics)) (b .numerics) refl refl (b .span) (told-every n)
-      ∙ ap (λ (x : List ℕ). periodOf (oneElement (withoutString x))) (sym (append-nil (b .dates))))
-
-  module _ (h : 31 ≤ length g) where
-    two-more : (x y : ℕ) → getD g 29 0 ≡ x → getD g 30 0 ≡ y → drop 29 g ≡ x ∷ y ∷ drop 31 g
-    two-more x y p q =
-        drop-here g 29 (omega arith) ∙ ap (λ (l : List ℕ). getD g 29 0 ∷ l) (drop-here g 30 (omega arith))
-        ∙ rw (p, q)
-
-    pub passed-good : getD g 29 0 ≡ 43 → getD g 30 0 ≡ 43 → Good f n Every ≡ periodOf g
-    passed-good p q =
-        of-rest (43 ∷ 43 ∷ drop 31 g) Every (two-more 43 43 p q)
-        (cut-good (twoElements (withoutString (b .dates)) (43 ∷ drop 31 g)) (b .dates) [] [] (passed-cut (b .dates) (b .numerics) (drop 31 g)) (b .numerics) refl refl (b .span) (told-every n))
-
-    pub weekdays-good : getD g 29 0 ≡ 43 → risingDays 48 (drop 30 g) ≡ true → Good f n ByWeekdays ≡ periodOf g
-    weekdays-good p r =
-        let l = length-drop 30 g in
-        let k = rising-numeric 48 (drop 30 g) (omega arith) r in
-        of-rest (43 ∷ drop 30 g) ByWeekdays (drop-here g 29 (omega arith) ∙ rw p)
-        (cut-good (twoElements (withoutString (b .dates)) (drop 30 g)) (b .dates) [] (drop 30 g) (week-cut (b .dates) (b .numerics) (drop 30 g) k) (b .numerics) refl k (b .span)
-        (told-weekdays n (drop 30 g) (some-text (drop 30 g) (omega arith)) r))
-
-    pub string-good : getD g 29 0 ≡ 58 → getD g 30 0 ≡ 58 → length g - 31 ≡ n → all zeroOrOne (drop 31 g) ≡ true → Good f n ByString ≡ periodOf g
-    string-good p q m z =
-        let l = length-drop 31 g in
-        let c = span-told (b .dates) f n (b .span) .count in
-        let k = all-weaker zeroOrOne numeric (drop 31 g) day-numeric z in
-        of-rest (58 ∷ 58 ∷ drop 31 g) ByString (two-more 58 58 p q)
-        (cut-good (oneElement (withString (b .dates) (drop 31 g))) (b .dates) (drop 31 g) [] (string-cut (b .dates) (drop 31 g) (b .numerics) k) (b .numerics) k refl (b .span)
-        (told-string n (drop 31 g) (some-text (drop 31 g) (omega arith)) (omega arith) z))
+        record { dates = firsts g 8 21; counted = length-firsts g 21 8; split = begins-split; numerics = dates-numeric; span = sym (e ∙ dates-span) }

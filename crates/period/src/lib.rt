@@ -13,12 +13,15 @@ use crate::any::read_any;
 use crate::written::read_written;
 pub use elements::part_of;
 use parts::Part;
-use parts::bytes_of;
 pub use runs::day_runs;
+use syntax::segment::Scanned;
+use syntax::segment::read_segment;
 ghost use mathlib.Core.Path.{_≡_};
 ghost use Prim.Native.Nat.{ℕ};
+ghost use Rattle.syntax.specs.Segment.{segmentAt};
 ghost use Rattle.parts.specs.Places.{bytesOf};
 ghost use Rattle.period.specs.Period.{periodOf, periodAnswer, popAnswer, faultNumber};
+ghost use Rattle.period.specs.Pops.{popAt};
 
 /// What tells the days of a period.
 pub enum Form {
@@ -64,13 +67,52 @@ pub enum Period {
     Wrong(Fault),
 }
 
+/// What stands at an offset where a POP is looked for.
+pub enum Pop {
+    /// A whole segment that says a good period: the terminator's index, the number of its first day, how many days it has, and what tells
+    /// those that run.
+    Whole(usize, usize, usize, Form),
+    Other,
+}
+
 /// The period that a POP gives, the segment without its terminator.
 pub fn read_period(s: &[u8], segment: Part) -> Period
     ensures period { λ r. ⌜ r ≡ periodOf (bytesOf (now (s .entry)) segment) ⌝ }
     ensures said { λ r. ⌜ ((at : ℕ) → periodAnswer at r ≡ popAnswer at (bytesOf (now (s .entry)) segment)) ⌝ }
 {
-    match read_written(bytes_of(s, segment)) {
-        Period::Good(first, count, form) => Period::Good(first, count, form),
-        Period::Wrong(_) => read_any(s, segment),
+    read_any(s, segment)
+}
+
+// The POP of a whole segment, written in any way.
+fn read_whole(s: &[u8], at: usize, end: usize) -> Pop
+    requires { ⌜ segmentAt (now s) at ≡ Scanned.End end ⌝ }
+    ensures { λ r. ⌜ r ≡ popAt (now (s .entry)) at ⌝ }
+{
+    match read_any(s, Part { from: at, to: end }) {
+        Period::Good(first, count, form) => Pop::Whole(end, first, count, form),
+        Period::Wrong(_) => Pop::Other,
+    }
+}
+
+// The POP at an offset, written in any way.
+fn read_pop(s: &[u8], at: usize) -> Pop
+    ensures { λ r. ⌜ r ≡ popAt (now (s .entry)) at ⌝ }
+{
+    match read_segment(s, at) {
+        Scanned::End(end) => read_whole(s, at, end),
+        Scanned::NotPermitted(_) => Pop::Other,
+        Scanned::Unended => Pop::Other,
+        Scanned::Malformed => Pop::Other,
+    }
+}
+
+/// The POP at an offset, where a whole segment stands there that says a good period. What a POP in a usual form says tells where it ends, so
+/// that its bytes are looked at once.
+pub fn pop_at(s: &[u8], at: usize) -> Pop
+    ensures { λ r. ⌜ r ≡ popAt (now (s .entry)) at ⌝ }
+{
+    match read_written(s, at) {
+        Pop::Whole(end, first, count, form) => Pop::Whole(end, first, count, form),
+        Pop::Other => read_pop(s, at),
     }
 }

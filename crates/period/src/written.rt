@@ -1,19 +1,20 @@
-//! A POP in one of the usual forms, as most are written, read straight through.
+//! A POP in one of the usual forms, as most are written, read straight through from where it starts: what it says tells where it ends.
 
-use crate::Fault;
 use crate::Form;
-use crate::Period;
+use crate::Pop;
 use crate::dated::are_dates;
 use crate::dated::day_at;
 use crate::strings::are_days;
 use calendar::Span;
 use calendar::days_from;
 use dates::Number;
+use syntax::segment::Quick;
+use syntax::segment::quick_end;
 ghost use mathlib.Core.Path.{_≡_};
-ghost use Prim.Native.Nat.{_≤_};
+ghost use Prim.Native.Nat.{_+_, _≤_, _<_};
 ghost use lib.ListN.{length, getD, drop};
-ghost use Rattle.period.specs.Period.{risingDays};
-ghost use Rattle.period.specs.Written.{Begins, spanTold, periodTold, Word};
+ghost use Rattle.period.specs.Written.{Begins, spanTold, Word};
+ghost use Rattle.period.specs.Pops.{risingRun, WeekIn, StringIn, popTold};
 
 // Four bytes as one number.
 fn word(a: u8, b: u8, c: u8, d: u8) -> u32
@@ -47,75 +48,123 @@ fn written_span(g: &[u8]) -> Span
     days_from(first, last)
 }
 
-// Whether the bytes from an index on are weekdays that rise.
-fn are_rising(g: &[u8], from: usize) -> bool
-    ensures { λ r. ⌜ r ≡ risingDays 48 (drop from (now (g .entry))) ⌝ }
+// Behind the weekdays that rise from an index on.
+fn rising_end(g: &[u8], from: usize) -> usize
+    ensures { λ r. ⌜ r ≡ from + risingRun 48 (drop from (now (g .entry))) ⌝ }
 {
     let mut i = from;
     let mut last = b'0';
     while i < g.len() {
         let b = g[i];
         if b <= last {
-            return false;
+            return i;
         }
         if b'7' < b {
-            return false;
+            return i;
         }
         last = b;
         i += 1;
     }
-    true
+    i
 }
 
-// The period of a POP that goes on with a `+` behind its dates: where the second element is empty, "Giving neither means every day."
-fn read_weekdays(g: &[u8], first: usize, count: usize) -> Period
-    requires { ⌜ Begins (now g) first count × (31 ≤ length (now g)) × (getD (now g) 29 0 ≡ 43) ⌝ }
-    ensures { λ r. ⌜ periodTold (now (g .entry)) r ⌝ }
+// Where the POP ends whose second element, behind the dates and a `+`, names weekdays; 0 where it does not.
+fn weekdays_end(g: &[u8]) -> usize
+    ensures { λ r. ⌜ (0 < r → WeekIn (now (g .entry)) r) ⌝ }
 {
+    let end = rising_end(g, 30);
+    if g.len() <= end {
+        return 0;
+    }
+    if end <= 30 {
+        return 0;
+    }
+    if g[end] == b'\'' {
+        return end;
+    }
+    0
+}
+
+// Where the POP ends whose day string stands behind the dates, of so many days; 0 where there is none.
+fn string_end(g: &[u8], count: usize) -> usize
+    ensures { λ r. ⌜ (0 < r → StringIn (now (g .entry)) count r) ⌝ }
+{
+    if g.len() < 32 {
+        return 0;
+    }
+    if g.len() - 32 < count {
+        return 0;
+    }
+    let end = 31 + count;
+    if word(g[29], g[30], g[end], 0) != word(b':', b':', b'\'', 0) {
+        return 0;
+    }
+    if are_days(&g[..end], 31) {
+        return end;
+    }
+    0
+}
+
+// The POP whose second element is empty, whatever follows: "Giving neither means every day."
+fn read_passed(s: &[u8], at: usize, first: usize, count: usize) -> Pop
+    requires { ⌜ Begins (drop at (now s)) first count × (30 < length (drop at (now s))) × (getD (drop at (now s)) 29 0 ≡ 43) × (getD (drop at (now s)) 30 0 ≡ 43) ⌝ }
+    ensures { λ r. ⌜ popTold (now (s .entry)) at r ⌝ }
+{
+    match quick_end(s, at) {
+        Quick::Ends(end) => Pop::Whole(end, first, count, Form::Every),
+        Quick::Unsure => Pop::Other,
+    }
+}
+
+// The POP at an offset that goes on with a `+` behind its dates; g is what stands from the offset on.
+fn read_second(s: &[u8], at: usize, g: &[u8], first: usize, count: usize) -> Pop
+    requires { ⌜ (now g ≡ drop at (now s)) × Begins (now g) first count × (29 < length (now g)) × (getD (now g) 29 0 ≡ 43) × (at + length (now g) ≡ length (now s)) ⌝ }
+    ensures { λ r. ⌜ popTold (now (s .entry)) at r ⌝ }
+{
+    let end = weekdays_end(g);
+    if 0 < end {
+        return Pop::Whole(at + end, first, count, Form::ByWeekdays);
+    }
+    if g.len() <= 30 {
+        return Pop::Other;
+    }
     if g[30] == b'+' {
-        return Period::Good(first, count, Form::Every);
+        return read_passed(s, at, first, count);
     }
-    if are_rising(g, 30) {
-        return Period::Good(first, count, Form::ByWeekdays);
-    }
-    Period::Wrong(Fault::BadWeekdays)
+    Pop::Other
 }
 
-// The period of a POP whose dates are known, by what stands behind them.
-fn read_behind(g: &[u8], first: usize, count: usize) -> Period
-    requires { ⌜ Begins (now g) first count ⌝ }
-    ensures { λ r. ⌜ periodTold (now (g .entry)) r ⌝ }
+// The POP at an offset by what stands behind its dates.
+fn read_behind(s: &[u8], at: usize, g: &[u8], first: usize, count: usize) -> Pop
+    requires { ⌜ (now g ≡ drop at (now s)) × Begins (now g) first count × (29 < length (now g)) × (at + length (now g) ≡ length (now s)) ⌝ }
+    ensures { λ r. ⌜ popTold (now (s .entry)) at r ⌝ }
 {
-    if g.len() == 29 {
-        return Period::Good(first, count, Form::Every);
-    }
-    if g.len() < 31 {
-        return Period::Wrong(Fault::BadRest);
+    if g[29] == b'\'' {
+        return Pop::Whole(at + 29, first, count, Form::Every);
     }
     if g[29] == b'+' {
-        return read_weekdays(g, first, count);
+        return read_second(s, at, g, first, count);
     }
-    if g[29] != b':' {
-        return Period::Wrong(Fault::BadRest);
+    let end = string_end(g, count);
+    if 0 < end {
+        return Pop::Whole(at + end, first, count, Form::ByString);
     }
-    if g[30] != b':' {
-        return Period::Wrong(Fault::BadRest);
-    }
-    if g.len() - 31 != count {
-        return Period::Wrong(Fault::BadDayString);
-    }
-    if are_days(g, 31) {
-        return Period::Good(first, count, Form::ByString);
-    }
-    Period::Wrong(Fault::BadDayString)
+    Pop::Other
 }
 
-// The period of a POP in one of the usual forms. What is wrong here may only be written in another way, so no caller names the fault.
-pub(crate) fn read_written(g: &[u8]) -> Period
-    ensures { λ r. ⌜ periodTold (now (g .entry)) r ⌝ }
+// The POP at an offset where it is in one of the usual forms; any other may still be one.
+pub(crate) fn read_written(s: &[u8], at: usize) -> Pop
+    ensures { λ r. ⌜ popTold (now (s .entry)) at r ⌝ }
 {
-    match written_span(g) {
-        Span::Days(first, count) => read_behind(g, first, count),
-        Span::Bad => Period::Wrong(Fault::BadDates),
+    if s.len() <= at {
+        return Pop::Other;
     }
+    let g = &s[at..];
+    if g.len() <= 29 {
+        return Pop::Other;
+    }
+    let Span::Days(first, count) = written_span(g) else {
+        return Pop::Other;
+    };
+    read_behind(s, at, g, first, count)
 }

@@ -27,7 +27,7 @@ use Rattle.period.specs.declared.Period.the-variants.{Good}
 use Rattle.free_texts.specs.Free.{numeric}
 use Rattle.free_texts.specs.Parts.{twoElements, withoutString}
 use Rattle.period.specs.Written.{weekdays-plain}
-use Rattle.read_back.specs.Parts.{week-parts}
+use Rattle.free_texts.specs.Whole.{week-parts, stands-alone}
 use Rattle.read_back.specs.Written.{dates, numeric-dates, length-dates, period-read, ReadsBack}
 
 -- the digits of those of the m weekdays from v on of which a test holds
@@ -149,8 +149,8 @@ module _ (c : List ℕ) (first last : Date) (good : goodCalendar c first last �
       record {
         body = weekBody;
         ended = week-text;
-        cut = ap (λ (s : List ℕ). bodyAt s 0) week-text ∙ p .body;
-        segment = ap (λ (s : List ℕ). segmentAt s 0) week-text ∙ p .segment;
+        cut = ap (λ (s : List ℕ). bodyAt s 0) week-text ∙ stands-alone (p .whole) .0;
+        segment = ap (λ (s : List ℕ). segmentAt s 0) week-text ∙ stands-alone (p .whole) .1;
         period = e;
         days = λ k i.
             rw (e, lt-ltb k (dayCount first last) i)

@@ -30,7 +30,7 @@ use Rattle.period.specs.declared.Form.the-variants.{Every, ByString}
 use Rattle.period.specs.declared.Period.the-variants.{Good}
 use Rattle.free_texts.specs.Free.{all-append, numeric}
 use Rattle.free_texts.specs.Parts.{oneElement, withString}
-use Rattle.read_back.specs.Parts.{Parts, string-parts}
+use Rattle.free_texts.specs.Whole.{Parts, string-parts, stands-alone}
 
 -- the bytes of the parts
 all-cons : (f : ℕ → Bool) (b : ℕ) (l : List ℕ) → f b ≡ true → all f l ≡ true → all f (b ∷ l) ≡ true
@@ -166,8 +166,8 @@ module _ (c : List ℕ) (first last : Date) (good : goodCalendar c first last �
       record {
         body = stringBody;
         ended = string-text;
-        cut = ap (λ (t : List ℕ). bodyAt t 0) string-text ∙ p .body;
-        segment = ap (λ (t : List ℕ). segmentAt t 0) string-text ∙ p .segment;
+        cut = ap (λ (t : List ℕ). bodyAt t 0) string-text ∙ stands-alone (p .whole) .0;
+        segment = ap (λ (t : List ℕ). segmentAt t 0) string-text ∙ stands-alone (p .whole) .1;
         period = e;
         days = λ k h.
             rw (e, lt-ltb k (dayCount first last) h)

@@ -55,6 +55,13 @@ ended s at e q =
     (λ h. absurd (apart₂ e (rw (f, h) at q))))
     (λ f. absurd (apart e (at + permittedRun (bodyAt s at)) (rw f at q)))
 
+-- the bytes from a segment's start to its end are its body
+pub body-slice : (s : List ℕ) (at e : ℕ) → segmentAt s at ≡ End e → take (e - at) (drop at s) ≡ bodyAt s at
+body-slice s at e q =
+    let w = ended s at e q in
+    let d : e - at ≡ length (bodyAt s at) = omega (arith, w .place) in
+    ap (λ (n : ℕ). take n (drop at s)) d ∙ sym (first-take 39 false (drop at s))
+
 -- "its end lies past its start and within the input": three letters stand before it
 letters : (l : List ℕ) → threeCapitals l ≡ true → length l ≡ 3
 letters [] q = absurd (false≢true q)

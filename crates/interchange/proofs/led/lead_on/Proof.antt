@@ -50,7 +50,7 @@ module _ (e : tie.Else1) where
   abbrev to : ℕ
   to = next .next-place .result .row
 
-  led : Leads table (start .args .row) (start .args .counts) to (next .next-place .result .counts)
+  led : Leads table (start .args .place .row) (start .args .place .counts) to (next .next-place .result .counts)
   led = next .next-place .ensures (not-false (next .next-place .result .told) (e .if1 .left))
 
   found : getD (getD table to []) 1 0 ≡ tagAt table to
@@ -61,7 +61,7 @@ module _ (e : tie.Else1) where
       let b = next .before .head-at .ensures in
       let o = led .on (head / 256) (sym (q ∙ found)) in
       head-capitals list (start .args .at) (b .1)
-      (subst (λ x. capitalTag (x / 256) ≡ true) (b .0) (start .pre .5 (start .args .row) (start .args .counts) (head / 256) to (next .next-place .result .counts) o))
+      (subst (λ x. capitalTag (x / 256) ≡ true) (b .0) (start .pre .5 (start .args .place .row) (start .args .place .counts) (head / 256) to (next .next-place .result .counts) o))
 
 mul-end-at : tie.Need-mul-end-at
 mul-end-at c =
@@ -96,7 +96,7 @@ returns-2 c =
     let w = c .before .before .before .end-at .ensures (x .0 .0) (x .1) in
     let n : head e / 256 ≡ tagNumber (drop (a .at) (list e)) = ap (λ x. x / 256) (b .0) ∙ tag-number (list e) (a .at) (b .1) (start e .pre .0) in
     let g : tagAt (table e) (to e) ≡ tagNumber (drop (a .at) (list e)) = sym (found e) ∙ sym (w .1) ∙ n in
-    record { whole = w .0; on = led e .on (tagNumber (drop (a .at) (list e))) g; tagged = g; inside = led e .inside; fits = led e .fits }
+    record { whole = w .0; on = led e .on (tagNumber (drop (a .at) (list e))) g; tagged = g; inside = led e .inside; fits = led e .fits; good = w .2 }
 
 returns-3 : tie.Need-returns-3
 returns-3 c = search needs

@@ -7,7 +7,6 @@ use Rattle.interchange.proofs.packed.pack.Reads as pack-reads
 use Rattle.interchange.proofs.packed.unpack.Reads as unpack-reads
 use Rattle.interchange.proofs.rows.put_row.Reads as put-row-reads
 use Rattle.interchange.proofs.run.counted.Reads as counted-reads
-use Rattle.interchange.proofs.run.is_good.Reads as is-good-reads
 use Rattle.interchange.proofs.run.is_within.Reads as is-within-reads
 use Rattle.interchange.proofs.run.placed.Reads as placed-reads
 use Rattle.interchange.proofs.run.stay.Reads as stay-reads
@@ -82,8 +81,8 @@ module _ (k : tie.After-to Inv-loop μ-loop) where
   abbrev end : ℕ
   end = k .to .given .0 .1 .1 .0
 
-  told : Tells (list own) (own .loop .at) table (own .loop .row) (own .loop .counts) to next end
-  told = led-known (list own) (own .loop .at) table (own .loop .row) (own .loop .counts) (k .before .before .lead-on .ensures) (k .to .given .1)
+  told : Tells (list own) (own .loop .at) table (own .loop .row) (own .loop .counts) (start own .args .period) to next end
+  told = led-known (list own) (own .loop .at) table (own .loop .row) (own .loop .counts) (start own .args .period) (k .before .before .lead-on .ensures) (k .to .given .1)
 
   within : (own .loop .at + 3 ≤ end) × (end < length (list own))
   within = end-within (list own) (own .loop .at) end (told .whole)
@@ -157,29 +156,26 @@ enum-known-to c = search needs
 enum-told : tie.Need-enum-told Inv-loop μ-loop
 enum-told c = search needs
 
-is-good-requires : tie.Need-is-good-requires Inv-loop μ-loop
-is-good-requires c κs = told (c .before) .whole
-
 cast-put-row : tie.Need-cast-put-row Inv-loop μ-loop
 cast-put-row c =
-    let o = own (c .before .before .before .before) in
+    let o = own (c .before .before) in
     let p = start o .pre .4 in
     let l = o .loop .inv .6 in
     omega arith
 
 placed-requires : tie.Need-placed-requires Inv-loop μ-loop
-placed-requires c κs = told (c .before .before .before .before) .inside
+placed-requires c κs = told (c .before .before) .inside
 
 put-row-requires : tie.Need-put-row-requires Inv-loop μ-loop
 put-row-requires c κs =
-    let k = c .before .before .before .before .before in
+    let k = c .before .before .before in
     let w = size (own k) in
     let l = k .before .before .before .before .loop-test .taken in
     (omega arith, sym (ap (λ (r : Row). r .offset) (c .placed .ensures)))
 
 add-at : tie.Need-add-at Inv-loop μ-loop
 add-at c =
-    let k = c .before .before .before .before .before .before .before .before in
+    let k = c .before .before .before .before .before .before in
     let p = start (own k) .pre .4 in
     let l = within k .1 in
     omega arith
@@ -194,9 +190,7 @@ loop-again : tie.Need-loop-again Inv-loop μ-loop
 loop-again c =
     let d = c .before .before in
     let f = d .before in
-    let x = f .before .before in
-    let g = x .before in
-    let k = g .before .before in
+    let k = f .before .before .before in
     let o = own k in
     let a = start o .args in
     let st = a .from .state in
@@ -212,7 +206,7 @@ loop-again c =
           (moved-told (list o) st (a .from .at) (a .from .numbers) (now (a .room)) st (p .0) (table k) (p .1)
           (o .loop .row) (o .loop .counts) (countedOf (st .segments) ((o .loop .numbers - a .from .numbers) / 3)) (o .loop .at) (o .loop .numbers) (o .loop .room) (i .0)
           (end k) (t .whole) (tagNumber (drop (o .loop .at) (list o))) refl (to k) (next k) (t .on)
-          (a .period) (p .3) (sym (g .is-good .ensures) ∙ not-false (g .is-good .result) (x .if4 .left))
+          (a .period) (p .3) (t .good)
           (groupAt (table k) (to k)) refl
           (omega arith) (d .put-row .last .0)
           (d .put-row .ensures ∙ ap (putRow (o .loop .room) (o .loop .numbers)) (f .placed .ensures ∙ ap (rowWith (o .loop .at) (groupAt (table k) (to k))) (t .tagged)))),
@@ -259,7 +253,6 @@ run-spec =
     lead-on-requires
     enum-known-to
     enum-told
-    is-good-requires
     cast-put-row
     placed-requires
     put-row-requires

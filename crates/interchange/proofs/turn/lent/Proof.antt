@@ -3,7 +3,8 @@ use mathlib.Core.List.{List}
 use Prim.Native.Nat.{ℕ}
 use denote.Ref.{now}
 use Rattle.parts.specs.Places.{bytesOf}
-use Rattle.interchange.specs.Turns.{lent-past, rest-is}
+use Rattle.laws.specs.Lists.{rest-is}
+use Rattle.interchange.specs.Turns.{lent-past}
 use borrow.Author.Needs.{needs}
 use Rattle.interchange.proofs.turn.lent.Statement.{statement}
 use Rattle.interchange.proofs.turn.lent.Tie as tie

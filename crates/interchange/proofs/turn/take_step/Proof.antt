@@ -9,7 +9,8 @@ use Rattle.syntax.specs.Segment.{bodyAt}
 use Rattle.syntax.specs.Ends.{end-within}
 use Rattle.steps.specs.Step.{stepAnswer, segmentStep}
 use Rattle.interchange.specs.Reader.{dialogueOf, headedReference, turnStep}
-use Rattle.interchange.specs.Turns.{body-slice, step-same}
+use Rattle.syntax.specs.Ends.{body-slice}
+use Rattle.interchange.specs.Turns.{step-same}
 use borrow.Author.Needs.{needs}
 use Rattle.interchange.proofs.turn.take_step.Statement.{statement}
 use Rattle.interchange.proofs.turn.take_step.Tie as tie

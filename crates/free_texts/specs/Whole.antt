@@ -1,12 +1,12 @@
--- The parts of a written POP, and that it is one whole segment.
+-- A POP as it is written, wherever it stands with its terminator behind it, is one whole segment.
 -- Assumes nothing.
-use mathlib.Core.Path.{_≡_, refl, ap, _∙_}
+use mathlib.Core.Path.{_≡_, refl, sym, ap, _∙_}
 use mathlib.Core.Bool.{Bool, true, false}
 use mathlib.Core.List.{List, [], _∷_, _++_}
 use Prim.Native.Nat.{ℕ, _+_, _≤_}
 use native.Mathlib.Omega.{arith}
 use lib.Dec.{leb}
-use lib.ListN.{length, length-append}
+use lib.ListN.{length, drop, length-append, length-drop}
 use borrow.Author.Tests.{le-leb, lt-ltb}
 use Rattle.laws.specs.Choice.{both, all}
 use Rattle.laws.specs.Text.{bytes}
@@ -14,8 +14,19 @@ use Rattle.syntax.specs.Bytes.{permittedOf, plainOn}
 use Rattle.syntax.specs.Pieces.{firstPiece, elements, occurrences, components}
 use Rattle.syntax.specs.Segment.{bodyAt, tagged, componentFits, occurrenceFits, elementFits, withinLimits, wellFormed, scanOf, segmentAt}
 use Rattle.syntax.specs.declared.segment.Scanned.the-variants.{End}
 use Rattle.free_texts.specs.Free.{all-append, quiet, first-cut, plain-all, numeric, no-quote, no-release, all-permitted}
-use Rattle.free_texts.specs.Parts.{code, oneElement, twoElements, withString, withoutString, Cut, string-quiet, string-components, string-elements, string-once, string-cut, dates-quiet, week-components, week-elements, week-once, named-once, named-components, week-cut}
+use Rattle.free_texts.specs.Parts.{code, oneElement, twoElements, withString, withoutString, Cut, string-quiet, string-components, string-elements, string-once, string-cut, dates-quiet, week-components, week-elements, week-once, named-once, named-components, week-cut, alone-elements, alone-cut}
+
+-- where a text goes on from an offset with these bytes and a terminator, they are the body of a whole segment
+abbrev pub Stands : List ℕ → Type 0
+Stands g = (t : List ℕ) (at : ℕ) (rest : List ℕ) → drop at t ≡ g ++ (39 ∷ rest) → (bodyAt t at ≡ g) × (segmentAt t at ≡ End (at + length g))
+
+-- and so they are by themselves
+pub stands-alone : {g : List ℕ} → Stands g → (bodyAt (g ++ (39 ∷ [])) 0 ≡ g) × (segmentAt (g ++ (39 ∷ [])) 0 ≡ End (length g))
+stands-alone {g} s =
+    let z : 0 + length g ≡ length g = omega arith in
+    let p = s (g ++ (39 ∷ [])) 0 [] refl in
+    (p .0, p .1 ∙ ap End z)
 
 -- a segment cut into its elements is whole where each of them is within the limits
 module _ (g : List ℕ) (es : List (List ℕ)) (tag : firstPiece 43 false g ≡ 80 ∷ 79 ∷ 80 ∷ []) (cut : elements g ≡ es) where
@@ -23,14 +34,12 @@ module _ (g : List ℕ) (es : List (List ℕ)) (tag : firstPiece 43 false g ≡ 
   unfolding wellFormed tagged withinLimits
   formed h f = rw (tag, cut, h, f)
 
-  pub whole-segment : leb (length es) 64 ≡ true → all elementFits es ≡ true → all permittedOf g ≡ true → all (quiet 39) g ≡ true
-      → (bodyAt (g ++ (39 ∷ [])) 0 ≡ g) × (segmentAt (g ++ (39 ∷ [])) 0 ≡ End (length g))
+  pub whole-segment : leb (length es) 64 ≡ true → all elementFits es ≡ true → all permittedOf g ≡ true → all (quiet 39) g ≡ true → Stands g
   unfolding scanOf
-  whole-segment h f p q =
-      let b = first-cut 39 g [] q in
-      let l : length (g ++ (39 ∷ [])) ≡ length g + 1 = length-append g (39 ∷ []) in
-      let z : 0 + length g ≡ length g = omega arith in
-      (b, ap (scanOf (length (g ++ (39 ∷ []))) 0) b ∙ rw (p, z, formed h f, lt-ltb (length g) (length (g ++ (39 ∷ []))) (omega arith)))
+  whole-segment h f p q t at rest e =
+      let b = ap (firstPiece 39 false) e ∙ first-cut 39 g rest q in
+      let l = sym (length-drop at t) ∙ ap length e ∙ length-append g (39 ∷ rest) in
+      (b, ap (scanOf (length t) at) b ∙ rw (p, formed h f, lt-ltb (at + length g) (length t) (omega arith)))
 
 -- an element with one occurrence, and its components
 component-fits : (p : List ℕ) → all numeric p ≡ true → length p ≤ 512 → componentFits p ≡ true
@@ -47,10 +56,9 @@ element-fits e cs o c h f =
     ap (λ (x : List (List ℕ)). both (leb (length x) 99) (all occurrenceFits x)) o
     ∙ ap (λ (x : Bool). both x true) (occurrence-fits e cs c h f)
 
--- what is known of a written POP: its parts, and that it is a whole segment
+-- what is known of a written POP: that it is a whole segment, and its parts
 pub record Parts (g d s w : List ℕ) : Type 0 where
-  pub body : bodyAt (g ++ (39 ∷ [])) 0 ≡ g
-  pub segment : segmentAt (g ++ (39 ∷ [])) 0 ≡ End (length g)
+  pub whole : Stands g
   pub cut : Cut g d s w
 
 code-fits : componentFits code ≡ true
@@ -76,7 +84,7 @@ module _ (d s : List ℕ) (pd : all numeric d ≡ true) (ps : all numeric s ≡ 
       let f : all componentFits (code ∷ d ∷ [] ∷ s ∷ []) ≡ true = rw (code-fits, component-fits d pd ld, none-fits, component-fits s ps ls) in
       let q : all (quiet 39) (oneElement e₁) ≡ true = string-quiet d s pd ps 39 refl refl (no-quote d pd) (no-quote s ps) in
       let w = whole-segment (oneElement e₁) (e₁ ∷ []) (first-cut 43 (80 ∷ 79 ∷ 80 ∷ []) e₁ refl) (string-elements d s pd ps) refl (rw (element-fits e₁ (code ∷ d ∷ [] ∷ s ∷ []) (string-once d s pd ps) (string-components d s pd ps) refl f)) string-permitted q in
-      record { body = w .0; segment = w .1; cut = string-cut d s pd ps }
+      record { whole = w; cut = string-cut d s pd ps }
 
 module _ (d w : List ℕ) (pd : all numeric d ≡ true) (pw : all numeric w ≡ true) (ld : length d ≤ 512) (lw : length w ≤ 512) where
   abbrev e₂ : List ℕ
@@ -97,4 +105,22 @@ module _ (d w : List ℕ) (pd : all numeric d ≡ true) (pw : all numeric w ≡ 
       whole-segment (twoElements e₂ w) (e₂ ∷ w ∷ []) (first-cut 43 (80 ∷ 79 ∷ 80 ∷ []) (e₂ ++ (43 ∷ w)) refl) (week-elements d pd w pw) refl
       (rw (element-fits e₂ (code ∷ d ∷ []) (week-once d pd) (week-components d pd) refl f, element-fits w (w ∷ []) (named-once d pd w pw) (named-components d pd w pw) refl k))
       week-permitted q in
-      record { body = v .0; segment = v .1; cut = week-cut d pd w pw }
+      record { whole = v; cut = week-cut d pd w pw }
+
+module _ (d : List ℕ) (pd : all numeric d ≡ true) (ld : length d ≤ 512) where
+  abbrev e₃ : List ℕ
+  e₃ = withoutString d
+
+  alone-permitted : all permittedOf (oneElement e₃) ≡ true
+  unfolding permittedOf
+  alone-permitted = all-append permittedOf (80 ∷ 79 ∷ 80 ∷ 43 ∷ 50 ∷ 55 ∷ 51 ∷ 58 ∷ []) d refl (all-permitted d pd)
+
+  pub alone-parts : Parts (oneElement e₃) d [] []
+  alone-parts =
+      let f : all componentFits (code ∷ d ∷ []) ≡ true = rw (code-fits, component-fits d pd ld) in
+      let q : all (quiet 39) (oneElement e₃) ≡ true = dates-quiet d pd 39 refl refl (no-quote d pd) in
+      let v =
+      whole-segment (oneElement e₃) (e₃ ∷ []) (first-cut 43 (80 ∷ 79 ∷ 80 ∷ []) e₃ refl) (alone-elements d pd) refl
+      (rw (element-fits e₃ (code ∷ d ∷ []) (week-once d pd) (week-components d pd) refl f))
+      alone-permitted q in
+      record { whole = v; cut = alone-cut d pd }

@@ -1,0 +1,33 @@
+-- `pop_at` meets its contract.
+-- Assumes nothing.
+use borrow.Author.Needs.{needs}
+use denote.Ref.{now}
+use Rattle.period.specs.Pops.{pop-known}
+use Rattle.period.proofs.pop_at.Statement.{statement}
+use Rattle.period.proofs.pop_at.Tie as tie
+
+read-written-requires : tie.Need-read-written-requires
+read-written-requires c κs = search needs
+
+enum-known-end : tie.Need-enum-known-end
+enum-known-end c = search needs
+
+enum-told : tie.Need-enum-told
+enum-told c = search needs
+
+read-pop-requires : tie.Need-read-pop-requires
+read-pop-requires c κs = search needs
+
+returns : tie.Need-returns
+returns c =
+    let w = c .before .before .before in
+    let a = w .before .before .args in
+    pop-known (now (a .s)) (a .at) (w .read-written .ensures) (c .before .end .given .1)
+
+returns-2 : tie.Need-returns-2
+returns-2 c = search needs
+
+pub pop-at-spec : {M : Type 1} → statement M
+pop-at-spec =
+    tie.close
+    (tie.spec read-written-requires enum-known-end enum-told read-pop-requires returns returns-2)
