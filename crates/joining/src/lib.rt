@@ -5,10 +5,13 @@ use calendar::set_day;
 use calendar::with_bit;
 use parts::Part;
 use parts::bytes_of;
+use parts::segment_at;
 use period::Fault;
 use period::Form;
 use period::Period;
+use period::Pop;
 use period::part_of;
+use period::pop_at;
 use period::read_period;
 use values::Next;
 use values::next_byte;
@@ -20,6 +23,7 @@ ghost use lib.ListN.{length, getD, drop};
 ghost use Rattle.laws.specs.Choice.{pick};
 ghost use Rattle.syntax.specs.Bytes.{plain};
 ghost use Rattle.syntax.specs.Pieces.{partOf};
+ghost use Rattle.syntax.specs.Segment.{bodyAt};
 ghost use Rattle.parts.specs.Places.{bytesOf};
 ghost use Rattle.dates.specs.Days.{weekdayOf};
 ghost use Rattle.calendar.specs.Days.{hasBit, withDay};
@@ -333,5 +337,16 @@ pub fn join_period(days: &mut [u8], origin: usize, s: &[u8], segment: Part) -> J
         Period::Good(first, n, form) => {
             join_form(days, origin, bytes_of(s, segment), first, n, form)
         },
+    }
+}
+
+/// The same for the POP at an offset, up to its terminator or to the input's end.
+pub fn join_at(days: &mut [u8], origin: usize, s: &[u8], at: usize) -> Joined
+    ensures told { λ r. ⌜ (r ≡ answered (length (now (days .entry))) origin (bodyAt (now (s .entry)) at)) × (now (days .exit) ≡ daysJoined (now (days .entry)) origin (bodyAt (now (s .entry)) at)) ⌝ }
+    ensures said { λ r. ⌜ joinedAnswer at r ≡ joinAnswer at (length (now (days .entry))) origin (bodyAt (now (s .entry)) at) ⌝ }
+{
+    match pop_at(s, at) {
+        Pop::Whole(end, first, n, form) => join_form(days, origin, &s[at..end], first, n, form),
+        Pop::Other => join_period(days, origin, s, segment_at(s, at)),
     }
 }

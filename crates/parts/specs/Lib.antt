@@ -6,3 +6,4 @@ pub mod Walked
 pub mod Component
 pub mod Texts
 pub mod Next
+pub mod Segments

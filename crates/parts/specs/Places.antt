@@ -7,6 +7,7 @@ use lib.Dec.{ltb}
 use lib.ListN.{length}
 use Rattle.laws.specs.Lists.{between}
 use Rattle.syntax.specs.Bytes.{componentMark, elementMark, repetitionMark}
+use Rattle.syntax.specs.Segment.{bodyAt}
 use Rattle.syntax.specs.Pieces.{pieces, elements, occurrences, nth}
 use Rattle.parts.specs.declared.Part.{Part}
 
@@ -21,6 +22,10 @@ present (b ∷ l) = true
 
 abbrev pub bytesOf : List ℕ → Part → List ℕ
 bytesOf s p = between s (p .from) (p .to)
+
+-- the segment that starts at an offset, up to its terminator or to the input's end
+abbrev pub segmentOf : List ℕ → ℕ → Part
+segmentOf s at = record { from = at; to = at + length (bodyAt s at) }
 
 -- where the n-th of some pieces stands, counted from 0: the first begins at index a, and one byte parts each from the next
 unfoldable pub spanOf : ℕ → List (List ℕ) → ℕ → Part

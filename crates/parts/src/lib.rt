@@ -1,9 +1,11 @@
 //! The parts of a segment, as places in the lent slice.
 
 mod ends;
+mod segments;
 
 use crate::ends::component_end;
 use crate::ends::piece_end;
+pub use segments::segment_at;
 ghost use mathlib.Core.Path.{_≡_};
 ghost use mathlib.Core.Bool.{false};
 ghost use lib.Dec.{eqb, leb};

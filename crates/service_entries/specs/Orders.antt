@@ -51,11 +51,6 @@ order-part d k = refl
 pub order-length : (d : List ℕ) (k : ℕ) → 75 * k + 75 ≤ length d → length (between d (75 * k) (75 * k + 75)) ≡ 75
 order-length d k h = length-between d (75 * k) (75 * k + 75) h ∙ (omega arith)
 
-pub rest-is : (o : List ℕ) → length o ≡ 75 → take (length o - 10) (drop 10 o) ≡ drop 10 o
-rest-is o h =
-    let n = length-drop 10 o in
-    take-all (length o - 10) (drop 10 o) (omega arith)
-
 pub ordered-not : (d : List ℕ) (k : ℕ) (o : List ℕ) → length d / 75 ≤ k → d ≡ ordered d k o
 unfolding ordered
 ordered-not d k o h = rw (le-ltb k (length d / 75) h)

@@ -21,8 +21,7 @@ use Rattle.slots.specs.declared.Found.the-variants.{At, Gap}
 use Rattle.slots.specs.Find.{findOf, Within, find-within}
 use Rattle.gaps.specs.Move.{closedIn, insertedIn}
 use Rattle.services.specs.declared.Service.{Service}
-use Rattle.services.specs.Laws.{segment-body}
-use Rattle.services.specs.Services.{segmentOf, periodsOf}
+use Rattle.services.specs.Services.{periodsOf}
 use Rattle.service_entries.specs.declared.Known.{Known}
 use Rattle.service_entries.specs.declared.Known.the-variants as known
 use Rattle.stages.specs.Stage.{numberIn, daysOf}
@@ -35,10 +34,10 @@ module _ (first : ℕ) (s l days : List ℕ) where
   unfolding joinAll
   join-none e = rw e
 
-  pub join-on : (at : ℕ) (rest : List ℕ) → l ≡ at ∷ rest → (p : Part) (last : List ℕ) → p ≡ segmentOf s at → last ≡ daysJoined days first (bytesOf s p)
+  pub join-on : (at : ℕ) (rest : List ℕ) → l ≡ at ∷ rest → (last : List ℕ) → last ≡ daysJoined days first (bodyAt s at)
       → joinAll last first (map (bodyAt s) rest) ≡ joinAll days first (map (bodyAt s) l)
   unfolding joinAll
-  join-on at rest e p last a b = rw (e, b, segment-body s at p a)
+  join-on at rest e last b = rw (e, b)
 
 pub days-are : (first : ℕ) (s l last : List ℕ) → last ≡ joinAll (replicate 64 0) first (map (bodyAt s) l) → last ≡ daysOf first s l
 unfolding daysOf

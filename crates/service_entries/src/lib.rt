@@ -3,7 +3,7 @@
 mod numbers;
 mod orders;
 
-use joining::join_period;
+use joining::join_at;
 pub use numbers::Number;
 pub use numbers::number_of;
 pub use numbers::read_number;
@@ -14,7 +14,6 @@ use services::FoundPeriod;
 use services::Service;
 use services::next_period;
 use services::next_service;
-use services::segment_at;
 ghost use mathlib.Core.Path.{_≡_};
 ghost use mathlib.Core.List.{_∷_, map};
 ghost use Prim.Native.Nat.{_+_, _≤_, min, max};
@@ -67,7 +66,7 @@ fn join_periods(days: &mut [u8], first: usize, s: &[u8], rows: &[u32], from: usi
     loop {
         match next_period(rows, i, to) {
             FoundPeriod::Pop(k, at) => {
-                join_period(days, first, s, segment_at(s, at));
+                join_at(days, first, s, at);
                 i = k + 1;
             }
             FoundPeriod::NoMore => {

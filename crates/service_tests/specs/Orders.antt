@@ -20,8 +20,6 @@ use Rattle.joining.specs.declared.Joined.{Joined}
 use Rattle.joining.specs.declared.Joined.the-variants as joined
 use Rattle.joining.specs.Joined.{inWindow, windowAnswer, windowAnswerBy, answered, daysJoined, joinAll}
 use Rattle.services.specs.declared.Service.{Service}
-use Rattle.services.specs.Services.{segmentOf}
-use Rattle.services.specs.Laws.{segment-body}
 use Rattle.service_entries.specs.declared.Known.{Known}
 use Rattle.service_entries.specs.Room.{putBytes, putsIn}
 use Rattle.service_entries.specs.Orders.{orderOf, ordered, orderAt, putOrder, putOrders, order-same, order-other, order-size, order-enters, ordered-length}
@@ -56,13 +54,9 @@ pub outside-told : (first : ℕ) (g : List ℕ) (m : ℕ) (r : Joined) → m ≡
 unfolding answered
 outside-told first g m r l e = ap isOutside (e ∙ ap (λ (k : ℕ). windowAnswerBy k first (periodOf g)) l) ∙ outside-by first (periodOf g)
 
-pub join-told : (first : ℕ) (s : List ℕ) (at : ℕ) (p : Part) (c last : List ℕ) (r : Joined) → length c ≡ 64 → p ≡ segmentOf s at → r ≡ answered (length c) first (bytesOf s p)
-    → last ≡ daysJoined c first (bytesOf s p) → (isOutside r ≡ outsideBy first (periodOf (bodyAt s at))) × (last ≡ daysJoined c first (bodyAt s at))
-join-told first s at p c last r l a b d =
-    let e = segment-body s at p a in (
-      outside-told first (bytesOf s p) (length c) r l b ∙ ap (λ (g : List ℕ). outsideBy first (periodOf g)) e,
-      d ∙ ap (daysJoined c first) e,
-    )
+pub join-told : (first : ℕ) (g c last : List ℕ) (r : Joined) → length c ≡ 64 → (r ≡ answered (length c) first g) × (last ≡ daysJoined c first g)
+    → (isOutside r ≡ outsideBy first (periodOf g)) × (last ≡ daysJoined c first g)
+join-told first g c last r l e = (outside-told first g (length c) r l (e .0), e .1)
 
 pub join-next : (first : ℕ) (s l c last : List ℕ) (at : ℕ) (rest : List ℕ) → l ≡ at ∷ rest → last ≡ daysJoined c first (bodyAt s at)
     → joinAll last first (map (bodyAt s) rest) ≡ joinAll c first (map (bodyAt s) l)

@@ -14,15 +14,15 @@ use Rattle.answers.specs.Answers.{Answer, done, refused}
 use Rattle.answers.specs.Laws.{refused≢done}
 use Rattle.syntax.specs.Segment.{bodyAt}
 use Rattle.parts.specs.declared.Part.{Part}
-use Rattle.parts.specs.Places.{bytesOf}
+use Rattle.parts.specs.Places.{bytesOf, segmentOf}
 use Rattle.period.specs.declared.Period.{Period}
 use Rattle.period.specs.Period.{periodOf}
 use Rattle.joining.specs.Joined.{inWindow}
 use Rattle.services.specs.declared.Service.{Service}
-use Rattle.services.specs.Laws.{segment-body}
+use Rattle.parts.specs.Segments.{segment-body}
 use Rattle.services.specs.Rows.{offsetAt, rowCount, firstFrom}
 use Rattle.services.specs.Search.{list-none, list-some}
-use Rattle.services.specs.Services.{segmentOf, isPeriodRow, periodsFrom, periodsOf, hasPeriod, numberFits, periodsFit, isWrong, isTwice, testedOf}
+use Rattle.services.specs.Services.{isPeriodRow, periodsFrom, periodsOf, hasPeriod, numberFits, periodsFit, isWrong, isTwice, testedOf}
 use Rattle.service_tests.specs.declared.Totals.{Totals}
 use Rattle.service_entries.specs.declared.Known.{Known}
 use Rattle.service_entries.specs.declared.Known.the-variants as known

@@ -5,8 +5,11 @@ mod numbers;
 use crate::numbers::mark_of;
 use crate::numbers::set_mark;
 use joining::Joined;
-use joining::join_period;
+use joining::join_at;
+use parts::segment_at;
 use period::Period;
+use period::Pop;
+use period::pop_at;
 use period::read_period;
 use service_entries::Known;
 use service_entries::Number;
@@ -18,7 +21,6 @@ use services::FoundPeriod;
 use services::Service;
 use services::next_period;
 use services::next_service;
-use services::segment_at;
 use services::test_service;
 use syntax::segment::Refusal;
 ghost use mathlib.Core.Path.{_≡_};
@@ -78,13 +80,23 @@ fn is_past(first: usize, from: usize, n: usize) -> bool
     512 - n < from - first
 }
 
-// 13: whether the POP at an offset is not wholly in the window.
-fn is_outside(first: usize, s: &[u8], at: usize) -> bool
+// 13: whether the POP at an offset, whatever it says and wherever it ends, is not wholly in the window.
+fn is_any_outside(first: usize, s: &[u8], at: usize) -> bool
     ensures { λ r. ⌜ r ≡ outsideBy first (periodOf (bodyAt (now (s .entry)) at)) ⌝ }
 {
     match read_period(s, segment_at(s, at)) {
         Period::Wrong(_) => false,
         Period::Good(from, n, _) => is_past(first, from, n),
+    }
+}
+
+// 13: whether the POP at an offset is not wholly in the window.
+fn is_outside(first: usize, s: &[u8], at: usize) -> bool
+    ensures { λ r. ⌜ r ≡ outsideBy first (periodOf (bodyAt (now (s .entry)) at)) ⌝ }
+{
+    match pop_at(s, at) {
+        Pop::Whole(_, from, n, _) => is_past(first, from, n),
+        Pop::Other => is_any_outside(first, s, at),
     }
 }
 
@@ -126,7 +138,7 @@ fn join_one(days: &mut [u8], first: usize, s: &[u8], at: usize) -> bool
     ensures told { λ r. ⌜ r ≡ outsideBy first (periodOf (bodyAt (now (s .entry)) at)) ⌝ }
     ensures left { λ _. ⌜ now (days .exit) ≡ daysJoined (now (days .entry)) first (bodyAt (now (s .entry)) at) ⌝ }
 {
-    match join_period(days, first, s, segment_at(s, at)) {
+    match join_at(days, first, s, at) {
         Joined::Outside => true,
         Joined::Done => false,
         Joined::WrongPeriod(_) => false,

@@ -15,7 +15,7 @@ use Rattle.syntax.specs.Bytes.{plain}
 use Rattle.syntax.specs.Pieces.{partOf}
 use Rattle.syntax.specs.Segment.{bodyAt}
 use Rattle.parts.specs.declared.Part.{Part}
-use Rattle.parts.specs.Places.{bytesOf}
+use Rattle.parts.specs.Places.{bytesOf, segmentOf}
 use Rattle.parts.specs.Located.{part-bytes}
 use Rattle.services.specs.declared.Service.{Service}
 use Rattle.services.specs.declared.Tested.{Tested}
@@ -24,18 +24,15 @@ use Rattle.services.specs.declared.Counted.{Counted}
 use Rattle.services.specs.declared.Counted.the-variants as counted
 use Rattle.services.specs.Rows.{rowCount}
 use Rattle.services.specs.Search.{some-none}
-use Rattle.services.specs.Services.{segmentOf, serviceNumber, numberFits, periodsFit, hasPeriod, periodsOf, isWrong, isSameService, isTwice, testedOf, testedAnswer, countedAnswer}
-use Rattle.services.specs.Ways.{segment-bytes, has-none}
+use Rattle.services.specs.Services.{serviceNumber, numberFits, periodsFit, hasPeriod, periodsOf, isWrong, isSameService, isTwice, testedOf, testedAnswer, countedAnswer}
+use Rattle.parts.specs.Segments.{segment-bytes}
+use Rattle.services.specs.Ways.{has-none}
 
 -- the bytes of a number are the first component of the first occurrence of the PRD's first element
 pub number-part : (s : List ℕ) (at : ℕ) → bytesOf s (serviceNumber s at) ≡ partOf (bodyAt s at) 1 1 1
 unfolding serviceNumber
 number-part s at =
     part-bytes s (segmentOf s at) 1 1 1 ∙ ap (λ (y : List ℕ). partOf y 1 1 1) (segment-bytes s at)
-
--- the bytes of a segment that was found
-pub segment-body : (s : List ℕ) (at : ℕ) (p : Part) → p ≡ segmentOf s at → bytesOf s p ≡ bodyAt s at
-segment-body s at p q = ap (bytesOf s) q ∙ segment-bytes s at
 
 -- what a good service is
 pub record Fine (s rows : List ℕ) (v : Service) : Type 0 where

@@ -16,10 +16,10 @@ use Rattle.syntax.specs.Few.{plain-length}
 use Rattle.syntax.specs.Pieces.{firstPiece, laterPieces, pieces, elements, nth}
 use Rattle.syntax.specs.Segment.{bodyAt}
 use Rattle.parts.specs.declared.Part.{Part}
-use Rattle.parts.specs.Places.{bytesOf, spanOf, countedAt, elementAt}
+use Rattle.parts.specs.Places.{bytesOf, spanOf, countedAt, elementAt, segmentOf}
 use Rattle.parts.specs.Located.{span-bytes, element-bytes}
-use Rattle.services.specs.Services.{segmentOf, serviceNumber, numberFits}
-use Rattle.services.specs.Ways.{segment-bytes}
+use Rattle.services.specs.Services.{serviceNumber, numberFits}
+use Rattle.parts.specs.Segments.{segment-bytes}
 
 -- a digit, or a byte behind the service characters
 abbrev pub Plain : ℕ → Type 0

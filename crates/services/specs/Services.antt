@@ -14,7 +14,7 @@ use Rattle.syntax.specs.Bytes.{plain}
 use Rattle.syntax.specs.Segment.{bodyAt}
 use Rattle.syntax.specs.Pieces.{partOf}
 use Rattle.parts.specs.declared.Part.{Part}
-use Rattle.parts.specs.Places.{bytesOf, partAt}
+use Rattle.parts.specs.Places.{bytesOf, partAt, segmentOf}
 use Rattle.values.specs.Values.{sameText}
 use Rattle.messages.specs.Tags.{PRD, MSD, POP, UIT}
 use Rattle.services.specs.declared.Service.{Service}
@@ -35,10 +35,6 @@ isService rows = isRow rows 2 PRD
 -- "POP in group 4 of SKDUPD": no POP of a TSDUPD stands in group 4
 abbrev pub isPeriodRow : List ℕ → ℕ → Bool
 isPeriodRow rows = isRow rows 4 POP
-
--- the segment that starts at an offset, up to its terminator
-abbrev pub segmentOf : List ℕ → ℕ → Part
-segmentOf s at = record { from = at; to = at + length (bodyAt s at) }
 
 -- "The number .. and 1225-1 stand where the PRD and MSD tables of 000 place them": in the first occurrence of the first
 -- element, the number as first component of the PRD, 1225-1 as second of the MSD

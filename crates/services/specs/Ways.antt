@@ -19,8 +19,9 @@ use Rattle.syntax.specs.Firsts.{first-take}
 use Rattle.syntax.specs.Segment.{bodyAt}
 use Rattle.syntax.specs.Found.{endFrom, end-body}
 use Rattle.parts.specs.declared.Part.{Part}
-use Rattle.parts.specs.Places.{bytesOf, partAt}
+use Rattle.parts.specs.Places.{bytesOf, partAt, segmentOf}
 use Rattle.parts.specs.Located.{part-bytes}
+use Rattle.parts.specs.Segments.{segment-bytes}
 use Rattle.values.specs.Values.{sameText}
 use Rattle.messages.specs.Tags.{MSD, POP, UIT}
 use Rattle.services.specs.declared.Service.{Service}
@@ -30,44 +31,12 @@ use Rattle.services.specs.Rows.{offsetAt, isRow, rowCount, firstFrom}
 use Rattle.services.specs.Search.{row-other, first-past, first-here, first-on, first-bounds, first-skips, first-through, some-holds, list-none, list-some, list-skip}
 use Rattle.services.specs.Inner.{keyOf, key-other, Passes, passes-first}
 use Rattle.services.specs.Extents.{Reaches, reach-end, reach-removes}
-use Rattle.services.specs.Services.{isService, isPeriodRow, segmentOf, serviceNumber, saysNumber, saysRemoval, serviceEnd, removes, serviceAt, nextService, nextPeriod, hasPeriod, numberFits, isWrong, isSameService, isTwice, testedOf, servicesFrom, periodsFrom, countOn, countedOf}
-
--- one byte of a segment at an index of the input
-module _ (s : List ℕ) (i : ℕ) where
-  pub body-past : (r : Bool) → length s ≤ i → length (firstPiece terminator r (drop i s)) ≡ 0
-  unfolding firstPiece
-  body-past r h = rw (drop-past s i h)
-
-  module _ (h : i < length s) where
-    pub body-here : getD s i 0 ≡ terminator → length (firstPiece terminator false (drop i s)) ≡ 0
-    unfolding firstPiece
-    body-here q = rw (drop-here s i h, eq-eqb (getD s i 0) terminator q)
-
-    pub body-released : i + length (firstPiece terminator true (drop i s)) ≡ i + 1 + length (firstPiece terminator false (drop (i + 1) s))
-    unfolding firstPiece
-    body-released = rw (drop-here s i h) (omega arith)
-
-    pub body-goes : (getD s i 0 ≡ terminator → ⊥) → i + length (firstPiece terminator false (drop i s)) ≡ i + 1 + length (firstPiece terminator (eqb (getD s i 0) releaseMark) (drop (i + 1) s))
-    unfolding firstPiece
-    body-goes q = rw (drop-here s i h, ne-eqb (getD s i 0) terminator q) (omega arith)
+use Rattle.services.specs.Services.{isService, isPeriodRow, serviceNumber, saysNumber, saysRemoval, serviceEnd, removes, serviceAt, nextService, nextPeriod, hasPeriod, numberFits, isWrong, isSameService, isTwice, testedOf, servicesFrom, periodsFrom, countOn, countedOf}
 
 -- a search for a period leaves out the rows of other tags
 pub period-pass : (rows : List ℕ) (i to r : ℕ) → to ≤ length rows / 3 → Passes (keyOf rows 2 POP) 1 i r → r ≤ to → firstFrom (isPeriodRow rows) r to ≡ firstFrom (isPeriodRow rows) i to
 period-pass rows i to r h p d =
     passes-first (keyOf rows 2 POP) (isPeriodRow rows) 1 i to r p d (λ j l g. row-other rows 4 POP j (omega arith) (key-other rows 2 POP j g))
-
--- where a segment stands
-pub segment-is : (s : List ℕ) (at to : ℕ) → to ≡ at + length (bodyAt s at) → record { from = at; to = to } ≡ segmentOf s at
-segment-is s at to q = ap (λ (x : ℕ). record { from = at; to = x }) q
-
-pub segment-ended : (s : List ℕ) (at to : ℕ) → to ≡ endFrom s at → to < length s → record { from = at; to = to } ≡ segmentOf s at
-segment-ended s at to q h = segment-is s at to (q ∙ end-body s at (subst (λ (x : ℕ). x < length s) q h))
-
--- and its bytes
-pub segment-bytes : (s : List ℕ) (at : ℕ) → bytesOf s (segmentOf s at) ≡ bodyAt s at
-segment-bytes s at =
-    let e : at + length (bodyAt s at) - at ≡ length (bodyAt s at) = omega arith in
-    rw e (sym (first-take terminator false (drop at s)))
 
 module _ (s : List ℕ) (at : ℕ) (g p : Part) (a : g ≡ segmentOf s at) where
   pub number-is : p ≡ partAt s g 1 1 1 → p ≡ serviceNumber s at

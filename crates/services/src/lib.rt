@@ -12,7 +12,6 @@ use crate::rows::offset_of;
 use crate::rows::period_row;
 use crate::rows::reach_of;
 use crate::rows::row_count;
-use crate::segments::end_of;
 use crate::segments::number_at;
 use crate::segments::says_number;
 use crate::segments::says_removal;
@@ -20,12 +19,11 @@ use messages::MSD;
 use messages::PRD;
 use parts::Part;
 use parts::bytes_of;
-use syntax::ends::find_end;
 use syntax::segment::Refusal;
 ghost use mathlib.Core.Path.{_≡_};
 ghost use Prim.Native.Nat.{_/_, _≤_, _<_};
 ghost use lib.ListN.{length};
-ghost use Rattle.services.specs.Services.{segmentOf, removes, serviceAt, nextService, nextPeriod, hasPeriod, isWrong, isTwice, testedOf, countedOf, testedAnswer, countedAnswer};
+ghost use Rattle.services.specs.Services.{removes, serviceAt, nextService, nextPeriod, hasPeriod, isWrong, isTwice, testedOf, countedOf, testedAnswer, countedAnswer};
 
 /// A service: a group 2 of a SKDUPD message.
 pub struct Service {
@@ -120,21 +118,6 @@ pub fn next_period(rows: &[u32], i: usize, to: usize) -> FoundPeriod
         return FoundPeriod::NoMore;
     }
     FoundPeriod::Pop(k, offset_of(rows, k))
-}
-
-/// Where the segment at an offset stands: up to its terminator, or to the input's end.
-pub fn segment_at(s: &[u8], at: usize) -> Part
-    ensures { λ r. ⌜ r ≡ segmentOf (now (s .entry)) at ⌝ }
-{
-    let found = find_end(s, at);
-    if found < s.len() {
-        return Part {
-            from: at,
-            to: found,
-        };
-    }
-    let to = end_of(s, at);
-    Part { from: at, to }
 }
 
 // Whether a POP stands among rows.

@@ -2,36 +2,12 @@
 
 use crate::numbers::is_product;
 use crate::numbers::plain_end;
-use crate::segment_at;
 use parts::Part;
 use parts::bytes_of;
 use parts::part_at;
+use parts::segment_at;
 ghost use mathlib.Core.Path.{_≡_};
-ghost use Prim.Native.Nat.{_+_};
-ghost use lib.ListN.{length};
-ghost use Rattle.syntax.specs.Segment.{bodyAt};
 ghost use Rattle.services.specs.Services.{serviceNumber, saysNumber, saysRemoval};
-
-// The index of the first terminator from an offset on, or the input's length.
-pub(crate) fn end_of(s: &[u8], from: usize) -> usize
-    ensures { λ r. ⌜ r ≡ from + length (bodyAt (now (s .entry)) from) ⌝ }
-{
-    let mut i = from;
-    let mut released = false;
-    while i < s.len() {
-        let b = s[i];
-        if released {
-            released = false;
-        } else {
-            if b == b'\'' {
-                return i;
-            }
-            released = b == b'?';
-        }
-        i += 1;
-    }
-    i
-}
 
 // Where the number of the PRD at an offset stands.
 pub(crate) fn number_at(s: &[u8], at: usize) -> Part

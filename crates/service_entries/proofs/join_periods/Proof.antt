@@ -24,23 +24,23 @@ abbrev μ-loop : tie.MeasureT-loop
 μ-loop days₀ first s rows from to i₀ days i = rowCount rows to - i
 
 -- the POP that was found
-module _ (t : tie.After-join-period Inv-loop μ-loop) where
+module _ (t : tie.After-join-at Inv-loop μ-loop) where
   abbrev own : tie.At-loop Inv-loop μ-loop
-  own = t .before .before .before .before .before .before .before
+  own = t .before .before .before .before .before .before
 
   abbrev start : tie.Start Inv-loop μ-loop
   start = own .before .before .before .before
 
   abbrev row : ℕ
-  row = t .before .before .before .before .k .given .0 .0
+  row = t .before .before .before .k .given .0 .0
 
   abbrev at : ℕ
-  at = t .before .before .before .before .k .given .0 .1 .0
+  at = t .before .before .before .k .given .0 .1 .0
 
-  next : NextPeriod (now (start .args .rows)) (start .args .to) (own .loop .i) (t .before .before .before .before .k .given .0 .0) (t .before .before .before .before .k .given .0 .1 .0)
+  next : NextPeriod (now (start .args .rows)) (start .args .to) (own .loop .i) (t .before .before .before .k .given .0 .0) (t .before .before .before .k .given .0 .1 .0)
   next =
       period-found (now (start .args .rows)) (own .loop .i) (start .args .to) row at
-      (sym (t .before .before .before .before .before .before .next-period .ensures) ∙ t .before .before .before .before .k .given .1)
+      (sym (t .before .before .before .before .before .next-period .ensures) ∙ t .before .before .before .k .given .1)
 
 loop-holds : tie.Need-loop-holds Inv-loop μ-loop
 loop-holds c = (refl, refl)
@@ -51,11 +51,8 @@ next-period-requires c κs = search needs
 enum-known-k : tie.Need-enum-known-k Inv-loop μ-loop
 enum-known-k c = search needs
 
-segment-at-requires : tie.Need-segment-at-requires Inv-loop μ-loop
-segment-at-requires c κs = search needs
-
-join-period-requires : tie.Need-join-period-requires Inv-loop μ-loop
-join-period-requires c κs = search needs
+join-at-requires : tie.Need-join-at-requires Inv-loop μ-loop
+join-at-requires c κs = search needs
 
 add-i : tie.Need-add-i Inv-loop μ-loop
 add-i c =
@@ -72,8 +69,8 @@ loop-again c =
     let t = c .before .before in
     let a = start t .args in
     let v = own t .loop .inv in (
-      join-on (a .first) (now (a .s)) (periodsFrom (now (a .rows)) (own t .loop .i) (a .to)) (own t .loop .days) (at t) (periodsFrom (now (a .rows)) (row t + 1) (a .to)) (next t .rest) (t .before .segment-at .result) (t .join-period .last .0) (t .before .segment-at .ensures) (t .join-period .ensures .0 .1) ∙ v .0,
-      t .join-period .kept .0 ∙ v .1,
+      join-on (a .first) (now (a .s)) (periodsFrom (now (a .rows)) (own t .loop .i) (a .to)) (own t .loop .days) (at t) (periodsFrom (now (a .rows)) (row t + 1) (a .to)) (next t .rest) (t .join-at .last .0) (t .join-at .ensures .0 .1) ∙ v .0,
+      t .join-at .kept .0 ∙ v .1,
     )
 
 enum-told : tie.Need-enum-told Inv-loop μ-loop
@@ -99,8 +96,7 @@ join-periods-spec =
     loop-holds
     next-period-requires
     enum-known-k
-    segment-at-requires
-    join-period-requires
+    join-at-requires
     add-i
     loop-less
     loop-again

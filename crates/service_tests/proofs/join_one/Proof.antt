@@ -4,17 +4,15 @@ use mathlib.Core.Path.{_≡_, sym, ap, _∙_}
 use mathlib.Core.Bool.{Bool}
 use mathlib.Core.List.{List}
 use denote.Ref.{now}
+use Rattle.syntax.specs.Segment.{bodyAt}
 use Rattle.joining.specs.declared.Joined.{Joined}
 use Rattle.service_tests.specs.Orders.{isOutside, join-told}
 use borrow.Author.Needs.{needs}
 use Rattle.service_tests.proofs.join_one.Statement.{statement}
 use Rattle.service_tests.proofs.join_one.Tie as tie
 
-segment-at-requires : tie.Need-segment-at-requires
-segment-at-requires c κs = search needs
-
-join-period-requires : tie.Need-join-period-requires
-join-period-requires c κs = search needs
+join-at-requires : tie.Need-join-at-requires
+join-at-requires c κs = search needs
 
 enum-told : tie.Need-enum-told
 enum-told c = search needs
@@ -31,10 +29,9 @@ same-length c = search needs
 returns : tie.Need-returns
 returns c =
     let j = c .before .before .before .before in
-    let g = j .before in
-    let i = g .before .before .before .before in
+    let i = j .before .before .before .before in
     let a = i .args in
-    let t = join-told (a .first) (now (a .s)) (a .at) (g .segment-at .result) (now (a .days)) (j .join-period .last .0) (j .join-period .result) (i .pre) (g .segment-at .ensures) (j .join-period .ensures .0 .0) (j .join-period .ensures .0 .1) in
+    let t = join-told (a .first) (bodyAt (now (a .s)) (a .at)) (now (a .days)) (j .join-at .last .0) (j .join-at .result) (i .pre) (j .join-at .ensures .0) in
     (sym (ap isOutside (c .enum-told .given .1)) ∙ t .0, t .1)
 
 same-length-2 : tie.Need-same-length-2
@@ -43,10 +40,9 @@ same-length-2 c = search needs
 returns-2 : tie.Need-returns-2
 returns-2 c =
     let j = c .before .before .before .before in
-    let g = j .before in
-    let i = g .before .before .before .before in
+    let i = j .before .before .before .before in
     let a = i .args in
-    let t = join-told (a .first) (now (a .s)) (a .at) (g .segment-at .result) (now (a .days)) (j .join-period .last .0) (j .join-period .result) (i .pre) (g .segment-at .ensures) (j .join-period .ensures .0 .0) (j .join-period .ensures .0 .1) in
+    let t = join-told (a .first) (bodyAt (now (a .s)) (a .at)) (now (a .days)) (j .join-at .last .0) (j .join-at .result) (i .pre) (j .join-at .ensures .0) in
     (sym (ap isOutside (c .enum-told2 .given .1)) ∙ t .0, t .1)
 
 same-length-3 : tie.Need-same-length-3
@@ -55,18 +51,16 @@ same-length-3 c = search needs
 returns-3 : tie.Need-returns-3
 returns-3 c =
     let j = c .before .before .before .before in
-    let g = j .before in
-    let i = g .before .before .before .before in
+    let i = j .before .before .before .before in
     let a = i .args in
-    let t = join-told (a .first) (now (a .s)) (a .at) (g .segment-at .result) (now (a .days)) (j .join-period .last .0) (j .join-period .result) (i .pre) (g .segment-at .ensures) (j .join-period .ensures .0 .0) (j .join-period .ensures .0 .1) in
+    let t = join-told (a .first) (bodyAt (now (a .s)) (a .at)) (now (a .days)) (j .join-at .last .0) (j .join-at .result) (i .pre) (j .join-at .ensures .0) in
     (sym (ap isOutside (c .enum-told3 .given .1)) ∙ t .0, t .1)
 
 pub join-one-spec : {M : Type 1} → statement M
 join-one-spec =
     tie.close
     (tie.spec
-    segment-at-requires
-    join-period-requires
+    join-at-requires
     enum-told
     enum-told-2
     enum-told-3

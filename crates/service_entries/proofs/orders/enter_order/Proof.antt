@@ -5,7 +5,8 @@ use native.Mathlib.Omega.{arith}
 use denote.Ref.{now}
 use lib.ListN.{length}
 use lib.Seq.{length-take-le}
-use Rattle.service_entries.specs.Orders.{rest-is, order-not, order-puts}
+use Rattle.laws.specs.Lists.{rest-is}
+use Rattle.service_entries.specs.Orders.{order-not, order-puts}
 use borrow.Author.Needs.{needs}
 use Rattle.service_entries.proofs.orders.enter_order.Statement.{statement}
 use Rattle.service_entries.proofs.orders.enter_order.Tie as tie
@@ -60,7 +61,7 @@ returns-2 c =
     let l = n .before .before .before in
     let i = l .before .before .before .before in
     let a = i .args in
-    (order-puts (now (a .order)) (now (a .room)) (i .pre .0) (l .if1 .left) refl (rest-is (now (a .order)) (i .pre .0)) (n .put-bytes .ensures .1) (e .put-bytes2 .ensures .1) (p .put-service .ensures .0), p .put-service .ensures .1)
+    (order-puts (now (a .order)) (now (a .room)) (i .pre .0) (l .if1 .left) refl (rest-is (now (a .order)) 10) (n .put-bytes .ensures .1) (e .put-bytes2 .ensures .1) (p .put-service .ensures .0), p .put-service .ensures .1)
 
 pub enter-order-spec : {M : Type 1} → statement M
 enter-order-spec =

@@ -1,10 +1,10 @@
--- `services::segment_at` meets its contract.
+-- `segment_at` meets its contract.
 -- Assumes nothing.
 use denote.Ref.{now}
-use Rattle.services.specs.Ways.{segment-is, segment-ended}
+use Rattle.parts.specs.Segments.{segment-is, segment-ended}
 use borrow.Author.Needs.{needs}
-use Rattle.services.proofs.segment_at.Statement.{statement}
-use Rattle.services.proofs.segment_at.Tie as tie
+use Rattle.parts.proofs.segments.segment_at.Statement.{statement}
+use Rattle.parts.proofs.segments.segment_at.Tie as tie
 
 find-end-requires : tie.Need-find-end-requires
 find-end-requires c κs = search needs

@@ -1,4 +1,4 @@
--- `services::segments::end_of` meets its contract: what stands from here on ends where the whole does.
+-- `end_of` meets its contract: what stands from here on ends where the whole does.
 -- Assumes nothing.
 use mathlib.Core.Path.{_≡_, refl, sym, _∙_}
 use mathlib.Core.Logic.{⊎-elim}
@@ -9,9 +9,9 @@ use lib.ListN.{length, drop}
 use Rattle.syntax.specs.Bytes.{terminator}
 use Rattle.syntax.specs.Pieces.{firstPiece}
 use Rattle.syntax.specs.Segment.{bodyAt}
-use Rattle.services.specs.Ways.{body-past, body-here, body-released, body-goes}
-use Rattle.services.proofs.segments.end_of.Statement.{statement}
-use Rattle.services.proofs.segments.end_of.Tie as tie
+use Rattle.parts.specs.Segments.{body-past, body-here, body-released, body-goes}
+use Rattle.parts.proofs.segments.end_of.Statement.{statement}
+use Rattle.parts.proofs.segments.end_of.Tie as tie
 
 abbrev Inv-loop : tie.InvT-loop
 Inv-loop s from i₀ released₀ i released = i + length (firstPiece terminator released (drop i s)) ≡ from + length (bodyAt s from)
