@@ -55,7 +55,7 @@ under-bit x p j h =
     ∙ ap (λ (y : ℕ). y / 2 ^ j) (sym (mul-assoc x (2 ^ suc (p - j - 1)) (2 ^ j))) ∙ shl-shr (x * 2 ^ suc (p - j - 1)) j)
     ∙ ap (λ (y : ℕ). eqb y 1) (shifted-even x (p - j - 1))
 
-down-bit : (x s j : ℕ) → hasBit (x / 2 ^ s) j ≡ hasBit x (s + j)
+pub down-bit : (x s j : ℕ) → hasBit (x / 2 ^ s) j ≡ hasBit x (s + j)
 unfolding hasBit
 down-bit x s j = ap (λ (y : ℕ). eqb (y % 2) 1) (shr-shr x s j)
 

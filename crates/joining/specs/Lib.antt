@@ -5,5 +5,6 @@ pub mod Told
 pub mod Union
 pub mod Bytes
 pub mod Eights
+pub mod Gathered
 pub mod Places
 pub mod Weekdays

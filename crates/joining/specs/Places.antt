@@ -37,12 +37,26 @@ plain-same r (b ∷ l) e =
     (λ q. let f = rw q at e in let h = plain-length (releases r b) l in absurd (omega arith))
     (λ q. let f = rw q at e in rw q (ap (λ (x : List ℕ). b ∷ x) (plain-same (releases r b) l (omega arith))))
 
+-- a day string has a character for each day, and each is `0` or `1`
+string-days : (n : ℕ) (t : List ℕ) → dayString n t ≡ true → (length t ≡ n) × (all zeroOrOne t ≡ true)
+unfolding dayString
+string-days n t e =
+    let p = both-parts (eqb (length t) n) (all zeroOrOne t) e in
+    (eqb-true (length t) n (p .0), p .1)
+
 -- a day string as it stands
-pub text-plain : (p c : List ℕ) (at n : ℕ) {last : List ℕ} → length (plain p) ≡ n → length p ≡ n → last ≡ marked (λ (k : ℕ). eqb (getD p k 0) 49) c at 0 (length p)
-    → last ≡ marked (λ (k : ℕ). eqb (getD (plain p) k 0) 49) c at 0 n
-text-plain p c at n e f l =
-    l ∙ ap (λ (x : List ℕ). marked (λ (k : ℕ). eqb (getD x k 0) 49) c at 0 (length p)) (sym (plain-same false p (e ∙ sym f)))
-    ∙ ap (marked (λ (k : ℕ). eqb (getD (plain p) k 0) 49) c at 0) f
+module _ (p : List ℕ) (n : ℕ) (e : dayString n (plain p) ≡ true) (f : length p ≡ n) where
+  stands-plain : plain p ≡ p
+  stands-plain = plain-same false p (string-days n (plain p) e .0 ∙ sym f)
+
+  pub days-plain : all zeroOrOne p ≡ true
+  days-plain = sym (ap (all zeroOrOne) stands-plain) ∙ string-days n (plain p) e .1
+
+  pub text-plain : (c : List ℕ) (at : ℕ) {last : List ℕ} → last ≡ marked (λ (k : ℕ). eqb (getD p k 0) 49) c at 0 (length p)
+      → last ≡ marked (λ (k : ℕ). eqb (getD (plain p) k 0) 49) c at 0 n
+  text-plain c at l =
+      l ∙ ap (λ (x : List ℕ). marked (λ (k : ℕ). eqb (getD x k 0) 49) c at 0 (length p)) (sym stands-plain)
+      ∙ ap (marked (λ (k : ℕ). eqb (getD (plain p) k 0) 49) c at 0) f
 
 -- a piece after the first that has bytes: the first ends before the text does, and the others are those of what follows it
 pub there : (l : List ℕ) (k : ℕ) → 1 ≤ length (getD (laterPieces 58 false l) k [])
@@ -99,7 +113,7 @@ pub record Spoken (g : List ℕ) (n : ℕ) : Type 0 where
   pub few : n ≤ 512
   pub qualified : 3 ≤ length (partOf g 1 1 1)
   pub dated : 21 ≤ length (partOf g 1 1 2)
-  pub told : length (dayText g) ≡ n
+  pub told : dayString n (dayText g) ≡ true
 
 whole-first : (c : ℕ) (l : List ℕ) → length l ≤ length (firstPiece c false l) → firstPiece c false l ≡ l
 whole-first c l h = first-take c false l ∙ take-all (length (firstPiece c false l)) l h
@@ -142,7 +156,7 @@ pub string-place : (g : List ℕ) (n : ℕ) → Spoken g n → length g ≡ 31 +
 string-place g n s h e =
     let a = s .qualified in
     let b = s .dated in
-    let c = s .told in
+    let c = string-days n (dayText g) (s .told) .0 in
     let d = plain-length false (partOf g 1 1 4) in
     let i : length (partOf g 1 1 1) ≡ length (nth (components (element (drop 4 g))) 1) = ap length (inside 1) in
     let j : length (partOf g 1 1 2) ≡ length (nth (components (element (drop 4 g))) 2) = ap length (inside 2) in
@@ -161,11 +175,10 @@ same-length [] (y ∷ b) e = absurd (false≢true e)
 same-length (x ∷ a) [] e = absurd (false≢true e)
 same-length (x ∷ a) (y ∷ b) e = ap suc (same-length a b (both-parts (eqb x y) (sameText a b) e .1))
 
-string-given : (n : ℕ) (d w : List ℕ) → formOf d w ≡ ByString → fitsDays n d ≡ true → length d ≡ n
-unfolding dayString
+string-given : (n : ℕ) (d w : List ℕ) → formOf d w ≡ ByString → fitsDays n d ≡ true → dayString n d ≡ true
 string-given n [] [] e p = let z : _≡_ {A = ℕ} 0 1 = cc in absurd (omega arith)
 string-given n [] (b ∷ w) e p = let z : _≡_ {A = ℕ} 0 1 = cc in absurd (omega arith)
-string-given n (b ∷ d) w e p = eqb-true (length (b ∷ d)) n (both-parts (eqb (length (b ∷ d)) n) (all zeroOrOne (b ∷ d)) p .0)
+string-given n (b ∷ d) w e p = p
 
 module _ (g : List ℕ) (f n : ℕ) {form : Form} (e : periodOf g ≡ Good f n form) where
   dates-length : length (firstLast g) ≡ 21

@@ -1,5 +1,7 @@
 //! The union of several periods over a window of days: each is joined into a lent calendar.
 
+use bytes::Eight;
+use bytes::eight_at;
 use calendar::has_bit;
 use calendar::set_day;
 use calendar::with_bit;
@@ -20,18 +22,22 @@ ghost use mathlib.Core.Bool.{true};
 ghost use Prim.Native.Nat.{ℕ, _+_, _*_, _%_, _≤_, _<_, min};
 ghost use lib.Dec.{eqb};
 ghost use lib.ListN.{length, getD, drop};
-ghost use Rattle.laws.specs.Choice.{pick};
+ghost use Rattle.laws.specs.Choice.{pick, all};
 ghost use Rattle.syntax.specs.Bytes.{plain};
 ghost use Rattle.syntax.specs.Pieces.{partOf};
 ghost use Rattle.syntax.specs.Segment.{bodyAt};
 ghost use Rattle.parts.specs.Places.{bytesOf};
 ghost use Rattle.dates.specs.Days.{weekdayOf};
 ghost use Rattle.calendar.specs.Days.{hasBit, withDay};
-ghost use Rattle.period.specs.Period.{weekText, runsBy, periodOf};
+ghost use Rattle.period.specs.Period.{weekText, zeroOrOne, dayString, runsBy, periodOf};
 ghost use Rattle.period.specs.declared.Period.the-variants.{Good};
 ghost use Rattle.joining.specs.Joined.{marked, weekBits, inWindow, windowAnswer, windowDays, answered, daysJoined, joinedAnswer, joinAnswer};
+ghost use Rattle.joining.specs.Gathered.{gatheredOf};
 ghost use Rattle.joining.specs.Places.{Tagged, Spoken};
 ghost use Rattle.joining.specs.Weekdays.{plainWeek, Dated, Marked};
+
+// The lowest bit of each of eight bytes.
+const LOWEST: usize = 0x0101_0101_0101_0101;
 
 /// What came of joining a period.
 pub enum Joined {
@@ -124,11 +130,24 @@ fn mark_weekdays(days: &mut [u8], at: usize, first: usize, n: usize, week: u8)
     mark_bits(days, at + k, eight, n - k);
 }
 
-// Characters of a day string as bits, the first the lowest: up to eight.
+// The lowest bits of eight bytes as those of one byte, the first the lowest: the last four bytes are laid between the first four, and a
+// product brings the bits side by side.
+fn eight_bits(word: usize) -> u8
+    ensures { λ r. ⌜ r ≡ gatheredOf word ⌝ }
+{
+    let bits = word & LOWEST;
+    let pairs = (bits + (bits >> 28)) & 0xffff_ffff;
+    ((pairs * 0x0020_4081 >> 21) & 255) as u8
+}
+
+// Characters of a day string as bits, the first the lowest: up to eight, at once where so many stand there.
 fn day_bits(text: &[u8], from: usize, m: usize) -> u8
-    requires { ⌜ (m ≤ 8) × (from + m ≤ length (now text)) ⌝ }
+    requires { ⌜ (m ≤ 8) × (from + m ≤ length (now text)) × (all zeroOrOne (now text) ≡ true) ⌝ }
     ensures { λ r. ⌜ ((j : ℕ) → j < m → hasBit r j ≡ eqb (getD (now (text .entry)) (from + j) 0) 49) ⌝ }
 {
+    if let Eight::Word(word) = eight_at(text, from) {
+        return eight_bits(word);
+    }
     let mut bits = 0u8;
     let mut left = m;
     while 0 < left {
@@ -140,7 +159,7 @@ fn day_bits(text: &[u8], from: usize, m: usize) -> u8
 
 // Selects the days whose character is `1`, where the text has one for each day: as the weekdays.
 fn mark_text(days: &mut [u8], at: usize, text: &[u8])
-    requires { ⌜ (1 ≤ length (now text)) × (at + length (now text) ≤ 8 * length (now days)) × (at + length (now text) ≤ 65536) ⌝ }
+    requires { ⌜ (1 ≤ length (now text)) × (at + length (now text) ≤ 8 * length (now days)) × (at + length (now text) ≤ 65536) × (all zeroOrOne (now text) ≡ true) ⌝ }
     ensures { λ _. ⌜ now (days .exit) ≡ marked (λ k. eqb (getD (now (text .entry)) k 0) 49) (now (days .entry)) at 0 (length (now (text .entry))) ⌝ }
 {
     let n = text.len();
@@ -148,15 +167,18 @@ fn mark_text(days: &mut [u8], at: usize, text: &[u8])
     let m = shorter(lead, n);
     mark_bits(days, at, day_bits(text, 0, m), m);
     let mut k = lead;
-    while k + 8 <= n {
+    loop {
+        let Eight::Word(word) = eight_at(text, k) else {
+            if n <= k {
+                return;
+            }
+            mark_bits(days, at + k, day_bits(text, k, n - k), n - k);
+            return;
+        };
         let i = (at + k) / 8;
-        days[i] = days[i] | day_bits(text, k, 8);
+        days[i] = days[i] | eight_bits(word);
         k += 8;
     }
-    if n <= k {
-        return;
-    }
-    mark_bits(days, at + k, day_bits(text, k, n - k), n - k);
 }
 
 // The same where some of the characters are released: one after the other.
@@ -182,7 +204,7 @@ fn mark_released(days: &mut [u8], at: usize, part: &[u8], n: usize)
 
 // Selects those of n days whose character is `1`, of a part that says so many: as long as they are, it has none that is released.
 fn mark_string(days: &mut [u8], at: usize, part: &[u8], n: usize)
-    requires { ⌜ (1 ≤ n) × (at + n ≤ 8 * length (now days)) × (at + n ≤ 65536) × (length (plain (now part)) ≡ n) ⌝ }
+    requires { ⌜ (1 ≤ n) × (at + n ≤ 8 * length (now days)) × (at + n ≤ 65536) × (dayString n (plain (now part)) ≡ true) ⌝ }
     ensures { λ _. ⌜ now (days .exit) ≡ marked (λ k. eqb (getD (plain (now (part .entry))) k 0) 49) (now (days .entry)) at 0 n ⌝ }
 {
     if part.len() == n {

@@ -8,6 +8,7 @@ use borrow.Author.Needs.{needs}
 use denote.Ref.{now}
 use lib.ListN.{length}
 use Rattle.syntax.specs.Bytes.{plain}
+use Rattle.period.specs.Period.{dayString}
 use Rattle.period.specs.Facts.{good-bounds, good-rising}
 use Rattle.joining.specs.Weeks.{marked-every, marked-week, marked-string}
 use Rattle.joining.specs.Places.{qualifier-bytes, dates-bytes, spoken}
@@ -39,7 +40,7 @@ mark-string-requires : tie.Need-mark-string-requires
 mark-string-requires c κs =
     let s = c .before .before .before .before .before .before in
     let b = bounded s in
-    (b .0, b .1, b .2, ap (λ (x : List ℕ). length (plain x)) (c .string-of .ensures) ∙ spoken (now (s .args .g)) (s .args .first) (s .args .n) (s .pre .2) (c .before .before .enum-told2 .given .1) .told)
+    (b .0, b .1, b .2, ap (λ (x : List ℕ). dayString (s .args .n) (plain x)) (c .string-of .ensures) ∙ spoken (now (s .args .g)) (s .args .first) (s .args .n) (s .pre .2) (c .before .before .enum-told2 .given .1) .told)
 
 enum-told-3 : tie.Need-enum-told-3
 enum-told-3 c = search needs

@@ -3,12 +3,15 @@
 use native.Mathlib.Omega.{arith}
 use borrow.Author.Needs.{needs}
 use denote.Ref.{now}
-use Rattle.joining.specs.Places.{text-plain}
+use Rattle.joining.specs.Places.{days-plain, text-plain}
 use Rattle.joining.proofs.mark_string.Statement.{statement}
 use Rattle.joining.proofs.mark_string.Tie as tie
 
 mark-text-requires : tie.Need-mark-text-requires
-mark-text-requires c κs = search needs
+mark-text-requires c κs =
+    let i = c .before in
+    let s = i .before .before .before in
+    (omega arith, omega arith, omega arith, days-plain (now (s .args .part)) (s .args .n) (s .pre .3) (i .if1 .taken))
 
 same-length : tie.Need-same-length
 same-length c = search needs
@@ -16,7 +19,7 @@ same-length c = search needs
 returns : tie.Need-returns
 returns c =
     let s = c .before .before .before .before .before .before .before in
-    text-plain (now (s .args .part)) (now (s .args .days)) (s .args .at) (s .args .n) (s .pre .3) (c .before .before .before .before .if1 .taken) (c .before .before .mark-text .ensures)
+    text-plain (now (s .args .part)) (s .args .n) (s .pre .3) (c .before .before .before .before .if1 .taken) (now (s .args .days)) (s .args .at) (c .before .before .mark-text .ensures)
 
 mark-released-requires : tie.Need-mark-released-requires
 mark-released-requires c κs = c .before .before .before .before .pre .2
