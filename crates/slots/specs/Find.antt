@@ -67,6 +67,17 @@ module _ (ord : ℕ → Order) where
       let e : suc f - 1 ≡ f = omega arith in
       rw (lt-ltb lo hi h, e, q)
 
+  -- where all come after, before the first
+  pub halve-after : (n : ℕ) → ((k : ℕ) → k < n → After ≡ ord k) → (f lo hi : ℕ) → hi ≤ n → Gap lo ≡ halve ord f lo hi
+  unfolding halve
+  halve-after n a zero lo hi h = refl
+  halve-after n a (suc f) lo hi h =
+      choose (ltb lo hi)
+      (λ p.
+      let t = ltb-true lo hi p in
+      rw (p, ← a (lo + (hi - lo) / 2) (omega arith)) (halve-after n a f lo (lo + (hi - lo) / 2) (omega arith)))
+      (λ p. rw p)
+
 -- ---- on any bytes what is found is in range
 
 -- a slot that is found is one of n, and a gap is before one of them or behind the last

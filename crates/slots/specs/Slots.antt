@@ -30,8 +30,11 @@ module _ (size : ℕ) where
       let e : size + k * size ≡ suc k * size = add-comm size (k * size) ∙ sym (suc-mul k size) in
       getD-cut n (drop size s) k (le-of-suc-le-suc h) ∙ ap (take size) (drop-drop (k * size) size s ∙ ap (λ (i : ℕ). drop i s) e)
 
+pub first-of : (n : ℕ) (s : List ℕ) (at : ℕ) → 0 < n → getD (take n (drop at s)) 0 0 ≡ getD s at 0
+first-of n s at h = rw (getD-take n (drop at s) 0 0 h, getD-drop, add-zero)
+
 pub first-byte : (s : List ℕ) (at : ℕ) → getD (take 140 (drop at s)) 0 0 ≡ getD s at 0
-first-byte s at = rw (getD-take 140 (drop at s) 0 0 (lit≤ tt), getD-drop, add-zero)
+first-byte s at = first-of 140 s at (lit≤ tt)
 
 -- the slots of a room
 unfoldable pub slotsOf : List ℕ → List (List ℕ)

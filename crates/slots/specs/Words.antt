@@ -3,15 +3,17 @@
 use mathlib.Core.Path.{_≡_, sym, _∙_, ap}
 use mathlib.Core.Bool.{Bool, true, false}
 use mathlib.Core.List.{List}
-use Prim.Native.Nat.{ℕ, zero, suc, _+_, _*_, _^_, _≤_, _<_}
+use Prim.Native.Nat.{ℕ, zero, suc, _+_, _*_, _≤_, _<_}
 use native.Mathlib.Omega.{arith}
 use native.Mathlib.Decide.{decLt}
 use lib.Dec.{ltb, eqb, lit≤}
-use borrow.Author.Tests.{lt-ltb, le-ltb, eq-eqb, ne-eqb, eqb-true, eqb-false}
+use borrow.Author.Tests.{lt-ltb, le-ltb, eq-eqb, ne-eqb}
 use lib.ListN.{length, getD, take, drop, length-take, List·getD-eq-default}
 use lib.Seq.{getD-take}
 use Rattle.laws.specs.Choice.{pick, choose}
-use Rattle.slots.specs.Order.{orderOf, ended, below, above, level}
+use Rattle.slots.specs.declared.Order.{Order}
+use Rattle.slots.specs.declared.Order.the-variants.{Same, After}
+use Rattle.slots.specs.Order.{orderOf, orderBy, by-less, by-more, by-same, by-moved, ended, shorter, longer, below, above, level}
 use Rattle.slots.specs.Rising.{isBefore}
 
 -- a list of bytes
@@ -75,6 +77,19 @@ module _ (h l k m : ℕ) where
   unfolding risesTo
   rises-level q = rw (eq-eqb h k q)
 
+first-rises : (a b : ℕ) → isBefore (orderBy Same a b) ≡ ltb a b
+first-rises a b = choose (ltb a b) (λ p. rw p) (λ p. rw p (choose (ltb b a) (λ q. rw q) (λ q. rw q)))
+
+two-rise : (h l k m : ℕ) → risesTo h l k m ≡ isBefore (orderBy (orderBy Same l m) h k)
+two-rise h l k m =
+    elim (decLt h k) [
+      | yes q ↦ sym (rises-below h l k m q) ∙ ap isBefore (by-less (orderBy Same l m) h k q)
+      | no q ↦ elim (decLt k h) [
+        | yes r ↦ sym (rises-above h l k m r) ∙ ap isBefore (by-more (orderBy Same l m) h k r)
+        | no r ↦ sym (rises-level h l k m (omega arith)) ∙ sym (first-rises l m) ∙ ap isBefore (by-same (orderBy Same l m) h k (omega arith) (omega arith))
+      ]
+    ]
+
 -- ---- the order of the numbers is that of the bytes
 
 -- n bytes from an index on, behind the number p
@@ -88,20 +103,24 @@ module _ (x y : List ℕ) (f : Bytes x) where
   lower zero p q i h = h
   lower (suc n) p q i h = let b = f i in lower n (p * 256 + getD x i 0) (q * 256 + getD y i 0) (i + 1) (omega arith)
 
-module _ (h l k m : ℕ) where
-  by-first : l < 65536 → m < 65536 → (h ≡ k → ⊥) → ltb (h * 65536 + l) (k * 65536 + m) ≡ ltb h k
-  by-first a b d =
-      elim (decLt h k) [
-        | yes q ↦ lt-ltb (h * 65536 + l) (k * 65536 + m) (omega arith) ∙ sym (lt-ltb h k q)
-        | no q ↦ le-ltb (h * 65536 + l) (k * 65536 + m) (omega arith) ∙ sym (le-ltb h k (omega arith))
-      ]
+  -- past its end a list has only zeros
+  ends : (n p q i : ℕ) → length y ≤ i → q ≤ p → behind n q y i ≤ behind n p x i
+  unfolding behind
+  ends zero p q i k h = h
+  ends (suc n) p q i k h =
+      let z = List·getD-eq-default y 0 k in
+      ends n (p * 256 + getD x i 0) (q * 256 + getD y i 0) (i + 1) (omega arith) (omega arith)
 
-  by-second : h ≡ k → ltb (h * 65536 + l) (k * 65536 + m) ≡ ltb l m
-  by-second e =
-      elim (decLt l m) [
-        | yes q ↦ lt-ltb (h * 65536 + l) (k * 65536 + m) (omega arith) ∙ sym (lt-ltb l m q)
-        | no q ↦ le-ltb (h * 65536 + l) (k * 65536 + m) (omega arith) ∙ sym (le-ltb l m (omega arith))
+-- two words in one
+two-words : (t : Order) (h l k m : ℕ) → l < 65536 → m < 65536 → orderBy t (h * 65536 + l) (k * 65536 + m) ≡ orderBy (orderBy t l m) h k
+two-words t h l k m a b =
+    elim (decLt h k) [
+      | yes q ↦ sym (by-less t (h * 65536 + l) (k * 65536 + m) (omega arith)) ∙ by-less (orderBy t l m) h k q
+      | no q ↦ elim (decLt k h) [
+        | yes r ↦ sym (by-more t (h * 65536 + l) (k * 65536 + m) (omega arith)) ∙ by-more (orderBy t l m) h k r
+        | no r ↦ by-moved t l m (h * 65536 + l) (k * 65536 + m) (h * 65536) (omega arith) (omega arith) ∙ by-same (orderBy t l m) h k (omega arith) (omega arith)
       ]
+    ]
 
 ten-bytes : (z : List ℕ) → behind 10 0 z 0 ≡ highOf z * 65536 + lowOf z
 unfolding behind highOf lowOf four
@@ -111,37 +130,52 @@ low-below : (z : List ℕ) → Bytes z → lowOf z < 65536
 unfolding lowOf
 low-below z h = let a = h 8 in let b = h 9 in omega arith
 
+past-end : (t : Order) (a b : ℕ) → After ≡ t → b ≤ a → After ≡ orderBy t a b
+past-end t a b e h =
+    elim (decLt b a) [
+      | yes q ↦ by-more t a b q
+      | no q ↦ e ∙ by-same t a b h (omega arith)
+    ]
+
+-- where both are the same, the shorter comes first
 module _ (x y : List ℕ) (f : Bytes x) (g : Bytes y) where
-  order-behind : (n p i : ℕ) → length x ≡ i + n → length y ≡ i + n → isBefore (orderOf (drop i x) (drop i y)) ≡ ltb (behind n p x i) (behind n p y i)
+  abbrev lengths : Order
+  lengths = orderBy Same (length x) (length y)
+
+  order-behind : (n p i : ℕ) → length x ≡ i + n → i ≤ length y → orderOf (drop i x) (drop i y) ≡ orderBy lengths (behind n p x i) (behind n p y i)
   unfolding behind
-  order-behind zero p i h k = sym (ap isBefore (ended x y i (omega arith) (omega arith))) ∙ sym (le-ltb p p (omega arith))
+  order-behind zero p i h k =
+      elim (decLt i (length y)) [
+        | yes q ↦ sym (shorter x y i (omega arith) q) ∙ by-less Same (length x) (length y) (omega arith)
+        | no q ↦ sym (ended x y i (omega arith) (omega arith)) ∙ by-same Same (length x) (length y) (omega arith) (omega arith)
+      ]
+      ∙ by-same lengths p p (omega arith) (omega arith)
   order-behind (suc n) p i h k =
-      elim (decLt (getD x i 0) (getD y i 0)) [
-        | yes q ↦ sym (ap isBefore (below x y i (omega arith) (omega arith) q)) ∙ sym (lt-ltb _ _ (lower x y f n (p * 256 + getD x i 0) (p * 256 + getD y i 0) (i + 1) (omega arith)))
-        | no q ↦ elim (decLt (getD y i 0) (getD x i 0)) [
-          | yes r ↦
-              let a = behind n (p * 256 + getD x i 0) x (i + 1) in
-              let b = behind n (p * 256 + getD y i 0) y (i + 1) in
-              let e : b < a = lower y x g n (p * 256 + getD y i 0) (p * 256 + getD x i 0) (i + 1) (omega arith) in
-              sym (ap isBefore (above x y i (omega arith) (omega arith) r)) ∙ sym (le-ltb a b (omega arith))
-          | no r ↦
-              let e : getD x i 0 ≡ getD y i 0 = omega arith in
-              sym (ap isBefore (level x y i (omega arith) (omega arith) (omega arith) (omega arith)))
-              ∙ order-behind n (p * 256 + getD x i 0) (i + 1) (omega arith) (omega arith)
-              ∙ ap (λ (b : ℕ). ltb (behind n (p * 256 + getD x i 0) x (i + 1)) (behind n (p * 256 + b) y (i + 1))) e
+      elim (decLt i (length y)) [
+        | no u ↦
+            let e = ends x y f (suc n) p p i (omega arith) (omega arith) in
+            sym (longer x y i (omega arith) (omega arith)) ∙ past-end lengths (behind (suc n) p x i) (behind (suc n) p y i) (by-more Same (length x) (length y) (omega arith)) e
+        | yes u ↦ elim (decLt (getD x i 0) (getD y i 0)) [
+          | yes q ↦ sym (below x y i (omega arith) u q) ∙ by-less lengths _ _ (lower x y f n (p * 256 + getD x i 0) (p * 256 + getD y i 0) (i + 1) (omega arith))
+          | no q ↦ elim (decLt (getD y i 0) (getD x i 0)) [
+            | yes r ↦ sym (above x y i (omega arith) u r) ∙ by-more lengths _ _ (lower y x g n (p * 256 + getD y i 0) (p * 256 + getD x i 0) (i + 1) (omega arith))
+            | no r ↦
+                let e : getD x i 0 ≡ getD y i 0 = omega arith in
+                sym (level x y i (omega arith) u (omega arith) (omega arith))
+                ∙ order-behind n (p * 256 + getD x i 0) (i + 1) (omega arith) (omega arith)
+                ∙ ap (λ (b : ℕ). orderBy lengths (behind n (p * 256 + getD x i 0) x (i + 1)) (behind n (p * 256 + b) y (i + 1))) e
+          ]
         ]
       ]
 
-  module _ (h : length x ≡ 10) (k : length y ≡ 10) where
-    ten-order : isBefore (orderOf x y) ≡ ltb (highOf x * 65536 + lowOf x) (highOf y * 65536 + lowOf y)
-    ten-order =
-        order-behind 10 0 0 h k
-        ∙ ap (λ (n : ℕ). ltb n (behind 10 0 y 0)) (ten-bytes x)
-        ∙ ap (ltb (highOf x * 65536 + lowOf x)) (ten-bytes y)
+  module _ (h : length x ≡ 10) where
+    pub words-order : orderOf x y ≡ orderBy (orderBy (orderBy Same 10 (length y)) (lowOf x) (lowOf y)) (highOf x) (highOf y)
+    words-order =
+        order-behind 10 0 0 h (omega arith)
+        ∙ rw (ten-bytes x, ten-bytes y, h) (two-words (orderBy Same 10 (length y)) (highOf x) (lowOf x) (highOf y) (lowOf y) (low-below x f) (low-below y g))
 
-    pub words-rise : risesTo (highOf x) (lowOf x) (highOf y) (lowOf y) ≡ isBefore (orderOf x y)
-    unfolding risesTo
-    words-rise =
-        choose (eqb (highOf x) (highOf y))
-        (λ p. rw p (sym (ten-order ∙ by-second (highOf x) (lowOf x) (highOf y) (lowOf y) (eqb-true (highOf x) (highOf y) p))))
-        (λ p. rw p (sym (ten-order ∙ by-first (highOf x) (lowOf x) (highOf y) (lowOf y) (low-below x f) (low-below y g) (eqb-false (highOf x) (highOf y) p))))
+    module _ (k : length y ≡ 10) where
+      pub words-rise : risesTo (highOf x) (lowOf x) (highOf y) (lowOf y) ≡ isBefore (orderOf x y)
+      words-rise =
+          two-rise (highOf x) (lowOf x) (highOf y) (lowOf y)
+          ∙ sym (ap isBefore (words-order ∙ ap (λ (n : ℕ). orderBy (orderBy (orderBy Same 10 n) (lowOf x) (lowOf y)) (highOf x) (highOf y)) k))

@@ -3,17 +3,23 @@
 
 pub mod words;
 
+use bytes::byte_at;
+use std::num::wrapping_sub_usize;
 ghost use mathlib.Core.Path.{_≡_};
 ghost use Prim.Native.Nat.{_+_, _≤_};
 ghost use lib.ListN.{length, take, drop};
-ghost use Rattle.slots.specs.Order.{orderOf};
+ghost use Rattle.slots.specs.Order.{orderOf, orderBy};
 ghost use Rattle.slots.specs.Find.{numberOrder, findOf};
 ghost use Rattle.slots.specs.Rising.{rises, rising, leading};
 ghost use Rattle.slots.specs.Slots.{slotsOf};
+ghost use Rattle.slots.specs.Steps.{WordsOf};
 
 const SLOT: usize = 140;
 
 const NUMBER: usize = 10;
+
+// The least of eight bytes, the first the highest, whose first byte is not 0.
+const LEAST: usize = 0x0100_0000_0000_0000;
 
 /// How one text stands to another.
 pub enum Order {
@@ -53,27 +59,47 @@ pub fn compare(a: &[u8], b: &[u8]) -> Order
     Order::Same
 }
 
-// How the slot at an index stands to a number; a slot that is not used comes after every number.
-fn number_order(room: &[u8], at: usize, number: &[u8]) -> Order
-    requires { ⌜ at + 140 ≤ length (now room) ⌝ }
-    ensures { λ r. ⌜ r ≡ numberOrder (now (number .entry)) (take 140 (drop at (now (room .entry)))) ⌝ }
+// Two numbers; where they are the same, what else decides.
+fn ordered(a: usize, b: usize, same: Order) -> Order
+    ensures { λ r. ⌜ r ≡ orderBy same a b ⌝ }
 {
-    if room[at] == 0 {
+    if a < b {
+        return Order::Before;
+    }
+    if b < a {
         return Order::After;
     }
-    let end = at + NUMBER;
-    compare(&room[at..end], number)
+    same
 }
 
-/// The slot that has a number, or the one before which it would go, by halving.
-pub fn find(room: &[u8], number: &[u8]) -> Found
+// How the slot at an index stands to a number; a slot that is not used comes after every number. How far its first word is below that of
+// the number, round past 0, tells it in one test: not farther than the least number is, it comes before.
+fn number_order(room: &[u8], at: usize, number: &[u8], high: usize, low: usize) -> Order
+    requires { ⌜ (at + 140 ≤ length (now room)) × WordsOf (now number) high low ⌝ }
+    ensures { λ r. ⌜ r ≡ numberOrder (now (number .entry)) (take 140 (drop at (now (room .entry)))) ⌝ }
+{
+    let end = at + NUMBER;
+    let behind = wrapping_sub_usize(high, words::high(&room[at..end]));
+    if behind == 0 {
+        let lengths = ordered(NUMBER, number.len(), Order::Same);
+        return ordered(words::low(&room[at..end]), low, lengths);
+    }
+    if behind <= high - LEAST {
+        return Order::Before;
+    }
+    Order::After
+}
+
+// The slot that has a number, or the one before which it would go: of one that does not begin with 0, by its words.
+fn find_words(room: &[u8], number: &[u8], high: usize, low: usize) -> Found
+    requires { ⌜ WordsOf (now number) high low ⌝ }
     ensures { λ r. ⌜ r ≡ findOf (now (room .entry)) (now (number .entry)) ⌝ }
 {
     let mut lo = 0;
     let mut hi = room.len() / SLOT;
     while lo < hi {
         let mid = lo + (hi - lo) / 2;
-        match number_order(room, mid * SLOT, number) {
+        match number_order(room, mid * SLOT, number, high, low) {
             Order::Before => {
                 lo = mid + 1;
             }
@@ -86,6 +112,20 @@ pub fn find(room: &[u8], number: &[u8]) -> Found
         }
     }
     Found::Gap(lo)
+}
+
+/// The slot that has a number, or the one before which it would go, by halving.
+pub fn find(room: &[u8], number: &[u8]) -> Found
+    ensures { λ r. ⌜ r ≡ findOf (now (room .entry)) (now (number .entry)) ⌝ }
+{
+    if byte_at(number, 0) == 0 {
+        return Found::Gap(0);
+    }
+    // Where the length is known, the bytes are read with no test of each.
+    if number.len() == NUMBER {
+        return find_words(room, number, words::high(number), words::low(number));
+    }
+    find_words(room, number, words::high(number), words::low(number))
 }
 
 /// How many slots, from the first on, are used.
