@@ -605,11 +605,15 @@ static void measure(call *us, call *them, const uint8_t *from, unsigned rounds, 
     *b = sorted(y, rounds).least;
 }
 
+static void show_times(const char *name, double a, double b) {
+    printf("%-30s ours %8.0f ns, yardstick %8.0f ns, ratio %.2f\n", name, a, b, b / a);
+    fflush(0);
+}
+
 static void time_call(const char *name, call *us, call *them, unsigned rounds) {
     double a, b;
     measure(us, them, full, rounds, &a, &b);
-    printf("%-30s ours %8.0f ns, yardstick %8.0f ns, ratio %.2f\n", name, a, b, b / a);
-    fflush(0);
+    show_times(name, a, b);
 }
 
 // The services 1000 to 1255, each on every second day or so of the window.
@@ -640,6 +644,8 @@ static void time_all(unsigned rounds) {
     put_realistic(&sample, 1, LONGEST);
     measure(our_read, their_read, empty, rounds, &read_a, &read_b);
     measure(our_stage, their_stage, empty, rounds, &stage_a, &stage_b);
+    show_times("reading SKDUPD", read_a, read_b);
+    show_times("staging SKDUPD", stage_a, stage_b);
     printf("SKDUPD of %lu bytes, staged over read: ours %.2f, yardstick %.2f\n", (unsigned long)sample.n, stage_a / read_a, stage_b / read_b);
     printf("on a full register; ratio: the yardstick's time over ours, so that 1.0 or more means at least as fast\n");
     fill_register();
