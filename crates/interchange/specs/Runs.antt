@@ -13,7 +13,6 @@ use Rattle.laws.specs.Sweep.{below, at}
 use Rattle.syntax.specs.declared.segment.Scanned.the-variants.{End}
 use Rattle.syntax.specs.Segment.{tagNumber, bodyAt, segmentAt}
 use Rattle.syntax.specs.Ends.{end-tag, end-within}
-use Rattle.parts.specs.Places.{bytesOf}
 use Rattle.placing.specs.declared.Place.{Place}
 use Rattle.placing.specs.declared.Stepped.the-variants.{Placed}
 use Rattle.messages.specs.declared.MessageType.{MessageType}
@@ -46,12 +45,11 @@ use Rattle.steps.specs.declared.state.Row.{Row}
 use Rattle.answers.specs.Answers.{done}
 use Rattle.interchange.specs.declared.turn.Turn.the-variants.{On}
 use Rattle.steps.specs.State.{oneMore, onwardState, movedState}
-use Rattle.steps.specs.Step.{taken, rowOf, judged, placed, insideMessage, stepBy, segmentStep}
+use Rattle.steps.specs.Step.{taken, rowOf, judged, placed, stepBy, segmentStep}
 use Rattle.interchange.specs.Reader.{isClosed, dialogueOf, headedReference, turnStep, turnAt}
 use Rattle.interchange.specs.Heads.{capitalTag}
 use Rattle.interchange.specs.Laws.{putRow}
 use Rattle.steps.specs.Ways.{inside-placed}
-use Rattle.syntax.specs.Ends.{body-slice}
 use Rattle.interchange.specs.Turns.{turn-is}
 use Rattle.interchange.specs.Moves.{Moved, moved-none, moved-turn, moved-both, moved-as}
 

@@ -1,22 +1,17 @@
 -- One turn of the reading.
 -- Assumes nothing.
-use mathlib.Core.Path.{_≡_, refl, sym, ap, _∙_}
+use mathlib.Core.Path.{_≡_, sym, ap, _∙_}
 use mathlib.Core.List.{List, []}
-use mathlib.Core.Bool.{false}
-use Prim.Native.Nat.{ℕ, _+_, _-_, _≤_, _<_}
+use Prim.Native.Nat.{ℕ, _-_, _<_}
 use native.Mathlib.Omega.{arith}
 use lib.ListN.{length, drop}
-use Rattle.laws.specs.Lists.{between, between-past, drop-past}
+use Rattle.laws.specs.Lists.{between-past, drop-past}
 use Rattle.syntax.specs.declared.segment.Scanned.{Scanned}
-use Rattle.syntax.specs.declared.segment.Scanned.the-variants.{End, NotPermitted, Unended, Malformed}
-use Rattle.syntax.specs.Segment.{bodyAt, segmentAt, refusalOf}
-use Rattle.syntax.specs.Ends.{end-within}
+use Rattle.syntax.specs.Segment.{segmentAt}
 use Rattle.parts.specs.declared.Part.{Part}
 use Rattle.parts.specs.Places.{bytesOf}
 use Rattle.placing.specs.Table.{Table}
 use Rattle.steps.specs.declared.state.State.{State}
-use Rattle.interchange.specs.declared.turn.Turn.{Turn}
-use Rattle.interchange.specs.declared.turn.Turn.the-variants.{On, Stop}
 use Rattle.steps.specs.Step.{segmentStep}
 use Rattle.interchange.specs.Reader.{turnScan, turnAt}
 

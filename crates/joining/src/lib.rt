@@ -2,7 +2,6 @@
 
 use bytes::Eight;
 use bytes::eight_at;
-use calendar::has_bit;
 use calendar::set_day;
 use calendar::with_bit;
 use parts::Part;
@@ -31,7 +30,7 @@ ghost use Rattle.dates.specs.Days.{weekdayOf};
 ghost use Rattle.calendar.specs.Days.{hasBit, withDay};
 ghost use Rattle.period.specs.Period.{weekText, zeroOrOne, dayString, runsBy, periodOf};
 ghost use Rattle.period.specs.declared.Period.the-variants.{Good};
-ghost use Rattle.joining.specs.Joined.{marked, weekBits, inWindow, windowAnswer, windowDays, answered, daysJoined, joinedAnswer, joinAnswer};
+ghost use Rattle.joining.specs.Joined.{marked, weekBits, windowAnswer, windowDays, answered, daysJoined, joinedAnswer, joinAnswer};
 ghost use Rattle.joining.specs.Gathered.{gatheredOf};
 ghost use Rattle.joining.specs.Places.{Tagged, Spoken};
 ghost use Rattle.joining.specs.Weekdays.{plainWeek, Dated, Marked};

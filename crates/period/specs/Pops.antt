@@ -2,7 +2,7 @@
 -- what it says tells where it ends.
 -- Assumes nothing.
 use mathlib.Core.Path.{_≡_, refl, sym, ap, subst, _∙_}
-use mathlib.Core.Bool.{Bool, true, false}
+use mathlib.Core.Bool.{true, false}
 use mathlib.Core.List.{List, [], _∷_, _++_, append-assoc}
 use Prim.Native.Nat.{ℕ, suc, _+_, _-_, _≤_, _<_}
 use native.Mathlib.Omega.{arith}
@@ -18,7 +18,7 @@ use Rattle.syntax.specs.Segment.{bodyAt, segmentAt}
 use Rattle.syntax.specs.Tags.{tagAhead}
 use Rattle.syntax.specs.declared.segment.Scanned.{Scanned}
 use Rattle.syntax.specs.declared.segment.Scanned.the-variants.{End, NotPermitted, Unended, Malformed}
-use Rattle.free_texts.specs.Free.{all-weaker, numeric, no-quote, quiet, first-front}
+use Rattle.free_texts.specs.Free.{all-weaker, numeric, no-quote, first-front}
 use Rattle.free_texts.specs.Parts.{oneElement, twoElements, withString, withoutString, dates-quiet, passed-cut}
 use Rattle.free_texts.specs.Whole.{Parts, string-parts, week-parts, alone-parts}
 use Rattle.period.specs.declared.Form.{Form}

@@ -2,17 +2,16 @@
 -- Assumes nothing.
 use mathlib.Core.Path.{_≡_, refl, sym, ap, subst, _∙_}
 use mathlib.Core.Bool.{true}
-use mathlib.Core.List.{List, [], _∷_, _++_, append-nil}
+use mathlib.Core.List.{List, [], _∷_, _++_}
 use Prim.Native.Nat.{ℕ, zero, suc, _+_, _-_, _*_, _≤_}
 use native.Mathlib.Omega.{arith}
-use lib.Dec.{eqb, leb, ltb}
-use lib.ListN.{length, getD, drop, length-drop}
-use borrow.Author.Tests.{eq-eqb, le-leb, leb-true, ltb-true, eqb-true}
+use lib.Dec.{eqb, leb}
+use lib.ListN.{length, getD, drop}
+use borrow.Author.Tests.{le-leb, leb-true, eqb-true}
 use Rattle.laws.specs.Choice.{both, all, both-parts, choose}
-use Rattle.laws.specs.Lists.{drop-here, drop-past}
+use Rattle.laws.specs.Lists.{drop-here}
 use Rattle.laws.specs.Text.{bytes}
 use Rattle.syntax.specs.Bytes.{plain, plainOn}
-use Rattle.parts.specs.Places.{present}
 use Rattle.values.specs.Values.{sameText}
 use Rattle.dates.specs.Text.{isDigit, twoDigits, digitsAt, dateAt}
 use Rattle.dates.specs.declared.Date.{Date}
@@ -20,15 +19,12 @@ use Rattle.dates.specs.declared.Made.the-variants.{Valid, NoDate}
 use Rattle.calendar.specs.Written.{daysSpan}
 use Rattle.calendar.specs.declared.Span.{Span}
 use Rattle.calendar.specs.declared.Span.the-variants.{Days, Bad}
-use Rattle.free_texts.specs.Free.{all-append, all-weaker, numeric, plain-all, no-release}
-use Rattle.free_texts.specs.Parts.{Cut, oneElement, twoElements, withString, withoutString, string-cut, week-cut, passed-cut, alone-cut}
+use Rattle.free_texts.specs.Free.{all-append, numeric, plain-all, no-release}
+use Rattle.free_texts.specs.Parts.{Cut, oneElement, withoutString}
 use Rattle.period.specs.declared.Form.{Form}
-use Rattle.period.specs.declared.Form.the-variants.{Every, ByString, ByWeekdays}
-use Rattle.period.specs.declared.Period.{Period}
-use Rattle.period.specs.declared.Period.the-variants.{Good, Wrong}
+use Rattle.period.specs.declared.Period.the-variants.{Good}
 use Rattle.period.specs.declared.forms.Formed.the-variants.{Told}
-use Rattle.period.specs.Period.{firstLast, dayText, weekText, spanIn, zeroOrOne, dayString, risingDays, formedOf, restGood, periodOf}
-use Rattle.period.specs.Facts.{span-told}
+use Rattle.period.specs.Period.{firstLast, dayText, weekText, spanIn, formedOf, restGood, periodOf}
 use Rattle.period.specs.Tests.{two-dates, good-period}
 
 -- a POP cut into these parts is a good period where they are good

@@ -11,7 +11,7 @@ use dates::Number;
 use syntax::segment::Quick;
 use syntax::segment::quick_end;
 ghost use mathlib.Core.Path.{_≡_};
-ghost use Prim.Native.Nat.{_+_, _≤_, _<_};
+ghost use Prim.Native.Nat.{_+_, _<_};
 ghost use lib.ListN.{length, getD, drop};
 ghost use Rattle.period.specs.Written.{Begins, spanTold, Word};
 ghost use Rattle.period.specs.Pops.{risingRun, WeekIn, StringIn, popTold};

@@ -9,7 +9,6 @@ use native.Mathlib.Decide.{ℕ-discrete}
 use lib.ListN.{length}
 use borrow.Author.Tests.{eq-eqb, ne-eqb, le-leb, lt-ltb}
 use Rattle.laws.specs.Choice.{pick, all, among, choose, false≢true}
-use Rattle.laws.specs.Text.{bytes}
 use Rattle.syntax.specs.Segment.{bodyAt, segmentAt}
 use Rattle.parts.specs.Places.{present}
 use Rattle.dates.specs.Days.{weekdayOf}

@@ -5,15 +5,12 @@ use mathlib.Core.Path.{_≡_, refl, sym, ap, subst, _∙_}
 use mathlib.Core.Bool.{true, false, not}
 use mathlib.Core.List.{List, [], _∷_, map, append-nil}
 use native.Mathlib.Omega.{arith}
-use lib.Dec.{eqb, ltb}
+use lib.Dec.{eqb}
 use borrow.Author.Tests.{eq-eqb, ne-eqb}
 use lib.ListN.{length, getD, set, replicate}
 use lib.Seq.{take-all}
-use Rattle.laws.specs.Choice.{pick}
 use Rattle.syntax.specs.Bytes.{plain}
 use Rattle.syntax.specs.Segment.{bodyAt}
-use Rattle.parts.specs.declared.Part.{Part}
-use Rattle.parts.specs.Places.{bytesOf}
 use Rattle.laws.specs.Put.{putAt, put-room}
 use Rattle.joining.specs.Joined.{daysJoined, joinAll}
 use Rattle.slots.specs.declared.Found.{Found}

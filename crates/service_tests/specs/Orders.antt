@@ -1,18 +1,16 @@
 -- The orders of services that are kept while they are tested, and that they put what the services put.
 -- Assumes nothing.
-use Prim.Native.Nat.{ℕ, zero, suc, _+_, _-_, _*_, _≤_, _<_}
-use mathlib.Core.Path.{_≡_, refl, sym, ap, subst, _∙_}
-use mathlib.Core.Bool.{Bool, true, false, not}
+use Prim.Native.Nat.{ℕ, suc, _+_, _-_, _*_, _≤_, _<_}
+use mathlib.Core.Path.{_≡_, refl, sym, ap, _∙_}
+use mathlib.Core.Bool.{Bool, true, false}
 use mathlib.Core.List.{List, [], _∷_, map}
-use mathlib.Core.Option.{Option, none, some}
+use mathlib.Core.Option.{none, some}
 use native.Mathlib.Omega.{arith}
 use lib.ListN.{length}
-use Rattle.laws.specs.Choice.{pick, choose}
+use Rattle.laws.specs.Choice.{choose}
 use Rattle.answers.specs.Answers.{Answer, done, refused}
 use Rattle.answers.specs.Laws.{refused≢done, done-is}
 use Rattle.syntax.specs.Segment.{bodyAt}
-use Rattle.parts.specs.declared.Part.{Part}
-use Rattle.parts.specs.Places.{bytesOf}
 use Rattle.period.specs.Period.{periodOf}
 use Rattle.period.specs.declared.Period.{Period}
 use Rattle.period.specs.declared.Period.the-variants.{Good, Wrong}
@@ -23,9 +21,9 @@ use Rattle.services.specs.declared.Service.{Service}
 use Rattle.service_entries.specs.declared.Known.{Known}
 use Rattle.service_entries.specs.Room.{putBytes, putsIn}
 use Rattle.service_entries.specs.Orders.{orderOf, ordered, orderAt, putOrder, putOrders, order-same, order-other, order-size, order-enters, ordered-length}
-use Rattle.stages.specs.Stage.{numberIn, outsideBy}
+use Rattle.stages.specs.Stage.{outsideBy}
 use Rattle.service_tests.specs.declared.Totals.{Totals}
-use Rattle.service_tests.specs.Tests.{counted, testOne, thenTest, testAll}
+use Rattle.service_tests.specs.Tests.{testOne, thenTest, testAll}
 use Rattle.service_tests.specs.Passed.{passed}
 
 -- the orders of the services up to the first that is refused

@@ -10,7 +10,7 @@ use lib.Dec.{ltb}
 use lib.ListN.{length}
 use borrow.Author.Tests.{lt-leb, le-leb, ltb-true, ltb-false}
 use Rattle.laws.specs.Choice.{both, both-true, either, either-true, choose}
-use Rattle.answers.specs.Answers.{Answer, done, refused}
+use Rattle.answers.specs.Answers.{done, refused}
 use Rattle.answers.specs.Laws.{refused≢done}
 use Rattle.syntax.specs.Segment.{bodyAt}
 use Rattle.parts.specs.declared.Part.{Part}

@@ -33,7 +33,7 @@ ghost use Rattle.syntax.specs.Segment.{bodyAt};
 ghost use Rattle.period.specs.Period.{periodOf};
 ghost use Rattle.joining.specs.Joined.{inWindow, daysJoined, joinAll};
 ghost use lib.ListN.{length, set};
-ghost use Rattle.answers.specs.Answers.{done, refused};
+ghost use Rattle.answers.specs.Answers.{refused};
 ghost use Rattle.services.specs.Services as services;
 ghost use Rattle.services.specs.Services.{numberFits, periodsFit, periodsFrom, hasPeriod, servicesOf};
 ghost use Rattle.stages.specs.Stage.{numberIn, outsideBy, firstOutside, daysOf};

@@ -14,7 +14,6 @@ use Rattle.answers.specs.Laws.{refused≢done, one-case}
 use Rattle.syntax.specs.Bytes.{plain}
 use Rattle.syntax.specs.Pieces.{partOf}
 use Rattle.syntax.specs.Segment.{bodyAt}
-use Rattle.parts.specs.declared.Part.{Part}
 use Rattle.parts.specs.Places.{bytesOf, segmentOf}
 use Rattle.parts.specs.Located.{part-bytes}
 use Rattle.services.specs.declared.Service.{Service}

@@ -1,20 +1,19 @@
 -- The number of a PRD that is written as most are: behind `PRD+`, with no release in it, it ends at the first mark.
 -- Assumes nothing.
-use Prim.Native.Nat.{ℕ, suc, _+_, _-_, _≤_, _<_}
+use Prim.Native.Nat.{ℕ, _+_, _-_, _≤_, _<_}
 use mathlib.Core.Path.{_≡_, refl, sym, ap, _∙_}
 use mathlib.Core.Bool.{true, false}
 use mathlib.Core.List.{List, [], _∷_}
-use mathlib.Core.Logic.{_⊎_, inl, inr, ⊎-elim}
+use mathlib.Core.Logic.{_⊎_, inl, inr}
 use native.Mathlib.Omega.{arith}
 use borrow.Author.Tests.{ne-eqb, le-leb, lt-leb}
 use lib.Dec.{eqb, leb}
 use lib.ListN.{length, getD, drop}
-use Rattle.laws.specs.Choice.{pick, either, choose, false≢true}
-use Rattle.laws.specs.Lists.{between, drop-here}
+use Rattle.laws.specs.Choice.{choose}
+use Rattle.laws.specs.Lists.{drop-here}
 use Rattle.syntax.specs.Bytes.{releaseMark, plainOn, plain}
 use Rattle.syntax.specs.Few.{plain-length}
-use Rattle.syntax.specs.Pieces.{firstPiece, laterPieces, pieces, elements, nth}
-use Rattle.syntax.specs.Segment.{bodyAt}
+use Rattle.syntax.specs.Pieces.{firstPiece, laterPieces, elements, nth}
 use Rattle.parts.specs.declared.Part.{Part}
 use Rattle.parts.specs.Places.{bytesOf, spanOf, countedAt, elementAt, segmentOf}
 use Rattle.parts.specs.Located.{span-bytes, element-bytes}

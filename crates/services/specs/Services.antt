@@ -2,7 +2,6 @@
 -- s is the interchange, rows the buffer with the rows of its reading.
 -- Assumes nothing.
 use Prim.Native.Nat.{ℕ, _+_}
-use Prim.Native.String.{String}
 use mathlib.Core.Bool.{Bool, not}
 use mathlib.Core.List.{List, [], _∷_}
 use lib.Dec.{ltb, leb}

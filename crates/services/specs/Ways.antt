@@ -5,19 +5,14 @@ use mathlib.Core.Path.{_≡_, refl, sym, ap, subst, _∙_}
 use mathlib.Core.Bool.{Bool, true, false, not}
 use mathlib.Core.List.{List, [], _∷_}
 use native.Mathlib.Omega.{arith}
-use borrow.Author.Tests.{eq-eqb, ne-eqb, lt-ltb, le-ltb, le-leb, lt-leb, ltb-true, ltb-false}
-use lib.Dec.{eqb, ltb}
-use lib.ListN.{length, getD, drop}
+use borrow.Author.Tests.{lt-ltb, le-ltb, ltb-true, ltb-false}
+use lib.Dec.{ltb}
+use lib.ListN.{length}
 use Rattle.laws.specs.Choice.{both-parts, choose}
-use Rattle.laws.specs.Lists.{drop-here, drop-past}
-use Rattle.laws.specs.Text.{bytes}
 use Rattle.answers.specs.Answers.{done, refused, wrongService, numberTwice}
 use Rattle.syntax.specs.declared.segment.Refusal.{Refusal}
-use Rattle.syntax.specs.Bytes.{terminator, releaseMark, plain}
-use Rattle.syntax.specs.Pieces.{firstPiece, partOf}
-use Rattle.syntax.specs.Firsts.{first-take}
-use Rattle.syntax.specs.Segment.{bodyAt}
-use Rattle.syntax.specs.Found.{endFrom, end-body}
+use Rattle.syntax.specs.Bytes.{plain}
+use Rattle.syntax.specs.Pieces.{partOf}
 use Rattle.parts.specs.declared.Part.{Part}
 use Rattle.parts.specs.Places.{bytesOf, partAt, segmentOf}
 use Rattle.parts.specs.Located.{part-bytes}

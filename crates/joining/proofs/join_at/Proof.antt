@@ -1,6 +1,6 @@
 -- `join_at` meets its contract.
 -- Assumes nothing.
-use mathlib.Core.Path.{_≡_, sym, ap, _∙_}
+use mathlib.Core.Path.{sym, ap, _∙_}
 use mathlib.Core.List.{List}
 use Prim.Native.Nat.{ℕ, _+_, _≤_, _<_}
 use native.Mathlib.Omega.{arith}
@@ -9,7 +9,6 @@ use denote.Ref.{now}
 use lib.ListN.{length}
 use Rattle.syntax.specs.Segment.{bodyAt}
 use Rattle.syntax.specs.Ends.{body-slice, end-within}
-use Rattle.parts.specs.Places.{bytesOf}
 use Rattle.parts.specs.Segments.{segment-body}
 use Rattle.period.specs.Period.{periodOf}
 use Rattle.period.specs.Pops.{PopKnown, pop-told}

@@ -6,7 +6,6 @@ use Prim.Native.Nat.{ℕ}
 use borrow.Author.Needs.{needs}
 use denote.Ref.{now}
 use Rattle.syntax.specs.Ends.{body-slice}
-use Rattle.syntax.specs.Segment.{bodyAt}
 use Rattle.syntax.specs.declared.segment.Scanned.the-variants.{End}
 use Rattle.period.specs.declared.Period.{Period}
 use Rattle.period.specs.declared.Period.the-variants.{Good, Wrong}

@@ -1,11 +1,8 @@
 -- `join_one` meets its contract.
 -- Assumes nothing.
-use mathlib.Core.Path.{_≡_, sym, ap, _∙_}
-use mathlib.Core.Bool.{Bool}
-use mathlib.Core.List.{List}
+use mathlib.Core.Path.{sym, ap, _∙_}
 use denote.Ref.{now}
 use Rattle.syntax.specs.Segment.{bodyAt}
-use Rattle.joining.specs.declared.Joined.{Joined}
 use Rattle.service_tests.specs.Orders.{isOutside, join-told}
 use borrow.Author.Needs.{needs}
 use Rattle.service_tests.proofs.join_one.Statement.{statement}

@@ -23,7 +23,6 @@ use Rattle.syntax.specs.Ends.{end-within}
 use Rattle.syntax.specs.Segment.{tagNumber}
 use Rattle.steps.specs.declared.state.Row.{Row}
 use Rattle.placing.specs.Table.{Table, groupAt}
-use Rattle.placing.specs.Tables.{tableOf}
 use Rattle.hints.specs.Told.{right}
 use Rattle.hints.specs.Laws.{Stood}
 use Rattle.hints.specs.Packing.{placeOf}
@@ -31,7 +30,6 @@ use Rattle.steps.specs.State.{movedState}
 use Rattle.interchange.specs.Laws.{putRow}
 use Rattle.interchange.specs.Room.{roomSize}
 use Rattle.interchange.specs.Moves.{Moved, moved-as}
-use Rattle.interchange.specs.Packs.{Packs}
 use Rattle.interchange.specs.Led.{Tells, led-known}
 use Rattle.interchange.specs.Runs.{rowWith, countedOf, counted-step, moved-start, moved-here, own-both, own-few, onward-capitals, moved-told}
 

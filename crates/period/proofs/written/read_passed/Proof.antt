@@ -1,10 +1,9 @@
 -- `read_passed` meets its contract.
 -- Assumes nothing.
-use mathlib.Core.Path.{_≡_, refl, sym, _∙_}
-use native.Mathlib.Omega.{arith}
+use mathlib.Core.Path.{refl, sym, _∙_}
 use borrow.Author.Needs.{needs}
 use denote.Ref.{now}
-use lib.ListN.{length, getD, drop}
+use lib.ListN.{drop}
 use Rattle.syntax.specs.Quick.{quick-segment}
 use Rattle.period.specs.Pops.{passed-pop, passed-tag, passed-plus}
 use Rattle.period.proofs.written.read_passed.Statement.{statement}

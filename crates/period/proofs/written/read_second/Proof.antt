@@ -1,12 +1,12 @@
 -- `read_second` meets its contract.
 -- Assumes nothing.
-use mathlib.Core.Path.{_≡_, sym, ap, subst, _∙_}
+use mathlib.Core.Path.{_≡_, sym, subst}
 use mathlib.Core.List.{List}
 use Prim.Native.Nat.{ℕ, _<_}
 use native.Mathlib.Omega.{arith}
 use borrow.Author.Needs.{needs}
 use denote.Ref.{now}
-use lib.ListN.{length, getD, drop}
+use lib.ListN.{length, getD}
 use Rattle.period.specs.Written.{Begins}
 use Rattle.period.specs.Pops.{weekdays-pop}
 use Rattle.period.proofs.written.read_second.Statement.{statement}

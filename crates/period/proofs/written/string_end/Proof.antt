@@ -2,17 +2,16 @@
 -- Assumes nothing.
 use mathlib.Core.Path.{_≡_, refl, sym, ap, _∙_}
 use mathlib.Core.List.{List}
-use Prim.Native.Nat.{ℕ, _+_, _≤_, _<_}
+use Prim.Native.Nat.{ℕ, _+_, _<_}
 use native.Mathlib.Omega.{arith}
 use borrow.Author.Needs.{needs}
 use denote.Ref.{now}
-use lib.ListN.{length, take, drop}
+use lib.ListN.{length, take}
 use lib.Seq.{length-take-le}
 use Rattle.laws.specs.Choice.{all}
 use Rattle.laws.specs.Lists.{drop-take}
 use Rattle.period.specs.Period.{zeroOrOne}
 use Rattle.period.specs.Written.{word-same}
-use Rattle.period.specs.Pops.{StringIn}
 use Rattle.period.proofs.written.string_end.Statement.{statement}
 use Rattle.period.proofs.written.string_end.Tie as tie
 

@@ -3,7 +3,6 @@
 use mathlib.Core.Path.{refl, sym}
 use native.Mathlib.Omega.{arith}
 use denote.Ref.{now}
-use lib.ListN.{length}
 use lib.Seq.{length-take-le}
 use Rattle.laws.specs.Lists.{rest-is}
 use Rattle.service_entries.specs.Orders.{order-not, order-puts}
