@@ -85,23 +85,6 @@ pub record Bytes (n t x : ℕ) : Type 0 where
   pub high : (e ≤ n) × (f ≤ n) × (g ≤ n) × (h ≤ n)
   pub sum : a + b + c + d + (e + f + g + h) ≡ t
 
-bytes-both : {n t x m u y : ℕ} → Bytes n t x → Bytes m u y → Bytes (n + m) (t + u) (x + y)
-bytes-both p q =
-    record {
-      a = p .a + q .a;
-      b = p .b + q .b;
-      c = p .c + q .c;
-      d = p .d + q .d;
-      e = p .e + q .e;
-      f = p .f + q .f;
-      g = p .g + q .g;
-      h = p .h + q .h;
-      is = omega (arith, p .is, q .is);
-      low = (omega (arith, p .low .0, q .low .0), omega (arith, p .low .1, q .low .1), omega (arith, p .low .2, q .low .2), omega (arith, p .low .3, q .low .3));
-      high = (omega (arith, p .high .0, q .high .0), omega (arith, p .high .1, q .high .1), omega (arith, p .high .2, q .high .2), omega (arith, p .high .3, q .high .3));
-      sum = omega (arith, p .sum, q .sum);
-    }
-
 -- they are added up in halves, then by one product, of which the fourth byte has them all
 abbrev pub halves : ℕ → ℕ
 halves x = (x + x / 4294967296) % 4294967296
@@ -189,10 +172,6 @@ seen-eight s i j x y w e h q =
       bytes = subst (Bytes 1 (textsIn (eightAt s i))) (sym (texts-word s i x w y e)) (texts-eight (w .bytes));
       others = omega arith;
     }
-
-pub seen-both : {s : List ℕ} {n m i j k x y : ℕ} → Seen s n i j x → Seen s m j k y → Seen s (n + m) i k (x + y)
-seen-both p q =
-    record { texts = p .texts + q .texts; bytes = bytes-both (p .bytes) (q .bytes); others = omega (arith, p .others, q .others) }
 
 pub seen-sum : (s : List ℕ) (n i j x : ℕ) → Seen s n i j x → n ≤ 31 → halves x * 16843009 / 16777216 % 256 + i + marksIn (drop i s) ≤ j + marksIn (drop j s)
 seen-sum s n i j x p h = omega (arith, bytes-sum n (p .texts) x (p .bytes) h, p .others)

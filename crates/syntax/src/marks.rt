@@ -5,7 +5,7 @@ ghost use mathlib.Core.Path.{_≡_};
 ghost use mathlib.Core.Bool.{true};
 ghost use Prim.Native.Nat.{_+_, _-_, _≤_, _<_};
 ghost use lib.Dec.{leb};
-ghost use lib.ListN.{length};
+ghost use lib.ListN.{length, drop};
 ghost use Rattle.laws.specs.Choice.{pick};
 ghost use Rattle.syntax.specs.Bytes.{isMark};
 ghost use Rattle.syntax.specs.Few.{marksIn};
@@ -60,28 +60,34 @@ pub(crate) fn texts_in(x: u64) -> u64
     ((((x | SEVENTEEN) ^ FIFTY_NINE) & LOWEST) + LOWEST) & HIGHEST
 }
 
-// How many of the first 32 bytes are seen to be no marks. Each byte of `sum` counts those of its place among eight; in halves, then by one product, the
-// bytes are added up.
-fn first_texts(p: &[u8]) -> usize
-    requires { ⌜ 32 ≤ length (now p) ⌝ }
-    ensures { λ r. ⌜ r + marksIn (now (p .entry)) ≤ length (now (p .entry)) ⌝ }
+// How many of the eight bytes from an index on are seen to be no marks: one in each byte of `texts`; in halves, then by one product, they are added up.
+fn texts_from(p: &[u8], i: usize) -> usize
+    requires { ⌜ i + 8 ≤ length (now p) ⌝ }
+    ensures { λ r. ⌜ (r + i + marksIn (drop i (now (p .entry))) ≤ i + 8 + marksIn (drop (i + 8) (now (p .entry)))) × (r ≤ 255) ⌝ }
 {
-    let sum = texts_in(eight_at(p, 0)) / 128
-        + texts_in(eight_at(p, 8)) / 128
-        + texts_in(eight_at(p, 16)) / 128
-        + texts_in(eight_at(p, 24)) / 128;
-    let halves = (sum + sum / 4294967296) % 4294967296;
+    let texts = texts_in(eight_at(p, i)) / 128;
+    let halves = (texts + texts / 4294967296) % 4294967296;
     (halves * 16843009 / 16777216 % 256) as usize
 }
 
-// Whether at most 31 of the bytes can be marks, as so many of the first are seen to be none.
+// Whether at most 31 of the bytes can be marks, as so many of the first 32 are seen to be none: eight after eight are looked at until they are enough.
 fn has_text(p: &[u8]) -> bool
     ensures { λ r. ⌜ (r ≡ true → marksIn (now (p .entry)) ≤ 31) ⌝ }
 {
     if p.len() < 32 {
         return true;
     }
-    p.len() - 31 <= first_texts(p)
+    let needed = p.len() - 31;
+    let mut texts = 0;
+    let mut k = 0;
+    while k < 4 {
+        texts += texts_from(p, 8 * k);
+        if needed <= texts {
+            return true;
+        }
+        k += 1;
+    }
+    false
 }
 
 // Whether at most 512 bytes have few marks.
