@@ -3,18 +3,18 @@
 use mathlib.Core.Path.{_≡_, refl, sym, ap, subst, _∙_}
 use mathlib.Core.Bool.{Bool}
 use mathlib.Core.List.{List, [], _∷_, _++_}
-use Prim.Native.Nat.{ℕ, _+_, _*_, _/_, _%_, _^_, _≤_, _<_}
+use Prim.Native.Nat.{ℕ, _+_, _-_, _*_, _/_, _%_, _^_, _≤_, _<_}
 use native.Mathlib.Omega.{arith}
 use native.Mathlib.Nat.{zero-add}
 use lib.Dec.{eqb, leb, eqb→eq, leb→le}
 use lib.Bits.{bitAnd, bitOr, bitXor, and-le-r, or-lt, xor-lt}
-use lib.ListN.{length, drop}
+use lib.ListN.{length, drop, length-drop}
 use Rattle.laws.specs.Choice.{pick, both, both-left, both-right}
 use Rattle.laws.specs.Sweep.{at}
 use Rattle.laws.specs.Words.{wordBy, wordOf, Every, none, one, Byte, word-same, add-word, and-word, or-word, xor-word}
 use Rattle.laws.specs.Eight.{eightAt, Word, drop-eight}
 use Rattle.syntax.specs.Bytes.{isMark}
-use Rattle.syntax.specs.Few.{marksIn}
+use Rattle.syntax.specs.Few.{marksIn, marks-length}
 use Rattle.syntax.specs.Passed.{eightTimes}
 
 -- The highest digit of a byte, set where it is no mark. With 16 and 1 set, `*`, `+`, `:` and `;` are 59, and so is no other byte below 128. As in
@@ -84,6 +84,23 @@ pub record Bytes (n t x : ℕ) : Type 0 where
   pub low : (a ≤ n) × (b ≤ n) × (c ≤ n) × (d ≤ n)
   pub high : (e ≤ n) × (f ≤ n) × (g ≤ n) × (h ≤ n)
   pub sum : a + b + c + d + (e + f + g + h) ≡ t
+
+bytes-both : {n t x m u y : ℕ} → Bytes n t x → Bytes m u y → Bytes (n + m) (t + u) (x + y)
+bytes-both p q =
+    record {
+      a = p .a + q .a;
+      b = p .b + q .b;
+      c = p .c + q .c;
+      d = p .d + q .d;
+      e = p .e + q .e;
+      f = p .f + q .f;
+      g = p .g + q .g;
+      h = p .h + q .h;
+      is = omega (arith, p .is, q .is);
+      low = (omega (arith, p .low .0, q .low .0), omega (arith, p .low .1, q .low .1), omega (arith, p .low .2, q .low .2), omega (arith, p .low .3, q .low .3));
+      high = (omega (arith, p .high .0, q .high .0), omega (arith, p .high .1, q .high .1), omega (arith, p .high .2, q .high .2), omega (arith, p .high .3, q .high .3));
+      sum = omega (arith, p .sum, q .sum);
+    }
 
 -- they are added up in halves, then by one product, of which the fourth byte has them all
 abbrev pub halves : ℕ → ℕ
@@ -156,22 +173,71 @@ marks-joined (b ∷ l) m = let h = marks-joined l m in omega arith
 marks-eight : (s : List ℕ) (i : ℕ) → i + 8 ≤ length s → marksIn (drop i s) ≡ marksIn (eightAt s i) + marksIn (drop (i + 8) s)
 marks-eight s i h = ap marksIn (drop-eight s i h) ∙ marks-joined (eightAt s i) (drop (i + 8) s)
 
--- of the bytes from one index to another as many are seen to be no marks as the bytes of x come to
-pub record Seen (s : List ℕ) (n i j x : ℕ) : Type 0 where
+-- of eight bytes from an index on as many are seen to be no marks as the bytes of x come to
+pub record Seen (s : List ℕ) (i x : ℕ) : Type 0 where
   pub texts : ℕ
-  pub bytes : Bytes n texts x
-  pub others : texts + i + marksIn (drop i s) ≤ j + marksIn (drop j s)
+  pub bytes : Bytes 1 texts x
+  pub others : texts + marksIn (drop i s) ≤ 8 + marksIn (drop (i + 8) s)
 
-pub seen-eight : (s : List ℕ) (i j x y : ℕ) → Word s i x → y ≡ textsOf eightTimes x → j ≤ length s → j ≡ i + 8 → Seen s 1 i j (y / 128)
-seen-eight s i j x y w e h q =
+pub seen-eight : (s : List ℕ) (i x y : ℕ) → Word s i x → y ≡ textsOf eightTimes x → i + 8 ≤ length s → Seen s i (y / 128)
+seen-eight s i x y w e h =
     let f = texts-few (w .bytes) in
-    let m = marks-eight s i (omega arith) in
-    let d : marksIn (drop (i + 8) s) ≡ marksIn (drop j s) = ap (λ (k : ℕ). marksIn (drop k s)) (sym q) in
+    let m = marks-eight s i h in
     record {
       texts = textsIn (eightAt s i);
       bytes = subst (Bytes 1 (textsIn (eightAt s i))) (sym (texts-word s i x w y e)) (texts-eight (w .bytes));
       others = omega arith;
     }
 
-pub seen-sum : (s : List ℕ) (n i j x : ℕ) → Seen s n i j x → n ≤ 31 → halves x * 16843009 / 16777216 % 256 + i + marksIn (drop i s) ≤ j + marksIn (drop j s)
-seen-sum s n i j x p h = omega (arith, bytes-sum n (p .texts) x (p .bytes) h, p .others)
+-- and how many of twice eight
+pub record SeenTwice (s : List ℕ) (i j r : ℕ) : Type 0 where
+  pub first : ℕ
+  pub second : ℕ
+  pub is : r ≡ first + second
+  pub few : r ≤ 255
+  pub others : first + marksIn (drop i s) ≤ 8 + marksIn (drop (i + 8) s)
+  pub second-others : second + marksIn (drop j s) ≤ 8 + marksIn (drop (j + 8) s)
+
+pub seen-twice : (s : List ℕ) (i j x y : ℕ) → Seen s i x → Seen s j y → SeenTwice s i j (halves (x + y) * 16843009 / 16777216 % 256)
+seen-twice s i j x y p q =
+    record {
+      first = p .texts;
+      second = q .texts;
+      is = bytes-sum 2 (p .texts + q .texts) (x + y) (bytes-both (p .bytes) (q .bytes)) (omega arith);
+      few = omega arith;
+      others = p .others;
+      second-others = q .others;
+    }
+
+-- eight bytes hold at most eight marks
+pub marks-most : (s : List ℕ) (i : ℕ) → i + 8 ≤ length s → marksIn (drop i s) ≤ 8 + marksIn (drop (i + 8) s)
+marks-most s i h =
+    let m = marks-eight s i h in
+    let l = marks-length (eightAt s i) in
+    omega arith
+
+-- where enough of the first 32 bytes are none, there are at most 31 marks
+module _ (p : List ℕ) (h : 32 ≤ length p) {r : ℕ} (a : SeenTwice p 0 16 r) where
+  rest : marksIn (drop 24 p) ≤ length p - 24
+  rest = let l = marks-length (drop 24 p) in let n = length-drop 24 p in omega arith
+
+  pub two-few : length p - 31 ≤ r → marksIn p ≤ 31
+  two-few k =
+      let i = a .is in
+      let o = a .others in
+      let q = a .second-others in
+      let m = marks-most p 8 (omega arith) in
+      let l = rest in
+      omega arith
+
+  pub four-few : {t : ℕ} → SeenTwice p 8 24 t → length p - 31 ≤ r + t → marksIn p ≤ 31
+  four-few b k =
+      let i = a .is in
+      let o = a .others in
+      let q = a .second-others in
+      let j = b .is in
+      let u = b .others in
+      let v = b .second-others in
+      let l = marks-length (drop 32 p) in
+      let n = length-drop 32 p in
+      omega arith
