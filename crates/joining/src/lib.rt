@@ -361,7 +361,7 @@ pub fn join_period(days: &mut [u8], origin: usize, s: &[u8], segment: Part) -> J
     }
 }
 
-/// The same for the POP at an offset, up to its terminator or to the input's end.
+/// Selects the days of the POP at an offset, up to its terminator or to the input's end, as `join_period` does of a segment.
 pub fn join_at(days: &mut [u8], origin: usize, s: &[u8], at: usize) -> Joined
     ensures told { λ r. ⌜ (r ≡ answered (length (now (days .entry))) origin (bodyAt (now (s .entry)) at)) × (now (days .exit) ≡ daysJoined (now (days .entry)) origin (bodyAt (now (s .entry)) at)) ⌝ }
     ensures said { λ r. ⌜ joinedAnswer at r ≡ joinAnswer at (length (now (days .entry))) origin (bodyAt (now (s .entry)) at) ⌝ }

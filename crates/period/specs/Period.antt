@@ -11,6 +11,9 @@ use Rattle.laws.specs.Text.{bytes}
 use Rattle.answers.specs.Answers.{Answer, done, wrongPeriod}
 use Rattle.syntax.specs.Bytes.{plain}
 use Rattle.syntax.specs.Pieces.{partOf}
+use Rattle.syntax.specs.Segment.{bodyAt, segmentAt}
+use Rattle.syntax.specs.declared.segment.Scanned.{Scanned}
+use Rattle.syntax.specs.declared.segment.Scanned.the-variants.{End, NotPermitted, Unended, Malformed}
 use Rattle.parts.specs.Places.{repeats, present}
 use Rattle.values.specs.Values.{sameText}
 use Rattle.dates.specs.Days.{weekdayOf}
@@ -26,6 +29,8 @@ use Rattle.period.specs.declared.Fault.{Fault}
 use Rattle.period.specs.declared.Fault.the-variants.{BadDates, BadDayString, BadWeekdays, BothForms, NeitherForm, BadRest}
 use Rattle.period.specs.declared.Period.{Period}
 use Rattle.period.specs.declared.Period.the-variants.{Good, Wrong}
+use Rattle.period.specs.declared.Pop.{Pop}
+use Rattle.period.specs.declared.Pop.the-variants.{Whole, Other}
 use Rattle.period.specs.declared.forms.Formed.{Formed}
 use Rattle.period.specs.declared.forms.Formed.the-variants.{Told, Faulty}
 
@@ -149,3 +154,15 @@ runsIn g (Wrong x) k = false
 
 abbrev pub runs : List ℕ → ℕ → Bool
 runs g k = runsIn g (periodOf g) k
+
+-- A segment at an offset of an input that is whole and says a good period: where its terminator stands, and the period. Whatever else stands there is no
+-- such POP: "4, 5, 6" are the segment's, 10 is the period's.
+abbrev pub popOf : Scanned → Period → Pop
+popOf (End e) (Good f n form) = Whole e f n form
+popOf (End e) (Wrong x) = Other
+popOf (NotPermitted i) p = Other
+popOf Unended p = Other
+popOf Malformed p = Other
+
+unfoldable pub popAt : List ℕ → ℕ → Pop
+popAt s at = popOf (segmentAt s at) (periodOf (bodyAt s at))

@@ -1,4 +1,4 @@
--- The POP at an offset of an input. As most are written, `POP+273:first/last` and then a form of days or neither, it is read straight through:
+-- Laws of the POP at an offset of an input. As most are written, `POP+273:first/last` and then a form of days or neither, it is read straight through:
 -- what it says tells where it ends.
 -- Assumes nothing.
 use mathlib.Core.Path.{_≡_, refl, sym, ap, subst, _∙_}
@@ -29,21 +29,11 @@ use Rattle.period.specs.declared.Pop.{Pop}
 use Rattle.period.specs.declared.Pop.the-variants.{Whole, Other}
 use Rattle.period.specs.declared.forms.Formed.the-variants.{Told}
 use Rattle.calendar.specs.declared.Span.the-variants.{Days}
-use Rattle.period.specs.Period.{spanIn, zeroOrOne, dayString, risingDays, formedOf, periodOf}
+use Rattle.period.specs.Period.{spanIn, zeroOrOne, dayString, risingDays, formedOf, periodOf, popOf, popAt}
 use Rattle.period.specs.Facts.{span-told}
 use Rattle.period.specs.Written.{cut-good, Begins}
 
-abbrev pub popOf : Scanned → Period → Pop
-popOf (End e) (Good f n form) = Whole e f n form
-popOf (End e) (Wrong x) = Other
-popOf (NotPermitted i) p = Other
-popOf Unended p = Other
-popOf Malformed p = Other
-
--- a whole segment that says a good period: where it ends, and the period
-unfoldable pub popAt : List ℕ → ℕ → Pop
-popAt s at = popOf (segmentAt s at) (periodOf (bodyAt s at))
-
+-- by what stands there
 pub pop-is : (s : List ℕ) (at : ℕ) {x : Scanned} {p : Period} → segmentAt s at ≡ x → periodOf (bodyAt s at) ≡ p → popAt s at ≡ popOf x p
 unfolding popAt
 pop-is s at a b = rw (a, b)

@@ -20,8 +20,7 @@ ghost use mathlib.Core.Path.{_≡_};
 ghost use Prim.Native.Nat.{ℕ};
 ghost use Rattle.syntax.specs.Segment.{segmentAt};
 ghost use Rattle.parts.specs.Places.{bytesOf};
-ghost use Rattle.period.specs.Period.{periodOf, periodAnswer, popAnswer, faultNumber};
-ghost use Rattle.period.specs.Pops.{popAt};
+ghost use Rattle.period.specs.Period.{periodOf, periodAnswer, popAnswer, faultNumber, popAt};
 
 /// What tells the days of a period.
 pub enum Form {
@@ -72,6 +71,7 @@ pub enum Pop {
     /// A whole segment that says a good period: the terminator's index, the number of its first day, how many days it has, and what tells
     /// those that run.
     Whole(usize, usize, usize, Form),
+    /// No whole segment, or one that says no good period.
     Other,
 }
 

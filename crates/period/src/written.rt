@@ -96,6 +96,7 @@ fn string_end(g: &[u8], count: usize) -> usize
         return 0;
     }
     let end = 31 + count;
+    // The two marks and the terminator take one test.
     if word(g[29], g[30], g[end], 0) != word(b':', b':', b'\'', 0) {
         return 0;
     }

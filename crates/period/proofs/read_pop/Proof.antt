@@ -6,8 +6,8 @@ use denote.Ref.{now}
 use Rattle.syntax.specs.declared.segment.Scanned.{Scanned}
 use Rattle.syntax.specs.declared.segment.Scanned.the-variants.{NotPermitted, Unended, Malformed}
 use Rattle.syntax.specs.Segment.{bodyAt}
-use Rattle.period.specs.Period.{periodOf}
-use Rattle.period.specs.Pops.{popOf, popAt, pop-is}
+use Rattle.period.specs.Period.{periodOf, popOf, popAt}
+use Rattle.period.specs.Pops.{pop-is}
 use Rattle.period.proofs.read_pop.Statement.{statement}
 use Rattle.period.proofs.read_pop.Tie as tie
 

@@ -9,8 +9,8 @@ use Rattle.syntax.specs.Ends.{body-slice}
 use Rattle.syntax.specs.declared.segment.Scanned.the-variants.{End}
 use Rattle.period.specs.declared.Period.{Period}
 use Rattle.period.specs.declared.Period.the-variants.{Good, Wrong}
-use Rattle.period.specs.Period.{periodOf}
-use Rattle.period.specs.Pops.{popOf, popAt, pop-is}
+use Rattle.period.specs.Period.{periodOf, popOf, popAt}
+use Rattle.period.specs.Pops.{pop-is}
 use Rattle.period.proofs.read_whole.Statement.{statement}
 use Rattle.period.proofs.read_whole.Tie as tie
 
