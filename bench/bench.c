@@ -3,8 +3,11 @@
 //   bench time             yardstick's time over ours for realistic interchanges: 1.0 or more means at least as fast
 //   bench costs            what a byte of extreme interchanges costs, over what a byte of a realistic one costs
 //   bench where            what our time goes to, by interchanges that differ in one thing
-//   bench once WHO KIND N  one reading by `ours`, `yardstick` or `nobody` of `skdupd` or `tsdupd` of N bytes, for counting instructions
+//   bench parcels          the whole reader's time over that in parcels of 1,460 bytes, and what a byte costs byte by byte (parcels.c)
+//   bench compare_parcels N SEED   N interchanges in parcels, under cuts by chance, and by the whole reader; stops at the first difference
+//   bench once WHO KIND N  one reading by `ours`, `parcels`, `yardstick` or `nobody` of `skdupd` or `tsdupd` of N bytes, for counting instructions
 #include "measure.h"
+#include "parcels.h"
 #include "samples.h"
 #include "yardstick.h"
 
@@ -16,9 +19,6 @@ unsigned long strtoul(const char *text, char **end, int base);
 int memcmp(const void *a, const void *b, size_t n);
 void *memcpy(void *to, const void *from, size_t n);
 void *memmove(void *to, const void *from, size_t n);
-
-// The proved reader, by the static library of the crate `desk`.
-struct reply drumcallisto_read(const uint8_t *s, size_t n, uint32_t *rows, size_t room);
 
 enum { LONGEST = 60000, MOST_SEGMENTS = 16000, MOST_NUMBERS = 45000, GUARD = 8 };
 
@@ -353,7 +353,7 @@ static void put_interchange(int focus) {
 
 // ---- Joining, with the counts ----
 
-static struct text joined;
+struct text joined;
 
 static void put_count(unsigned long n) {
     static struct text digits;
@@ -653,7 +653,7 @@ static void put_sized(size_t n) {
     join();
 }
 
-static void put_case(void) {
+void put_case(void) {
     if (one_in(400)) {
         put_sized(one_in(3) ? LONGEST + 1 : one_in(2) ? LONGEST : LONGEST - below(3));
         while (one_in(3))
@@ -707,11 +707,11 @@ static void put_case(void) {
 
 static uint32_t ours[MOST_NUMBERS + 1000 + GUARD], theirs[MOST_NUMBERS + 1000 + GUARD];
 
-static void show(const char *who, struct reply r) {
+void show(const char *who, struct reply r) {
     printf("%s: number %u, position %lu, rows %lu\n", who, r.number, (unsigned long)r.position, (unsigned long)r.rows);
 }
 
-static void show_input(void) {
+void show_input(void) {
     printf("input of %lu bytes:\n", (unsigned long)joined.n);
     for (size_t i = 0; i < joined.n; i++) {
         int c = joined.at[i];
@@ -945,7 +945,7 @@ static struct reply nobody(const uint8_t *s, size_t n, uint32_t *rows, size_t ro
 
 static int once(const char *who, const char *kind, unsigned long longest) {
     put_realistic(&sample, !strcmp(kind, "skdupd"), longest);
-    reader *read = !strcmp(who, "ours") ? drumcallisto_read : !strcmp(who, "yardstick") ? yardstick_read : nobody;
+    reader *read = !strcmp(who, "ours") ? drumcallisto_read : !strcmp(who, "parcels") ? read_in_parcels : !strcmp(who, "yardstick") ? yardstick_read : nobody;
     struct reply r = read(sample.at, sample.n, ours, MOST_NUMBERS);
     printf("%s %s: %lu bytes, %lu segments, number %u\n", who, kind, (unsigned long)sample.n, (unsigned long)r.rows, r.number);
     return r.number;
@@ -955,6 +955,8 @@ int main(int n, char **words) {
     const char *mode = n > 1 ? words[1] : "";
     if (!strcmp(mode, "compare"))
         return compare(n > 2 ? strtoul(words[2], 0, 10) : 100000, n > 3 ? strtoul(words[3], 0, 10) : 1);
+    if (!strcmp(mode, "compare_parcels"))
+        return compare_parcels(n > 2 ? strtoul(words[2], 0, 10) : 100000, n > 3 ? strtoul(words[3], 0, 10) : 1);
     if (!strcmp(mode, "once") && n > 4)
         return once(words[2], words[3], strtoul(words[4], 0, 10));
     unsigned rounds = n > 2 ? (unsigned)strtoul(words[2], 0, 10) : 60;
@@ -965,8 +967,10 @@ int main(int n, char **words) {
         costs(rounds);
     else if (!strcmp(mode, "where"))
         where(rounds);
+    else if (!strcmp(mode, "parcels"))
+        time_parcels(rounds);
     else {
-        printf("bench compare N SEED | time ROUNDS | costs ROUNDS | where ROUNDS | once WHO KIND N\n");
+        printf("bench compare N SEED | compare_parcels N SEED | time ROUNDS | parcels ROUNDS | costs ROUNDS | where ROUNDS | once WHO KIND N\n");
         return 2;
     }
     return 0;

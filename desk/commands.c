@@ -103,21 +103,6 @@ static int check_command(const char *name, int count, char **words) {
     return DONE;
 }
 
-// The table of document 01: a line for each segment.
-int read_command(const char *name) {
-    static uint32_t rows[DRUMCALLISTO_ROW_NUMBERS];
-    struct text text = {name, interchange, 0};
-    if (read_file(name, interchange, sizeof interchange, &text.length))
-        return FAILED;
-    drumcallisto_reply reply = drumcallisto_read(interchange, text.length, rows, DRUMCALLISTO_ROW_NUMBERS);
-    if (reply.number)
-        return refuse(reply, &text, NULL);
-    fputs("offset\tgroup\ttag\n", stdout);
-    for (const uint32_t *r = rows; r < rows + 3 * reply.value; r += 3)
-        printf("%u\t%u\t%c%c%c\n", r[0], r[1], (int)(r[2] >> 16 & 255), (int)(r[2] >> 8 & 255), (int)(r[2] & 255));
-    return DONE;
-}
-
 int perform(const char *name, int count, char **words) {
     static const struct {
         const char *name, *takes;

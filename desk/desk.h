@@ -39,10 +39,12 @@ int refuse(drumcallisto_reply reply, const struct text *text, const struct store
 drumcallisto_date date_of(const struct store *f, unsigned k);
 void print_months(const struct store *f, const char *lines);
 
+// reading.c. The segments of a file, or of standard input as it arrives.
+int read_command(const char *name);
+
 // commands.c. A command over a register, by its words.
 bool read_number(const char *word, uint32_t *to);
 int perform(const char *name, int count, char **words);
-int read_command(const char *name);
 int wrong(const char *what, const char *then); // says so, and gives USAGE
 
 #endif

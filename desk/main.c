@@ -16,13 +16,14 @@ static const char help[] =
     "desk REGISTER run                                 commands from standard input, one a line, without `desk REGISTER`\n"
     "desk read FILE                                    the segments of a file: offset, group, tag\n"
     "desk --help [NUMBER], desk --version              this, or what a refusal's number means\n"
-    "FILE may be -, standard input. Answers are done and a value, or refused, a number and a position.\n"
+    "FILE may be -, standard input. read - prints each segment as it arrives, of at most 4,096 bytes.\n"
+    "Answers are done and a value, or refused, a number and a position.\n"
     "Status: 0 done, 1 refused, 2 wrong usage, 3 the system failed. More: man desk\n";
 
 static int print_help(const char *word) {
     uint32_t number;
     if (word && (!read_number(word, &number) || !meaning_of(number)))
-        return wrong("the numbers are 0 to 20", "");
+        return wrong("the numbers are 0 to 21", "");
     return printf("%s%s", word ? meaning_of(number) : help, word ? "\n" : "") < 0 ? FAILED : DONE;
 }
 

@@ -64,7 +64,7 @@ anew() {
     expect 0 "done${tab}0" "" r open 2000-08-01 32 32 32 32 32 32 32 32
 }
 
-for part in ${PARTS:-commands numbers guide install failures writers kills}; do
+for part in ${PARTS:-commands numbers parcels guide install failures writers kills}; do
     already=$tests
     # shellcheck source=/dev/null
     . "$root/desk/tests/$part.sh"

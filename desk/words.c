@@ -1,4 +1,4 @@
-// What each number of document 01 means, in words, and where in the text it points.
+// What each number of documents 01 and 02 means, in words, and where in the text it points.
 #include "desk.h"
 #include <stdio.h>
 #include <string.h>
@@ -25,6 +25,7 @@ static const char *const meanings[] = {
     "quotas over 256 together, a first date that is none, or a window outside 1990-01-01 to 2099-12-31",
     "a calendar with bad dates, a bad length or a day past its last",
     "a calendar that has no weekday form",
+    "a segment of more than 4,096 bytes, read as it arrives",
 };
 
 const char *meaning_of(unsigned number) { return number < sizeof meanings / sizeof meanings[0] ? meanings[number] : NULL; }
@@ -61,7 +62,8 @@ int refuse(drumcallisto_reply reply, const struct text *text, const struct store
         drumcallisto_date a = date_of(f, 0), b = date_of(f, DRUMCALLISTO_WINDOW_DAYS - 1);
         fprintf(stderr, ", %04u-%02u-%02u to %04u-%02u-%02u", a.year, a.month, a.day, b.year, b.month, b.day);
     }
-    if (n >= DRUMCALLISTO_BYTE_NOT_PERMITTED && n <= DRUMCALLISTO_UNKNOWN_SERVICE && text && reply.position <= text->length)
+    bool placed = (n >= DRUMCALLISTO_BYTE_NOT_PERMITTED && n <= DRUMCALLISTO_UNKNOWN_SERVICE) || n == DRUMCALLISTO_SEGMENT_TOO_LONG;
+    if (placed && text && reply.position <= text->length)
         put_place(text, n, reply.position);
     fputc('\n', stderr);
     return REFUSED;

@@ -2,8 +2,8 @@
  *
  * Each function answers on every input and ends; what it promises is proved (docs/CONTRACTS.md). The caller owes only what no
  * function can see: each pointer is valid for its length, and no two buffers of one call overlap.
- * A reply's number is 0 where all is done; any other is a refusal, with its position, and then no lent buffer has changed.
- * docs/NUMBERS.md says what each number means. */
+ * A reply's number is 0 where all is done; any other is a refusal, with its position, and then no lent buffer has changed; in
+ * parcels alone a call that names a fault writes the rows read before it, and its store. docs/NUMBERS.md says what each number means. */
 #ifndef DRUMCALLISTO_H
 #define DRUMCALLISTO_H
 
@@ -36,7 +36,8 @@ enum {
     DRUMCALLISTO_OUTPUT_TOO_SHORT = 17,
     DRUMCALLISTO_BAD_OPENING = 18,        /* quotas' sum over 256, first date invalid, or window outside the dates */
     DRUMCALLISTO_BAD_CALENDAR = 19,       /* bad dates, bad length, or a bit past the last day */
-    DRUMCALLISTO_NO_WEEKDAY_FORM = 20
+    DRUMCALLISTO_NO_WEEKDAY_FORM = 20,
+    DRUMCALLISTO_SEGMENT_TOO_LONG = 21    /* over 4,096 bytes with its terminator, in parcels; position: its first byte */
 };
 
 enum {
@@ -48,7 +49,8 @@ enum {
     DRUMCALLISTO_NUMBER_LENGTH = 10,         /* characters of a service number */
     DRUMCALLISTO_INTERCHANGE_LENGTH = 60000, /* bytes */
     DRUMCALLISTO_ROW_NUMBERS = 45000,        /* numbers that hold the rows of any interchange, three each */
-    DRUMCALLISTO_RECORD_LENGTH = 1057        /* bytes that hold any record's lines */
+    DRUMCALLISTO_RECORD_LENGTH = 1057,       /* bytes that hold any record's lines */
+    DRUMCALLISTO_STORE_LENGTH = 12324        /* bytes of a store that a reading in parcels is kept in */
 };
 
 typedef struct {
@@ -73,6 +75,24 @@ typedef struct {
 /* Reads an interchange and writes its rows, three numbers each (offset, group, the tag's three bytes as one number), to the front
  * of `rows`. value: how many rows. 3 to 10, then 17. */
 drumcallisto_reply drumcallisto_read(const uint8_t *interchange, size_t length, uint32_t *rows, size_t room);
+
+/* Reading in parcels: begin, a take for each parcel, which is lent for that call alone, and finish. What is known between two calls is in
+ * the store, DRUMCALLISTO_STORE_LENGTH bytes, which may be copied; any bytes of that length are some reading and do no harm. However
+ * an interchange is cut, rows and answer are those of drumcallisto_read while no segment is over 4,096 bytes; where that refuses,
+ * the rows of the segments before the fault are given out too. A store of another length is 17 for each of the three. */
+
+/* The store becomes a reading before its first byte. 17. */
+drumcallisto_reply drumcallisto_begin(uint8_t *store, size_t length);
+
+/* Reads on in a parcel, which may be empty, and writes the rows of the segments that end in it to the front of `rows`, their offsets
+ * counted from the interchange's first byte. value: how many rows, beside a refusal too. 3, 4, 6 to 10 and 21 are final: later calls
+ * repeat the answer and write nothing. 17, where the rows do not fit, is not: nothing is written, and the parcel may be given again
+ * with more room. n bytes bring at most (n + 3) / 4 rows. After an accepted finish it is 0, with no row. */
+drumcallisto_reply drumcallisto_take(uint8_t *store, size_t length, const uint8_t *parcel, size_t parcel_length, uint32_t *rows, size_t room);
+
+/* The input is over. value: how many rows in all. 3 for no byte, 4 or 5 inside a segment, 7, or the refusal that was final. Later
+ * calls repeat the answer. */
+drumcallisto_reply drumcallisto_finish(uint8_t *store, size_t length);
 
 /* The first service at row i or later, of the first n rows; the next one is looked for from its `from` + 1 on. Any rows do no harm. */
 drumcallisto_service drumcallisto_next_service(const uint8_t *interchange, size_t length, const uint32_t *rows, size_t room, size_t n, size_t i);

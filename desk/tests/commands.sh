@@ -8,7 +8,7 @@ has "help" "desk REGISTER stage ACCOUNT FILE" "$("$DESK" --help)"
 
 # A wrong usage is 2, and nothing is answered.
 anew
-for words in "" "r" "--help 21" "--help x" "read" "read a b" "r stage" "r stage 3" "r stage 3 a b" "r stage x a" "r release" "r release -1" \
+for words in "" "r" "--help 22" "--help x" "read" "read a b" "r stage" "r stage 3" "r stage 3 a b" "r stage x a" "r release" "r release -1" \
     "r release 1 2" "r withdraw 3" "r show" "r show 3 x" "r show 3 0 0" "r check 1" "r run 1" "r nonsense" "n open" "n open 2026-01-01" \
     "n open 2026-1-01 1 1 1 1 1 1 1 1" "n open 2026-1-011 1 1 1 1 1 1 1 1" "n open today 1 1 1 1 1 1 1 1" "n open 2026-01-01 1 1 1 1 1 1 1" \
     "n open 2026-01-01 1 1 1 1 1 1 1 1 1" "n open 2026-01-01 1 1 1 1 1 1 1 x" "n open --anew"; do

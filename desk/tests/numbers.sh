@@ -1,4 +1,4 @@
-# Every number of document 01 that the program can give, with its position, its words and the place shown.
+# Every number of documents 01 and 02 that the program can give, with its position, its words and the place shown.
 samples=$root/samples
 
 # refused NUMBER POSITION PLACE COMMAND..: the words are those that --help has for the number
@@ -9,8 +9,8 @@ refused() {
     has "place of $number" "$place" "$(cat "$work/words")"
 }
 
-for number in $(seq 0 20); do "$DESK" --help "$number"; done > "$work/all"
-same "words, all different" 21 "$(sort -u "$work/all" | grep -c .)"
+for number in $(seq 0 21); do "$DESK" --help "$number"; done > "$work/all"
+same "words, all different" 22 "$(sort -u "$work/all" | grep -c .)"
 
 anew
 before=$(cksum < r)

@@ -2,7 +2,7 @@
 //!
 //! Each function of the library answers on every input and ends; what it promises is proved (`docs/CONTRACTS.md`). What a caller
 //! in C owes, pointers that are valid for their length and do not overlap, is kept here by slices. A [`Refusal`] has the paper's
-//! number and a position, and after it nothing that was lent has changed.
+//! number and a position, and after it nothing that was lent has changed; in [`Parcels`] alone the rows before a fault are written.
 //!
 //! ```no_run
 //! let file = std::fs::read("samples/skdupd.edi")?;
@@ -18,12 +18,14 @@
 mod calendar;
 mod date;
 mod library;
+mod parcels;
 mod reading;
 mod refusal;
 mod register;
 
 pub use calendar::{Calendar, CALENDAR_LENGTH, WINDOW_DAYS};
 pub use date::{Date, NotWrittenAsDate};
+pub use parcels::{room_for, Parcels, Taken, STORE_LENGTH};
 pub use reading::{read, Change, Reading, Row, Service, Services, INTERCHANGE_LENGTH};
 pub use refusal::{Number, Refusal};
 pub use register::{is_register, Register, ACCOUNTS, NUMBER_LENGTH, QUOTA_SUM, REGISTER_LENGTH};

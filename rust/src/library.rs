@@ -29,6 +29,9 @@ pub struct Found {
 
 extern "C" {
     fn drumcallisto_read(interchange: *const u8, length: usize, rows: *mut u32, room: usize) -> Reply;
+    fn drumcallisto_begin(store: *mut u8, length: usize) -> Reply;
+    fn drumcallisto_take(store: *mut u8, length: usize, parcel: *const u8, parcel_length: usize, rows: *mut u32, room: usize) -> Reply;
+    fn drumcallisto_finish(store: *mut u8, length: usize) -> Reply;
     fn drumcallisto_next_service(interchange: *const u8, length: usize, rows: *const u32, room: usize, n: usize, i: usize) -> Found;
     fn drumcallisto_number(interchange: *const u8, length: usize, from: usize, to: usize, out: *mut u8, room: usize) -> Reply;
     fn drumcallisto_days(
@@ -57,7 +60,7 @@ fn told(reply: Reply) -> Result<usize, Refusal> {
     if reply.number == 0 {
         return Ok(reply.value);
     }
-    let number = Number::of(reply.number).expect("the library's numbers are 0 to 20");
+    let number = Number::of(reply.number).expect("the library's numbers are 0 to 21");
     Err(Refusal { number, position: reply.position })
 }
 
@@ -73,6 +76,26 @@ pub fn written(room: usize, call: impl FnOnce(&mut [u8]) -> Result<usize, Refusa
 pub fn read(interchange: &[u8], rows: &mut [u32]) -> Result<usize, Refusal> {
     // SAFETY: two slices, and the one written is lent with `&mut`.
     told(unsafe { drumcallisto_read(interchange.as_ptr(), interchange.len(), rows.as_mut_ptr(), rows.len()) })
+}
+
+/// A reading before its first byte.
+pub fn begin(store: &mut [u8]) -> Result<usize, Refusal> {
+    // SAFETY: one slice, lent with `&mut`.
+    told(unsafe { drumcallisto_begin(store.as_mut_ptr(), store.len()) })
+}
+
+/// How many rows it wrote, beside a refusal too.
+pub fn take(store: &mut [u8], parcel: &[u8], rows: &mut [u32]) -> (usize, Option<Refusal>) {
+    let (s, n, r, room) = (store.as_mut_ptr(), store.len(), rows.as_mut_ptr(), rows.len());
+    // SAFETY: three slices, and the two written are lent with `&mut`; any store does no harm.
+    let reply = unsafe { drumcallisto_take(s, n, parcel.as_ptr(), parcel.len(), r, room) };
+    (reply.value, told(reply).err())
+}
+
+/// How many rows there were in all.
+pub fn finish(store: &mut [u8]) -> Result<usize, Refusal> {
+    // SAFETY: one slice, lent with `&mut`; any store does no harm.
+    told(unsafe { drumcallisto_finish(store.as_mut_ptr(), store.len()) })
 }
 
 /// The first service at row i or later.

@@ -34,6 +34,14 @@ pub struct Row {
     pub tag: [u8; 3],
 }
 
+/// The rows that these numbers are, three each.
+pub(crate) fn rows_of(numbers: &[u32]) -> impl Iterator<Item = Row> + '_ {
+    numbers.chunks_exact(3).map(|row| {
+        let [_, a, b, c] = row[2].to_be_bytes();
+        Row { offset: row[0] as usize, group: row[1], tag: [a, b, c] }
+    })
+}
+
 impl<'a> Reading<'a> {
     /// The interchange that was read.
     pub fn interchange(&self) -> &'a [u8] {
@@ -42,10 +50,7 @@ impl<'a> Reading<'a> {
 
     /// The rows, a segment each, in order.
     pub fn rows(&self) -> impl Iterator<Item = Row> + '_ {
-        self.rows.chunks_exact(3).map(|row| {
-            let [_, a, b, c] = row[2].to_be_bytes();
-            Row { offset: row[0] as usize, group: row[1], tag: [a, b, c] }
-        })
+        rows_of(&self.rows)
     }
 
     /// The services, the groups 2 of SKDUPD messages, in order.

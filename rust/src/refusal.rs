@@ -47,10 +47,11 @@ numbers! {
     BadOpening = 18, "the quotas' sum is over 256, the first date is none, or the window is outside the dates";
     BadCalendar = 19, "the calendar to write has bad dates, a bad length or a day past its last";
     NoWeekdayForm = 20, "the calendar has no weekday form";
+    SegmentTooLong = 21, "the segment is over 4,096 bytes, which is too long in parcels";
 }
 
 impl Number {
-    /// The number by its value, if it is 1 to 20.
+    /// The number by its value, if it is 1 to 21.
     pub fn of(number: u8) -> Option<Number> {
         Number::ALL.get(usize::from(number).checked_sub(1)?).copied()
     }

@@ -29,11 +29,11 @@ fn as_in_c(name: &str) -> String {
 #[test]
 fn numbers_by_name() {
     let ours: Vec<_> = Number::ALL.iter().map(|&n| (as_in_c(&format!("{n:?}")), n as usize)).collect();
-    assert_eq!(ours.len(), 20);
+    assert_eq!(ours.len(), 21);
     assert_eq!(constants()[0], ("DONE".to_string(), 0));
-    assert_eq!(constants()[1..21], ours[..]);
+    assert_eq!(constants()[1..22], ours[..]);
     for n in 0..=255 {
-        assert_eq!(Number::of(n).map(|number| number as u8), if (1..=20).contains(&n) { Some(n) } else { None });
+        assert_eq!(Number::of(n).map(|number| number as u8), if (1..=21).contains(&n) { Some(n) } else { None });
     }
 }
 
@@ -47,6 +47,7 @@ fn limits() {
     assert_eq!(named("QUOTA_SUM"), Some(drumcallisto::QUOTA_SUM as usize));
     assert_eq!(named("NUMBER_LENGTH"), Some(drumcallisto::NUMBER_LENGTH));
     assert_eq!(named("INTERCHANGE_LENGTH"), Some(drumcallisto::INTERCHANGE_LENGTH));
+    assert_eq!(named("STORE_LENGTH"), Some(drumcallisto::STORE_LENGTH));
 }
 
 #[test]

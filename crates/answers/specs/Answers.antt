@@ -91,6 +91,10 @@ badCalendar = refused 19 0
 abbrev pub noWeekdayForm : {A : Type 0} → Answer A
 noWeekdayForm = refused 20 0
 
+-- 21 (document 02, A1): "segment over 4,096 bytes with its terminator", "at its first byte"
+abbrev pub segmentTooLong : {A : Type 0} → ℕ → Answer A
+segmentTooLong at = refused 21 at
+
 -- the two columns of the table: 0 is done, and has no position
 abbrev pub number : {A : Type 0} → Answer A → ℕ
 number (done a) = 0

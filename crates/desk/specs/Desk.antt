@@ -6,6 +6,8 @@ use Rattle.dates.specs.declared.Date.{Date}
 use Rattle.dates.specs.declared.Made.{Made}
 use Rattle.dates.specs.declared.Made.the-variants.{Valid, NoDate}
 use Rattle.dates.specs.Dates.{date, madeOf}
+use Rattle.interchange.specs.Reader.{Verdict}
+use Rattle.parcels.specs.Calls.{Told}
 use Rattle.desk.specs.declared.Reply.{Reply}
 use Rattle.desk.specs.declared.calendars.Day.{Day}
 
@@ -13,6 +15,14 @@ use Rattle.desk.specs.declared.calendars.Day.{Day}
 abbrev pub replyOf : Answer ℕ → Reply
 replyOf (done n) = record { number = 0; position = 0; value = n }
 replyOf (refused number position) = record { number = number; position = position; value = 0 }
+
+-- a parcel: how many rows it brought, beside a refusal too
+abbrev pub parcelReply : ℕ → Verdict → Reply
+parcelReply n (done _) = record { number = 0; position = 0; value = n }
+parcelReply n (refused number position) = record { number = number; position = position; value = n }
+
+abbrev pub toldReply : Told → Reply
+toldReply t = parcelReply (t .rows) (t .verdict)
 
 -- a date as C gives it: any three numbers; where they are no date, 0000-00-00, which is none either
 abbrev pub orNone : Made → Date

@@ -1,5 +1,6 @@
 //! What C calls: numbers and slices only (include/drumcallisto.h). A slice is a pointer and, after it, a length.
 
+pub mod arriving;
 pub mod calendars;
 pub mod reading;
 pub mod registers;
@@ -12,7 +13,7 @@ ghost use Rattle.interchange.specs.Reader.{readingOf, readAnswer, outcomeAnswer
 ghost use Rattle.answers.specs.Answers as answer;
 ghost use Rattle.desk.specs.Desk.{replyOf};
 
-/// What a call comes to. Number 0 is done, with a value; any other number is a refusal, with its position and no value.
+/// What a call comes to. Number 0 is done, with a value; any other number is a refusal, with its position and no value, but for the rows that a parcel brought before it.
 #[repr(C)]
 pub struct Reply {
     pub number: u8,

@@ -84,6 +84,29 @@ unfolding numbers
 length-numbers [] = refl
 length-numbers (r ∷ l) = let h = length-numbers l in omega arith
 
+pub numbers-append : (k l : List Row) → numbers (k ++ l) ≡ numbers k ++ numbers l
+unfolding numbers
+numbers-append [] l = refl
+numbers-append (r ∷ k) l = ap (λ (x : List ℕ). rowNumbers r ++ x) (numbers-append k l) ∙ sym (append-assoc (rowNumbers r) (numbers k) (numbers l))
+
+-- a row that is put is its numbers put
+pub put-row-is : (l : List ℕ) (i : ℕ) (r : Row) → i + 2 < length l → putRow l i r ≡ putAt l i (rowNumbers r)
+unfolding putRow
+put-row-is l i r h =
+    let a = r .offset in
+    let b = r .group in
+    let c = r .tag in
+    let l₁ = set l i a in
+    let l₂ = set l₁ (i + 1) b in
+    let e₁ = length-set l i a in
+    let e₂ = length-set l₁ (i + 1) b in
+    let z : i + 2 ≡ i + 1 + 1 = omega arith in
+    sym (put-none (set l₂ (i + 2) c) (i + 2 + 1))
+    ∙ put-step l₂ (i + 2) c [] (omega arith)
+    ∙ ap (λ (x : ℕ). putAt l₂ x (c ∷ [])) z
+    ∙ put-step l₁ (i + 1) b (c ∷ []) (omega arith)
+    ∙ put-step l i a (b ∷ c ∷ []) (omega arith)
+
 -- a copy in place: what is copied, then what is still to be
 module _ (from : List ℕ) (n at : ℕ) where
   pub copy-start : (to : List ℕ) → putAt to (at + 0) (take (n - 0) (drop 0 from)) ≡ putAt to at (take n from)

@@ -6,9 +6,12 @@ pub mod Offsets
 pub mod Fuel
 pub mod Gather
 pub mod Moves
+pub mod Passes
 pub mod Chunks
 pub mod Heads
 pub mod Packs
 pub mod Led
 pub mod Runs
+pub mod Stretch
+pub mod Stretches
 pub mod Answers

@@ -38,7 +38,7 @@ use Rattle.interchange.specs.declared.turn.Turn.{Turn}
 use Rattle.interchange.specs.declared.turn.Turn.the-variants.{On, Stop}
 use Rattle.steps.specs.State.{oneMore}
 use Rattle.steps.specs.Step.{Taken, taken, rowOf, openedStep, opening, headed, closing, betweenMessages, trailing, judged, placed, settledStep, insideMessage, stepBy, segmentStep}
-use Rattle.interchange.specs.Reader.{dialogueOf, headedReference, turnStep, turnScan, turnAt}
+use Rattle.interchange.specs.Reader.{dialogueOf, headedReference, turnStep, turnWith, turnAt}
 
 -- a step's row, if it has one, bears the offset
 abbrev RowAt : ℕ → Answer Taken → Type 0
@@ -104,17 +104,33 @@ module _ (st : State) (r : Row) (n : ℕ) where
       (ap (λ (x : Row). x .offset) (sym same) ∙ o, cc)
   on-is (refused number position) at m o e = absurd (stop≢on (record { number = number; position = position }) st r n e)
 
-  on-from : (t : Table) (s : List ℕ) (from : State) (at : ℕ) (x : Scanned) → segmentAt s at ≡ x → turnScan t s from at x ≡ On st r n
+  on-from : (t : Table) (s dialogue reference : List ℕ) (from : State) (at : ℕ) (x : Scanned) → segmentAt s at ≡ x → turnWith t s dialogue reference from at x ≡ On st r n
       → (r .offset ≡ at) × (at + 4 ≤ n) × (n ≤ length s)
-  on-from t s from at (End e) h q =
-      let w = on-is (segmentStep t from at (bodyAt s at) (dialogueOf s from) (headedReference s from)) at (e + 1) (step-row from at (bodyAt s at) t (from .phase) (dialogueOf s from) (headedReference s from)) q in
+  on-from t s d q from at (End e) h k =
+      let w = on-is (segmentStep t from at (bodyAt s at) d q) at (e + 1) (step-row from at (bodyAt s at) t (from .phase) d q) k in
       let b = end-within s at e h in
       (w .0, omega arith, omega arith)
-  on-from t s from at (NotPermitted i) h q = absurd (stop≢on (refusalOf at (NotPermitted i)) st r n q)
-  on-from t s from at Unended h q = absurd (stop≢on (refusalOf at Unended) st r n q)
-  on-from t s from at Malformed h q = absurd (stop≢on (refusalOf at Malformed) st r n q)
+  on-from t s d q from at (NotPermitted i) h k = absurd (stop≢on (refusalOf at (NotPermitted i)) st r n k)
+  on-from t s d q from at Unended h k = absurd (stop≢on (refusalOf at Unended) st r n k)
+  on-from t s d q from at Malformed h k = absurd (stop≢on (refusalOf at Malformed) st r n k)
+
+  -- the segment is whole
+  end-from : (t : Table) (s dialogue reference : List ℕ) (from : State) (at : ℕ) (x : Scanned) → segmentAt s at ≡ x → turnWith t s dialogue reference from at x ≡ On st r n
+      → (e : ℕ) × (segmentAt s at ≡ End e)
+  end-from t s d q from at (End e) h k = (e, h)
+  end-from t s d q from at (NotPermitted i) h k = absurd (stop≢on (refusalOf at (NotPermitted i)) st r n k)
+  end-from t s d q from at Unended h k = absurd (stop≢on (refusalOf at Unended) st r n k)
+  end-from t s d q from at Malformed h k = absurd (stop≢on (refusalOf at Malformed) st r n k)
+
+module _ (t : Table) (s dialogue reference : List ℕ) (from : State) (at : ℕ) (st : State) (r : Row) (n : ℕ)
+    (q : turnWith t s dialogue reference from at (segmentAt s at) ≡ On st r n) where
+  pub with-on : (r .offset ≡ at) × (at + 4 ≤ n) × (n ≤ length s)
+  with-on = on-from st r n t s dialogue reference from at (segmentAt s at) refl q
+
+  pub with-end : (e : ℕ) × (segmentAt s at ≡ End e)
+  with-end = end-from st r n t s dialogue reference from at (segmentAt s at) refl q
 
 pub turn-on : (t : Table) (s : List ℕ) (from : State) (at : ℕ) (st : State) (r : Row) (n : ℕ) → turnAt t s from at ≡ On st r n
     → (r .offset ≡ at) × (at + 4 ≤ n) × (n ≤ length s)
 unfolding turnAt
-turn-on t s from at st r n q = on-from st r n t s from at (segmentAt s at) refl q
+turn-on t s from at st r n q = with-on t s (dialogueOf s from) (headedReference s from) from at st r n q

@@ -67,11 +67,15 @@ abbrev pub turnStep : ℕ → Answer Taken → Turn
 turnStep next (done (taken st r)) = On st r next
 turnStep next (refused number position) = Stop (record { number = number; position = position })
 
+-- dialogue and reference are the UIB's and the UIH's as written
+abbrev pub turnWith : Table → List ℕ → List ℕ → List ℕ → State → ℕ → Scanned → Turn
+turnWith t s dialogue reference st at (End e) = turnStep (e + 1) (segmentStep t st at (bodyAt s at) dialogue reference)
+turnWith t s dialogue reference st at (NotPermitted i) = Stop (refusalOf at (NotPermitted i))
+turnWith t s dialogue reference st at Unended = Stop (refusalOf at Unended)
+turnWith t s dialogue reference st at Malformed = Stop (refusalOf at Malformed)
+
 abbrev pub turnScan : Table → List ℕ → State → ℕ → Scanned → Turn
-turnScan t s st at (End e) = turnStep (e + 1) (segmentStep t st at (bodyAt s at) (dialogueOf s st) (headedReference s st))
-turnScan t s st at (NotPermitted i) = Stop (refusalOf at (NotPermitted i))
-turnScan t s st at Unended = Stop (refusalOf at Unended)
-turnScan t s st at Malformed = Stop (refusalOf at Malformed)
+turnScan t s st at x = turnWith t s (dialogueOf s st) (headedReference s st) st at x
 
 unfoldable pub turnAt : Table → List ℕ → State → ℕ → Turn
 turnAt t s st at = turnScan t s st at (segmentAt s at)

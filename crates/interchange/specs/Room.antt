@@ -5,6 +5,9 @@ use Prim.Native.Nat.{ℕ}
 abbrev pub roomSize : ℕ
 roomSize = 384
 
+abbrev pub roomRows : ℕ
+roomRows = 128
+
 -- from so many numbers on there is no place for a row more
 abbrev pub fullFrom : ℕ
 fullFrom = 382

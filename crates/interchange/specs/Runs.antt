@@ -12,7 +12,7 @@ use Rattle.laws.specs.Choice.{pick, both, either, both-left, both-right, choose
 use Rattle.laws.specs.Sweep.{below, at}
 use Rattle.syntax.specs.declared.segment.Scanned.the-variants.{End}
 use Rattle.syntax.specs.Segment.{tagNumber, bodyAt, segmentAt}
-use Rattle.syntax.specs.Ends.{end-tag, end-within}
+use Rattle.syntax.specs.Ends.{end-tag}
 use Rattle.placing.specs.declared.Place.{Place}
 use Rattle.placing.specs.declared.Stepped.the-variants.{Placed}
 use Rattle.messages.specs.declared.MessageType.{MessageType}
@@ -43,15 +43,12 @@ use Rattle.steps.specs.declared.state.Phase.the-variants.{Opening, Between, Ins
 use Rattle.steps.specs.declared.state.State.{State}
 use Rattle.steps.specs.declared.state.Row.{Row}
 use Rattle.answers.specs.Answers.{done}
-use Rattle.interchange.specs.declared.turn.Turn.the-variants.{On}
 use Rattle.steps.specs.State.{oneMore, onwardState, movedState}
 use Rattle.steps.specs.Step.{taken, rowOf, judged, placed, stepBy, segmentStep}
-use Rattle.interchange.specs.Reader.{isClosed, dialogueOf, headedReference, turnStep, turnAt}
 use Rattle.interchange.specs.Heads.{capitalTag}
 use Rattle.interchange.specs.Laws.{putRow}
 use Rattle.steps.specs.Ways.{inside-placed}
-use Rattle.interchange.specs.Turns.{turn-is}
-use Rattle.interchange.specs.Moves.{Moved, moved-none, moved-turn, moved-both, moved-as}
+use Rattle.interchange.specs.Passes.{rowWith, Inner, Passed, passed-none, passed-more, passed-as}
 
 abbrev pub isInside : Phase → Bool
 isInside Opening = false
@@ -87,24 +84,19 @@ module _ (s : List ℕ) (st : State) (at e : ℕ) (h : segmentAt s at ≡ End e)
   abbrev table : Table
   table = tableOf (st .message)
 
-  step-inside : (dialogue reference : List ℕ) → stepOf table (st .place) (tagNumber body) ≡ Placed p → (tagNumber body ≡ UIT → ⊥)
+  step-inside : (offset : ℕ) (dialogue reference : List ℕ) → stepOf table (st .place) (tagNumber body) ≡ Placed p → (tagNumber body ≡ UIT → ⊥)
       → goodPart (st .message) (tagNumber body) (groupOf table p) body ≡ true
-      → segmentStep tables st at body dialogue reference ≡ done (taken (onwardState st p) (rowOf at body (groupOf table p)))
+      → segmentStep tables st offset body dialogue reference ≡ done (taken (onwardState st p) (rowOf offset body (groupOf table p)))
   unfolding stepBy
-  step-inside dialogue reference x u q =
-      ap (λ (f : Phase). stepBy tables f st at body dialogue reference) i
-      ∙ sym (inside-placed st at body table reference p x)
-      ∙ placed-good st at body reference p (groupOf table p) u q
+  step-inside offset dialogue reference x u q =
+      ap (λ (f : Phase). stepBy tables f st offset body dialogue reference) i
+      ∙ sym (inside-placed st offset body table reference p x)
+      ∙ placed-good st offset body reference p (groupOf table p) u q
 
-  pub turn-inside : stepOf table (st .place) (tagNumber body) ≡ Placed p → (tagNumber body ≡ UIT → ⊥)
+  inner-is : stepOf table (st .place) (tagNumber body) ≡ Placed p → (tagNumber body ≡ UIT → ⊥)
       → goodPart (st .message) (tagNumber body) (groupOf table p) body ≡ true
-      → turnAt tables s st at ≡ On (onwardState st p) (rowOf at body (groupOf table p)) (e + 1)
-  turn-inside x u q =
-      sym (turn-is tables s st at (End e) h)
-      ∙ ap (turnStep (e + 1)) (step-inside (dialogueOf s st) (headedReference s st) x u q)
-
-open-inside : (f : Phase) → f ≡ Inside → isClosed f ≡ false
-open-inside f e = ap isClosed e
+      → Inner s st at (onwardState st p) (groupOf table p) (tagNumber body) e
+  inner-is x u q = record { from = i; to = refl; whole = h; step = λ offset dialogue reference. step-inside offset dialogue reference x u q }
 
 onward-moved : (st : State) (p q : Place) (k : ℕ) → st .phase ≡ Inside → onwardState (movedState st p k) q ≡ movedState st q (oneMore k)
 onward-moved st p q k i = rw i
@@ -115,9 +107,6 @@ pub own-given : (all given : Table) (hinted words : List (List ℕ)) (message kn
 own-given all given hinted words message known q e h f g = rw q (f ∙ ap (λ x. tableIn x known) e, g ∙ ap (λ x. hintsIn x known) h)
 
 -- the row of a segment that is placed
-abbrev pub rowWith : ℕ → ℕ → ℕ → Row
-rowWith at group tag = record { offset = at; group = group; tag = tag }
-
 abbrev pub placedRow : Table → ℕ → ℕ → Row
 placedRow t to at = rowWith at (groupAt t to) (tagAt t to)
 
@@ -148,15 +137,15 @@ counted-step k first n h =
     rw z (sym (counted-more k ((n - first) / 3)))
 
 -- no segment yet
-pub moved-start : (s : List ℕ) (st : State) (at n : ℕ) (room : List ℕ) (q : Place) → q ≡ st .place
-    → Moved s st at n room (movedState st q (countedOf (st .segments) ((n - n) / 3))) at n room
-moved-start s st at n room q e =
+pub passed-start : (s : List ℕ) (st : State) (at n : ℕ) (room : List ℕ) → n ≤ length room → (q : Place) → q ≡ st .place
+    → Passed s st at n room (movedState st q (countedOf (st .segments) ((n - n) / 3))) at n room
+passed-start s st at n room l q e =
     let z : (n - n) / 3 ≡ 0 = omega arith in
-    rw (e, z, counted-none (st .segments)) (moved-none s st at n room)
+    rw (e, z, counted-none (st .segments)) (passed-none s st at n room l)
 
-pub moved-here : (s : List ℕ) (st : State) (at n : ℕ) (room : List ℕ) (q : Place) (k at₁ n₁ : ℕ) → q ≡ st .place → k ≡ st .segments → at₁ ≡ at → n₁ ≡ n
-    → Moved s st at n room (movedState st q k) at₁ n₁ room
-moved-here s st at n room q k at₁ n₁ e f g h = rw (e, f, g, h) (moved-none s st at n room)
+pub passed-here : (s : List ℕ) (st : State) (at n : ℕ) (room : List ℕ) → n ≤ length room → (q : Place) (k at₁ n₁ : ℕ) → q ≡ st .place → k ≡ st .segments → at₁ ≡ at → n₁ ≡ n
+    → Passed s st at n room (movedState st q k) at₁ n₁ room
+passed-here s st at n room l q k at₁ n₁ e f g h = rw (e, f, g, h) (passed-none s st at n room l)
 
 -- as many rows of hints as of the table
 own-length : (message : MessageType) → length (hintsOf message) ≡ length (tableOf message)
@@ -242,34 +231,30 @@ onward-capitals message t e row n tag to m o =
 
 -- one segment more of the message, its row put behind those that stand
 module _ (s : List ℕ) (from : State) (start n₀ : ℕ) (room₀ : List ℕ) (st : State) (i : st .phase ≡ Inside) where
-  pub moved-inside : (p : Place) (k at n : ℕ) (room : List ℕ) → Moved s from start n₀ room₀ (movedState st p k) at n room
+  pub passed-inside : (p : Place) (k at n : ℕ) (room : List ℕ) → Passed s from start n₀ room₀ (movedState st p k) at n room
       → (e : ℕ) → segmentAt s at ≡ End e → (t : Table) → t ≡ tableOf (st .message)
       → (tag : ℕ) → tag ≡ tagNumber (drop at s) → (tag ≡ UIT → ⊥) → (q : Place) → stepOf t p tag ≡ Placed q
       → (group : ℕ) → group ≡ groupOf t q → goodPart (st .message) tag group (bodyAt s at) ≡ true
       → n + 2 < length room → (put : List ℕ) → put ≡ putRow room n (record { offset = at; group = group; tag = tag })
-      → Moved s from start n₀ room₀ (movedState st q (oneMore k)) (e + 1) (n + 3) put
-  moved-inside p k at n room m e h t x tag y u q z group w o r put b =
-      let l = end-within s at e h in
+      → Passed s from start n₀ room₀ (movedState st q (oneMore k)) (e + 1) (n + 3) put
+  passed-inside p k at n room m e h t x tag y u q z group w o r put b =
       let g : tag ≡ tagNumber (bodyAt s at) = y ∙ end-tag s at e h in
-      let a : at < length s = omega arith in
-      let v = turn-inside s (movedState st p k) at e h i q (rw (x, g) at z) (λ d. u (g ∙ d)) (rw (g, w, x) at o) in
-      let d = moved-turn s (movedState st p k) at n room (onwardState (movedState st p k) q) (rowOf at (bodyAt s at) (groupOf (tableOf (st .message)) q)) (e + 1)
-      (open-inside (st .phase) i) a v r in
-      moved-both s m (moved-as s (sym (onward-moved st p q k i)) (b ∙ rw (w, x, g)) d)
+      let v = inner-is s (movedState st p k) at e h i q (rw (x, g) at z) (λ d. u (g ∙ d)) (rw (g, w, x) at o) in
+      passed-as s (sym (onward-moved st p q k i)) refl (passed-more s m v r put (b ∙ rw (w, x, g)))
 
   -- the same by a place in two numbers, which a hint moves on
-  pub moved-told : (t : Table) → t ≡ tableOf (st .message) → (row counts k at n : ℕ) (room : List ℕ) → Moved s from start n₀ room₀ (movedState st (placeOf row counts) k) at n room
+  pub passed-told : (t : Table) → t ≡ tableOf (st .message) → (row counts k at n : ℕ) (room : List ℕ) → Passed s from start n₀ room₀ (movedState st (placeOf row counts) k) at n room
       → (e : ℕ) → segmentAt s at ≡ End e → (tag : ℕ) → tag ≡ tagNumber (drop at s) → (to next : ℕ) → Onward t row counts tag to next
       → (period : ℕ) → period ≡ periodRow (st .message) → pick (eqb to period) (isGood (periodOf (bodyAt s at))) true ≡ true
       → (group : ℕ) → group ≡ groupAt t to
       → n + 2 < length room → (put : List ℕ) → put ≡ putRow room n (record { offset = at; group = group; tag = tag })
-      → Moved s from start n₀ room₀ (movedState st (placeOf to next) (oneMore k)) (e + 1) (n + 3) put
-  moved-told t x row counts k at n room m e h tag y to next o period f g group w r put b =
+      → Passed s from start n₀ room₀ (movedState st (placeOf to next) (oneMore k)) (e + 1) (n + 3) put
+  passed-told t x row counts k at n room m e h tag y to next o period f g group w r put b =
       let z = o .step in
       let l = placed-row t tag (placeOf row counts) (placeOf to next) z in
       let a = placed-tag t tag (placeOf row counts) (placeOf to next) z in
       let v = row-good (st .message) to (subst (λ u. to < length u) x l) (bodyAt s at) (subst (λ u. pick (eqb to u) (isGood (periodOf (bodyAt s at))) true ≡ true) f g) in
       let c : goodPart (st .message) (tagAt t to) (groupAt t to) (bodyAt s at) ≡ true = subst (λ u. goodPart (st .message) (tagAt u to) (groupAt u to) (bodyAt s at) ≡ true) (sym x) v in
-      moved-inside (placeOf row counts) k at n room m e h t x tag y (o .inside) (placeOf to next) z group w
+      passed-inside (placeOf row counts) k at n room m e h t x tag y (o .inside) (placeOf to next) z group w
       (subst (λ u. goodPart (st .message) u group (bodyAt s at) ≡ true) a (subst (λ u. goodPart (st .message) (tagAt t to) u (bodyAt s at) ≡ true) (sym w) c))
       r put b

@@ -12,8 +12,7 @@ use Rattle.parts.specs.declared.Part.{Part}
 use Rattle.parts.specs.Places.{bytesOf}
 use Rattle.placing.specs.Table.{Table}
 use Rattle.steps.specs.declared.state.State.{State}
-use Rattle.steps.specs.Step.{segmentStep}
-use Rattle.interchange.specs.Reader.{turnScan, turnAt}
+use Rattle.interchange.specs.Reader.{dialogueOf, headedReference, turnWith, turnScan, turnAt}
 
 -- what is lent past the input's end is empty
 pub lent-past : (s : List ℕ) (at : ℕ) (p : Part) → length s < at → [] ≡ bytesOf (drop at s) p
@@ -24,7 +23,12 @@ pub turn-is : (t : Table) (s : List ℕ) (st : State) (at : ℕ) (x : Scanned) �
 unfolding turnAt
 turn-is t s st at x e = ap (turnScan t s st at) (sym e)
 
--- the step depends on what is lent alone
-pub step-same : (t : Table) (st : State) (at : ℕ) {g h d e r q : List ℕ} → g ≡ h → d ≡ e → r ≡ q → segmentStep t st at g d r ≡ segmentStep t st at h e q
-step-same t st at {g} {h} {d} {e} {r} {q} a b c =
-    ap (λ (x : List ℕ). segmentStep t st at x d r) a ∙ ap (λ (x : List ℕ). segmentStep t st at h x r) b ∙ ap (segmentStep t st at h e) c
+pub with-is : (t : Table) (s d r : List ℕ) (st : State) (at : ℕ) (x : Scanned) → segmentAt s at ≡ x → turnWith t s d r st at x ≡ turnWith t s d r st at (segmentAt s at)
+with-is t s d r st at x e = ap (turnWith t s d r st at) (sym e)
+
+-- with its own references lent it is the turn
+pub turn-lent : (t : Table) (s d r : List ℕ) (st : State) (at : ℕ) → d ≡ dialogueOf s st → r ≡ headedReference s st → turnWith t s d r st at (segmentAt s at) ≡ turnAt t s st at
+unfolding turnAt
+turn-lent t s d r st at e f =
+    ap (λ (x : List ℕ). turnWith t s x r st at (segmentAt s at)) e
+    ∙ ap (λ (x : List ℕ). turnWith t s (dialogueOf s st) x st at (segmentAt s at)) f

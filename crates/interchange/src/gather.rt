@@ -25,7 +25,7 @@ ghost use Rattle.hints.specs.Hints as hinting;
 ghost use Rattle.steps.specs.State.{movedState};
 ghost use Rattle.interchange.specs.Reader.{isClosed};
 ghost use Rattle.interchange.specs.Room.{roomSize};
-ghost use Rattle.interchange.specs.Moves.{Moved};
+ghost use Rattle.interchange.specs.Passes.{Passed};
 ghost use Rattle.interchange.specs.Chunks.{gatheredBy, endedAt, Chunk};
 
 // The row of the period that is read, in the table of SKDUPD, and a row that no table has.
@@ -55,8 +55,8 @@ fn ended(phase: Phase, numbers: usize, size: usize) -> Gathered
     })
 }
 
-// Where a message stands, its segments that only move its place on; elsewhere none.
-fn run_on(
+/// Where a message stands, its segments that only move its place on; elsewhere none.
+pub(crate) fn run_on(
     s: &[u8],
     from: Standing,
     tables: &[[u32; 8]],
@@ -64,7 +64,7 @@ fn run_on(
     room: &mut [u32],
 ) -> Ran
     requires { ⌜ (now tables ≡ placing.tables) × (now hints ≡ hinting.hints) × (length (now s) ≤ 60000) × (length (now room) ≡ roomSize) × (from .numbers ≤ roomSize) ⌝ }
-    ensures { λ r. ⌜ Moved (now (s .entry)) (from .state) (from .at) (from .numbers) (now (room .entry)) (movedState (from .state) (r .place) (r .segments)) (r .at) (r .numbers) (now (room .exit)) × (r .numbers ≤ roomSize) ⌝ }
+    ensures { λ r. ⌜ Passed (now (s .entry)) (from .state) (from .at) (from .numbers) (now (room .entry)) (movedState (from .state) (r .place) (r .segments)) (r .at) (r .numbers) (now (room .exit)) ⌝ }
 {
     let st = from.state;
     let phase = st.phase;

@@ -8,4 +8,7 @@ pub mod reader;
 mod rows;
 mod run;
 mod standing;
-mod turn;
+pub mod stretch;
+pub mod turn;
+
+pub use run::counted;

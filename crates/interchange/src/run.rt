@@ -21,7 +21,7 @@ ghost use Rattle.placing.specs.Tables.{tableOf};
 ghost use Rattle.hints.specs.Hints.{hintsOf};
 ghost use Rattle.steps.specs.State.{movedState};
 ghost use Rattle.interchange.specs.Room.{roomSize};
-ghost use Rattle.interchange.specs.Moves.{Moved};
+ghost use Rattle.interchange.specs.Passes.{Passed};
 ghost use Rattle.interchange.specs.Runs.{periodRow, countedOf, placedRow};
 
 /// The numbers of a room: 128 rows, three numbers each.
@@ -67,8 +67,8 @@ pub(crate) fn stay(from: Standing) -> Ran
     }
 }
 
-// So many segments more.
-fn counted(segments: usize, more: usize) -> usize
+/// So many segments more, up to 65,535, which no interchange reaches.
+pub fn counted(segments: usize, more: usize) -> usize
     ensures { λ r. ⌜ r ≡ countedOf segments more ⌝ }
 {
     if 65535 <= segments {
@@ -112,7 +112,7 @@ pub(crate) fn run(
     period: usize,
 ) -> Ran
     requires { ⌜ (from .state .phase ≡ Phase.Inside) × (now table ≡ tableOf (from .state .message)) × (now hints ≡ hintsOf (from .state .message)) × (period ≡ periodRow (from .state .message)) × (length (now s) ≤ 60000) × (length (now room) ≡ roomSize) × (from .numbers ≤ roomSize) ⌝ }
-    ensures { λ r. ⌜ Moved (now (s .entry)) (from .state) (from .at) (from .numbers) (now (room .entry)) (movedState (from .state) (r .place) (r .segments)) (r .at) (r .numbers) (now (room .exit)) × (r .numbers ≤ roomSize) ⌝ }
+    ensures { λ r. ⌜ Passed (now (s .entry)) (from .state) (from .at) (from .numbers) (now (room .entry)) (movedState (from .state) (r .place) (r .segments)) (r .at) (r .numbers) (now (room .exit)) ⌝ }
 {
     let st = from.state;
     let reached = st.place;

@@ -10,15 +10,14 @@ use syntax::segment::Refusal;
 use syntax::segment::Scanned;
 use syntax::segment::read_segment;
 ghost use mathlib.Core.Path.{_≡_};
-ghost use Prim.Native.Nat.{_+_};
 ghost use lib.ListN.{drop};
-ghost use Rattle.syntax.specs.Segment.{bodyAt, segmentAt};
+ghost use Rattle.syntax.specs.Segment.{segmentAt};
 ghost use Rattle.parts.specs.Places.{bytesOf};
-ghost use Rattle.steps.specs.Step.{segmentStep};
-ghost use Rattle.interchange.specs.Reader.{dialogueOf, headedReference, turnStep, turnAt};
+ghost use Rattle.steps.specs.Step.{stepAnswer};
+ghost use Rattle.interchange.specs.Reader.{turnStep, turnWith, turnAt};
 
 /// What a turn comes to.
-pub(crate) enum Turn {
+pub enum Turn {
     /// The next state, the segment's row, and the offset of the next segment.
     On(State, Row, usize),
     Stop(Refusal),
@@ -34,18 +33,37 @@ fn lent(s: &[u8], at: usize, part: Part) -> &[u8]
     bytes_of(&s[at..], part)
 }
 
-// The step of a whole segment.
-fn take_step(s: &[u8], st: State, at: usize, end: usize, tables: &[[u32; 8]]) -> Turn
-    requires { ⌜ segmentAt (now s) at ≡ Scanned.End end ⌝ }
-    ensures { λ r. ⌜ r ≡ turnStep (end + 1) (segmentStep (now (tables .entry)) st at (bodyAt (now (s .entry)) at) (dialogueOf (now (s .entry)) st) (headedReference (now (s .entry)) st)) ⌝ }
+// What the step of a segment comes to; the next segment stands at an offset.
+fn turned(step: Step, then: usize) -> Turn
+    ensures { λ r. ⌜ r ≡ turnStep then (stepAnswer step) ⌝ }
 {
-    let dialogue = st.dialogue;
-    let reference = st.reference;
-    let opening = lent(s, st.opened_at, dialogue);
-    let heading = lent(s, st.headed_at, reference);
-    match step_segment(st, at, &s[at..end], opening, heading, tables) {
-        Step::Next(next, row) => Turn::On(next, row, end + 1),
+    match step {
+        Step::Next(next, row) => Turn::On(next, row, then),
         Step::Refused(refusal) => Turn::Stop(refusal),
+    }
+}
+
+/// The step of the segment at an offset, or what is wrong with it, for a reader whose earlier bytes are gone: the references of its UIB and of its
+/// message's UIH are lent.
+pub fn turn_with(
+    s: &[u8],
+    st: State,
+    at: usize,
+    dialogue: &[u8],
+    reference: &[u8],
+    tables: &[[u32; 8]],
+) -> Turn
+    ensures { λ r. ⌜ r ≡ turnWith (now (tables .entry)) (now (s .entry)) (now (dialogue .entry)) (now (reference .entry)) st at (segmentAt (now (s .entry)) at) ⌝ }
+{
+    let found = read_segment(s, at);
+    match found {
+        Scanned::End(end) => {
+            let step = step_segment(st, at, &s[at..end], dialogue, reference, tables);
+            turned(step, end + 1)
+        }
+        Scanned::NotPermitted(_) => Turn::Stop(found.refusal(at)),
+        Scanned::Unended => Turn::Stop(found.refusal(at)),
+        Scanned::Malformed => Turn::Stop(found.refusal(at)),
     }
 }
 
@@ -53,11 +71,9 @@ fn take_step(s: &[u8], st: State, at: usize, end: usize, tables: &[[u32; 8]]) ->
 pub(crate) fn take_turn(s: &[u8], st: State, at: usize, tables: &[[u32; 8]]) -> Turn
     ensures { λ r. ⌜ r ≡ turnAt (now (tables .entry)) (now (s .entry)) st at ⌝ }
 {
-    let found = read_segment(s, at);
-    match found {
-        Scanned::End(end) => take_step(s, st, at, end, tables),
-        Scanned::NotPermitted(_) => Turn::Stop(found.refusal(at)),
-        Scanned::Unended => Turn::Stop(found.refusal(at)),
-        Scanned::Malformed => Turn::Stop(found.refusal(at)),
-    }
+    let dialogue = st.dialogue;
+    let reference = st.reference;
+    let opening = lent(s, st.opened_at, dialogue);
+    let heading = lent(s, st.headed_at, reference);
+    turn_with(s, st, at, opening, heading, tables)
 }

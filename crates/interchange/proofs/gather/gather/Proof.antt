@@ -29,6 +29,7 @@ use Rattle.interchange.specs.Laws.{length-putRow, putRow}
 use Rattle.interchange.specs.Offsets.{turn-on}
 use Rattle.interchange.specs.Room.{roomSize}
 use Rattle.interchange.specs.Moves.{Moved, moved-none, moved-both, moved-turn, moved-as}
+use Rattle.interchange.specs.Passes.{passed-moved}
 use Rattle.interchange.specs.Chunks.{gatheredBy, endedAt, chunk-as, chunk-past, chunk-stop, chunk-ended, chunk-full}
 
 abbrev Inv-loop : tie.InvT-loop
@@ -46,7 +47,7 @@ module _ (l : tie.After-led Inv-loop μ-loop) where
   first = begun .before .before .before .before
 
   began : Moved (now (first .args .s)) (first .args .start) (first .args .from) 0 (now (first .args .room)) (l .led .result) (begun .run-on .result .at) (begun .run-on .result .numbers) (begun .run-on .last .1 .1 .1 .1 .0)
-  began = moved-as (now (first .args .s)) (l .led .ensures) refl (begun .run-on .ensures .0)
+  began = moved-as (now (first .args .s)) (l .led .ensures) refl (passed-moved (now (first .args .s)) (begun .run-on .ensures))
 
 -- where the loop stands
 module _ (o : tie.At-loop Inv-loop μ-loop) where
@@ -137,7 +138,9 @@ loop-holds : tie.Need-loop-holds Inv-loop μ-loop
 loop-holds c =
     let b = begun c in
     let a = first c .args in
-    (moved-none (now (a .s)) (c .led .result) (b .run-on .result .at) (b .run-on .result .numbers) (b .run-on .last .1 .1 .1 .1 .0), b .run-on .ensures .1, began c .within (first c .pre .4))
+    let f = b .run-on .ensures .fits in
+    let z = first c .pre .3 in
+    (moved-none (now (a .s)) (c .led .result) (b .run-on .result .at) (b .run-on .result .numbers) (b .run-on .last .1 .1 .1 .1 .0), omega arith, began c .within (first c .pre .4))
 
 ended-requires : tie.Need-ended-requires Inv-loop μ-loop
 ended-requires c κs = search needs
@@ -214,8 +217,7 @@ loop-less c =
     let r = c .before .before .before in
     let p = r .before .before .before .before in
     let e = r .run-on2 .ensures in
-    let o = e .0 .onward in
-    let n = e .1 in
+    let n = e .count in
     let l = (taken (known p)) .before .before .before .before .loop-test .taken in
     omega arith
 
@@ -225,8 +227,10 @@ loop-again c =
     let p = r .before .before .before .before in
     let h = here p in
     let e = r .run-on2 .ensures in
-    let m = moved-as (list h) (c .led2 .ensures) refl (moved-both (list h) (put-moved p) (e .0)) in
-    (moved-both (list h) (h .loop .inv .0) m, e .1, m .within (h .loop .inv .2))
+    let m = moved-as (list h) (c .led2 .ensures) refl (moved-both (list h) (put-moved p) (passed-moved (list h) e)) in
+    let f = e .fits in
+    let z = put-size p in
+    (moved-both (list h) (h .loop .inv .0) m, omega arith, m .within (h .loop .inv .2))
 
 enum-known-refusal : tie.Need-enum-known-refusal Inv-loop μ-loop
 enum-known-refusal c = search needs

@@ -13,7 +13,7 @@ use native.Mathlib.Omega.{arith}
 use borrow.Author.Tests.{not-false}
 use denote.Ref.{now}
 use Rattle.messages.specs.declared.MessageType.the-variants.{Skdupd, Tsdupd}
-use Rattle.interchange.specs.Runs.{inside-is, own-given, periodRow, moved-here}
+use Rattle.interchange.specs.Runs.{inside-is, own-given, periodRow, passed-here}
 
 is-inside-requires : tie.Need-is-inside-requires
 is-inside-requires c κs = search needs
@@ -28,7 +28,8 @@ returns c =
     let r = c .stay .result in
     let e = c .stay .ensures in
     let l = b .pre .4 in
-    (moved-here (now (a .s)) (a .from .state) (a .from .at) (a .from .numbers) (now (a .room)) (r .place) (r .segments) (r .at) (r .numbers) (e .0) (e .1) (e .2) (e .3), omega (arith, e .3))
+    let z = b .pre .3 in
+    passed-here (now (a .s)) (a .from .state) (a .from .at) (a .from .numbers) (now (a .room)) (omega arith) (r .place) (r .segments) (r .at) (r .numbers) (e .0) (e .1) (e .2) (e .3)
 
 enum-told : tie.Need-enum-told
 enum-told c = search needs

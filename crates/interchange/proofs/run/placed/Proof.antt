@@ -3,7 +3,7 @@ use mathlib.Core.Path.{_≡_, sym, ap₂}
 use native.Mathlib.Omega.{arith}
 use denote.Ref.{now}
 use Rattle.placing.specs.Walks.{entry-in}
-use Rattle.interchange.specs.Runs.{rowWith}
+use Rattle.interchange.specs.Passes.{rowWith}
 use Rattle.interchange.proofs.run.placed.Statement.{statement}
 use Rattle.interchange.proofs.run.placed.Tie as tie
 use Rattle.interchange.proofs.run.placed.Reads as reads

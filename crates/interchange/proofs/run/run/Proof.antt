@@ -29,13 +29,13 @@ use Rattle.hints.specs.Packing.{placeOf}
 use Rattle.steps.specs.State.{movedState}
 use Rattle.interchange.specs.Laws.{putRow}
 use Rattle.interchange.specs.Room.{roomSize}
-use Rattle.interchange.specs.Moves.{Moved, moved-as}
+use Rattle.interchange.specs.Passes.{rowWith, Passed, passed-as, passed-sized}
 use Rattle.interchange.specs.Led.{Tells, led-known}
-use Rattle.interchange.specs.Runs.{rowWith, countedOf, counted-step, moved-start, moved-here, own-both, own-few, onward-capitals, moved-told}
+use Rattle.interchange.specs.Runs.{countedOf, counted-step, passed-start, passed-here, own-both, own-few, onward-capitals, passed-told}
 
 abbrev Inv-loop : tie.InvT-loop
 Inv-loop s table hints room₀ period st last first row₀ counts₀ at₀ numbers₀ room row counts at numbers =
-    Moved s st at₀ numbers₀ room₀ (movedState st (placeOf row counts) (countedOf (st .segments) ((numbers - first) / 3))) at numbers room
+    Passed s st at₀ numbers₀ room₀ (movedState st (placeOf row counts) (countedOf (st .segments) ((numbers - first) / 3))) at numbers room
     × (numbers ≤ roomSize)
     × (first ≤ numbers)
     × (row < length hints)
@@ -60,7 +60,7 @@ module _ (o : tie.At-loop Inv-loop μ-loop) where
       own-both (a .from .state .message) (now (a .table)) (now (a .hints)) (start .pre .1) (start .pre .2)
 
   size : length (o .loop .room) ≡ roomSize
-  size = o .loop .inv .0 .sized ∙ start .pre .5
+  size = passed-sized list (o .loop .inv .0) ∙ start .pre .5
 
 -- where the segment led
 module _ (k : tie.After-to Inv-loop μ-loop) where
@@ -101,7 +101,8 @@ returns c =
     let r = c .stay .result in
     let e = c .stay .ensures in
     let l = b .pre .6 in
-    (moved-here (now (a .s)) (a .from .state) (a .from .at) (a .from .numbers) (now (a .room)) (r .place) (r .segments) (r .at) (r .numbers) (e .0) (e .1) (e .2) (e .3), omega (arith, e .3))
+    let z = b .pre .5 in
+    passed-here (now (a .s)) (a .from .state) (a .from .at) (a .from .numbers) (now (a .room)) (omega arith) (r .place) (r .segments) (r .at) (r .numbers) (e .0) (e .1) (e .2) (e .3)
 
 stay-requires-2 : tie.Need-stay-requires-2 Inv-loop μ-loop
 stay-requires-2 c κs = search needs
@@ -113,7 +114,8 @@ returns-2 c =
     let r = c .stay2 .result in
     let e = c .stay2 .ensures in
     let l = b .pre .6 in
-    (moved-here (now (a .s)) (a .from .state) (a .from .at) (a .from .numbers) (now (a .room)) (r .place) (r .segments) (r .at) (r .numbers) (e .0) (e .1) (e .2) (e .3), omega (arith, e .3))
+    let z = b .pre .5 in
+    passed-here (now (a .s)) (a .from .state) (a .from .at) (a .from .numbers) (now (a .room)) (omega arith) (r .place) (r .segments) (r .at) (r .numbers) (e .0) (e .1) (e .2) (e .3)
 
 sub-last : tie.Need-sub-last Inv-loop μ-loop
 sub-last c =
@@ -132,7 +134,9 @@ loop-holds c =
     let w = own-both (a .from .state .message) (now (a .table)) (now (a .hints)) (p .1) (p .2) .0 in
     let i = q .inside in
     let u = v .is-within .ensures (not-false (v .is-within .result) (c .before .before .if1 .left)) .1 in
-    (moved-start (now (a .s)) (a .from .state) (a .from .at) (a .from .numbers) (now (a .room)) (placeOf (r .row) (r .counts)) (q .same), p .6, omega arith, omega arith, q .stood, q .fits, u)
+    let z = p .5 in
+    let f = p .6 in
+    (passed-start (now (a .s)) (a .from .state) (a .from .at) (a .from .numbers) (now (a .room)) (omega arith) (placeOf (r .row) (r .counts)) (q .same), p .6, omega arith, omega arith, q .stood, q .fits, u)
 
 add-if3 : tie.Need-add-if3 Inv-loop μ-loop
 add-if3 c =
@@ -200,8 +204,8 @@ loop-again c =
     let p = start o .pre in
     let i = o .loop .inv in
     let e = within k .1 in (
-      moved-as (list o) (ap (movedState st (placeOf (to k) (next k))) (counted-step (st .segments) (a .from .numbers) (o .loop .numbers) (i .2))) refl
-          (moved-told (list o) st (a .from .at) (a .from .numbers) (now (a .room)) st (p .0) (table k) (p .1)
+      passed-as (list o) (ap (movedState st (placeOf (to k) (next k))) (counted-step (st .segments) (a .from .numbers) (o .loop .numbers) (i .2))) refl
+          (passed-told (list o) st (a .from .at) (a .from .numbers) (now (a .room)) st (p .0) (table k) (p .1)
           (o .loop .row) (o .loop .counts) (countedOf (st .segments) ((o .loop .numbers - a .from .numbers) / 3)) (o .loop .at) (o .loop .numbers) (o .loop .room) (i .0)
           (end k) (t .whole) (tagNumber (drop (o .loop .at) (list o))) refl (to k) (next k) (t .on)
           (a .period) (p .3) (t .good)
@@ -226,12 +230,12 @@ counted-requires : tie.Need-counted-requires Inv-loop μ-loop
 counted-requires c κs = search needs
 
 same-length : tie.Need-same-length Inv-loop μ-loop
-same-length c = c .before .before .before .loop .inv .0 .sized
+same-length c = passed-sized (list (c .before .before .before)) (c .before .before .before .loop .inv .0)
 
 returns-3 : tie.Need-returns-3 Inv-loop μ-loop
 returns-3 c =
     let i = c .before .before .before .loop .inv in
-    (moved-as (list (c .before .before .before)) (rw (c .before .unpack .ensures, c .counted .ensures)) refl (i .0), i .1)
+    passed-as (list (c .before .before .before)) (rw (c .before .unpack .ensures, c .counted .ensures)) refl (i .0)
 
 pub run-spec : {M : Type 1} → statement M
 run-spec =

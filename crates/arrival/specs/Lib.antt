@@ -1,0 +1,10 @@
+pub mod Arrived
+pub mod Alike
+pub mod Folded
+pub mod Passing
+pub mod Stretching
+pub mod Few
+pub mod Fits
+pub mod Fitting
+pub mod Agreeing
+pub mod Agreement

@@ -1,0 +1,14 @@
+pub mod Rows
+pub mod Parts
+pub mod Onward
+pub mod Passing
+pub mod Pieces
+pub mod Whole
+pub mod Calls
+pub mod OneSegment
+pub mod Stretches
+pub mod NextPiece
+pub mod Both
+pub mod Holding
+pub mod Advancing
+pub mod CallLaws
