@@ -33,7 +33,8 @@ use Rattle.arrival.specs.Arrived.{awaited, Stand, Brought, only, answere
 use Rattle.arrival.specs.Alike.{Also, alike-done, alike-refused, Kept, step-keeps}
 use Rattle.arrival.specs.Folded.{arrived-stays, lengthened, arrived-plain, arrived-ended}
 use Rattle.arrival.specs.Fits.{fitsOn, verdictOf}
-use Rattle.arrival.specs.Fitting.{first-first, first-all, first-unreleased, first-cut, first-again, fits-within, fits-ended, answer-ended}
+use Rattle.cuts.specs.Laws.{first-unreleased}
+use Rattle.arrival.specs.Fitting.{first-first, first-all, first-cut, first-again, fits-within, fits-ended, answer-ended}
 
 -- before a segment's first byte
 abbrev pub beforeSegment : State → ℕ → List ℕ → List ℕ → ℕ → Stand

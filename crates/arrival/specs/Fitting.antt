@@ -15,7 +15,6 @@ use Rattle.syntax.specs.Bytes.{terminator, releases, stands}
 use Rattle.syntax.specs.Pieces.{firstPiece}
 use Rattle.syntax.specs.Firsts.{first-take}
 use Rattle.syntax.specs.Segment.{bodyAnswer}
-use Rattle.cuts.specs.Cuts.{releasedAfter}
 use Rattle.arrival.specs.Fits.{fitsOn}
 
 stands-is : (r : Bool) (b : ℕ) → stands terminator r b ≡ true → (r ≡ false) × (b ≡ terminator)
@@ -33,14 +32,7 @@ first-first r (b ∷ l) =
 pub first-all : (r : Bool) (l : List ℕ) → length l ≤ length (firstPiece terminator r l) → firstPiece terminator r l ≡ l
 first-all r l h = first-take terminator r l ∙ take-all (length (firstPiece terminator r l)) l h
 
--- the first that stands: it is not released, it parts the text in two, and what is behind it does not matter to what is before it
-pub first-unreleased : (r : Bool) (l : List ℕ) → length (firstPiece terminator r l) < length l → releasedAfter r (firstPiece terminator r l) ≡ false
-unfolding firstPiece releasedAfter
-first-unreleased r [] h = absurd (not-suc-le-zero h)
-first-unreleased r (b ∷ l) h =
-    choose (stands terminator r b) (λ q. rw q (stands-is r b q .0))
-    (λ q. let g = rw q at h in rw q (first-unreleased (releases r b) l (omega arith)))
-
+-- the first that stands: it parts the text in two, and what is behind it does not matter to what is before it
 pub first-cut : (r : Bool) (l : List ℕ) → length (firstPiece terminator r l) < length l
     → l ≡ firstPiece terminator r l ++ (terminator ∷ drop (suc (length (firstPiece terminator r l))) l)
 unfolding firstPiece

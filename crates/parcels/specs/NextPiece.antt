@@ -19,7 +19,8 @@ use Rattle.interchange.specs.Runs.{isInside, inside-is}
 use Rattle.arrival.specs.Arrived as arrival
 use Rattle.arrival.specs.Arrived.{Stand, Brought, awaited, only, answered, arrivedBytes, awaitedByte, byteBy, followed, arrivedOn}
 use Rattle.arrival.specs.Folded.{lengthened, lengthened-none, arrived-append, arrived-plain, arrived-stays}
-use Rattle.arrival.specs.Fitting.{first-first, first-all, first-unreleased, first-cut}
+use Rattle.cuts.specs.Laws.{first-unreleased}
+use Rattle.arrival.specs.Fitting.{first-first, first-all, first-cut}
 use Rattle.parcel_store.specs.declared.Final.{Final}
 use Rattle.parcel_store.specs.declared.Final.the-variants.{Awaited, Accepted, Refused}
 use Rattle.parcel_store.specs.Store.{partSize, bodyPlace, finalBy, standOf}
