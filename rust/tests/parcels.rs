@@ -244,5 +244,5 @@ fn any_store() {
         accepted += usize::from(reading.finish().is_ok());
         let _ = (reading.finish(), reading.take(b"UIB'", &mut [0; 3]));
     }
-    assert!(accepted > 20, "{accepted}");
+    assert!(accepted > 5, "{accepted}");
 }

@@ -12,3 +12,5 @@ pub mod stretch;
 pub mod turn;
 
 pub use run::counted;
+pub use standing::is_closed;
+pub use standing::is_inside;

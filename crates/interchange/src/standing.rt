@@ -15,7 +15,8 @@ pub(crate) struct Standing {
     pub numbers: usize,
 }
 
-pub(crate) fn is_closed(phase: Phase) -> bool
+/// Whether nothing may come next.
+pub fn is_closed(phase: Phase) -> bool
     ensures { λ r. ⌜ r ≡ isClosed phase ⌝ }
 {
     match phase {
@@ -26,7 +27,8 @@ pub(crate) fn is_closed(phase: Phase) -> bool
     }
 }
 
-pub(crate) fn is_inside(phase: Phase) -> bool
+/// Whether a segment of a message comes next.
+pub fn is_inside(phase: Phase) -> bool
     ensures { λ r. ⌜ r ≡ isInside phase ⌝ }
 {
     match phase {

@@ -28,8 +28,8 @@ use Rattle.parcel_store.specs.declared.Kept.{Kept}
 use Rattle.parcel_store.specs.Store.{storeSize, bodyPlace, keptIn, finalBy, standOf, heldIn, stateHead, otherWith, headOf, referred, keep}
 use Rattle.parcel_store.specs.Laws.{saved, kept-sizes}
 use Rattle.parcels.specs.declared.passing.Progress.{Progress}
-use Rattle.parcels.specs.Onward.{Sized, length-referred}
-use Rattle.parcels.specs.Whole.{isAwaited, answeredKept, Advanced}
+use Rattle.parcels.specs.Onward.{Sized, length-referred, answeredKept}
+use Rattle.parcels.specs.Whole.{isAwaited, Advanced}
 use Rattle.parcels.specs.Calls.{Told, telling, broughtBy, verdictBy, isOpen, takeTold, takeStore, takeRows, finishAnswer, finishStore, beginTold, beginStore}
 
 -- What is loaded

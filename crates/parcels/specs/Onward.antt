@@ -14,6 +14,7 @@ use Rattle.answers.specs.Answers.{refused}
 use Rattle.interchange.specs.Reader.{numbers}
 use Rattle.arrival.specs.Arrived.{Stand, Brought, given, only, answered, followed, arrivedOn}
 use Rattle.arrival.specs.Folded.{arrived-stays}
+use Rattle.parcel_store.specs.declared.Final.{Final}
 use Rattle.parcel_store.specs.declared.Final.the-variants.{Refused}
 use Rattle.parcel_store.specs.declared.Kept.{Kept}
 use Rattle.parcel_store.specs.Store.{partSize, storeSize, dialoguePlace, referencePlace, bodyPlace, standOf, putPart, referred}
@@ -44,9 +45,9 @@ pub record Onward (l : List ℕ) (x : Progress) (b lent : List ℕ) (y : Progres
   pub to : y .at ≤ x .at + length l
   pub paced : x .numbers ≤ 3 * x .kept .offset → y .numbers ≤ 3 * y .kept .offset
 
--- a fault is named, and nothing of the segment is kept
-abbrev pub namedKept : Kept → ℕ → ℕ → Kept
-namedKept k number position =
+-- the final answer is there, and no byte of a segment is kept
+abbrev pub answeredKept : Kept → Final → Kept
+answeredKept k a =
     record {
       state = k .state;
       offset = k .offset;
@@ -55,8 +56,12 @@ namedKept k number position =
       dialogue = k .dialogue;
       reference = k .reference;
       count = k .count;
-      answer = Refused (record { number = number; position = position });
+      answer = a;
     }
+
+-- a fault is named
+abbrev pub namedKept : Kept → ℕ → ℕ → Kept
+namedKept k number position = answeredKept k (Refused (record { number = number; position = position }))
 
 abbrev pub namedAt : Progress → ℕ → ℕ → Progress
 namedAt x number position = record { kept = namedKept (x .kept) number position; at = x .at; numbers = x .numbers; ended = true }

@@ -20,20 +20,6 @@ isAwaited Awaited = true
 isAwaited Accepted = false
 isAwaited (Refused x) = false
 
--- the final answer is there, and no byte of a segment is kept
-abbrev pub answeredKept : Kept → Final → Kept
-answeredKept k a =
-    record {
-      state = k .state;
-      offset = k .offset;
-      body = 0;
-      released = false;
-      dialogue = k .dialogue;
-      reference = k .reference;
-      count = k .count;
-      answer = a;
-    }
-
 -- the bytes at a parcel's end that no terminator follows are kept
 pub record Held (p : List ℕ) (x : Progress) (b : List ℕ) (y : Progress) (c : List ℕ) : Type 0 where
   pub told : arrivedOn (standOf (x .kept) b) (drop (x .at) p) ≡ only (standOf (y .kept) c)

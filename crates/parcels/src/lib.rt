@@ -7,8 +7,9 @@ mod rows;
 
 use crate::advance::advance;
 use crate::advance::is_awaited;
-use crate::pieces::is_closed;
+use crate::passing::answered;
 use bytes::put_bytes;
+use interchange::is_closed;
 use interchange::reader::Reading;
 use parcel_store::BODY;
 use parcel_store::Final;
@@ -34,7 +35,7 @@ ghost use Rattle.parcel_store.specs.declared.Final.the-variants.{Awaited};
 ghost use Rattle.parcel_store.specs.Store.{partSize, storeSize, standOf, finalBy};
 ghost use Rattle.parcels.specs.Onward.{Sized};
 ghost use Rattle.parcels.specs.Calls.{telling, parcelTold, verdictBy, takeTold, takeStore, takeRows, finishAnswer, finishStore, beginTold, beginStore};
-ghost use Rattle.parcels.specs.Whole.{isAwaited, answeredKept};
+ghost use Rattle.parcels.specs.Whole.{isAwaited};
 
 /// What a parcel comes to.
 pub enum Parcel {
@@ -188,23 +189,6 @@ fn end_answer(store: &[u8], kept: Kept) -> Final
         number: 7,
         position: kept.offset,
     })
-}
-
-// The final answer is there, and no byte of a segment is kept.
-fn answered(kept: Kept, answer: Final) -> Kept
-    ensures { λ r. ⌜ r ≡ answeredKept kept answer ⌝ }
-{
-    let state = kept.state;
-    Kept {
-        state,
-        offset: kept.offset,
-        body: 0,
-        released: false,
-        dialogue: kept.dialogue,
-        reference: kept.reference,
-        count: kept.count,
-        answer,
-    }
 }
 
 // The final answer of a reading.

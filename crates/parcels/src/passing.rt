@@ -31,7 +31,7 @@ ghost use Rattle.placing.specs.Tables as placing;
 ghost use Rattle.interchange.specs.Reader.{turnWith};
 ghost use Rattle.arrival.specs.Arrived as arrival;
 ghost use Rattle.parcel_store.specs.Store.{partSize, dialoguePlace, referencePlace, putPart, standOf};
-ghost use Rattle.parcels.specs.Onward.{Sized, Onward, namedAt};
+ghost use Rattle.parcels.specs.Onward.{Sized, Onward, answeredKept, namedAt};
 ghost use Rattle.parcels.specs.Passing.{passedKept, passedStore, Ready, ReadyPiece, ReadyStretch, Faster};
 
 /// How far a parcel is read.
@@ -45,13 +45,12 @@ pub(crate) struct Progress {
     pub ended: bool,
 }
 
-/// A fault is named, and nothing of the segment is kept.
-pub(crate) fn named(x: Progress, number: u8, position: usize) -> Progress
-    ensures { λ r. ⌜ r ≡ namedAt x number position ⌝ }
+/// The final answer is there, and no byte of a segment is kept.
+pub(crate) fn answered(kept: Kept, answer: Final) -> Kept
+    ensures { λ r. ⌜ r ≡ answeredKept kept answer ⌝ }
 {
-    let kept = x.kept;
     let state = kept.state;
-    let answered = Kept {
+    Kept {
         state,
         offset: kept.offset,
         body: 0,
@@ -59,10 +58,18 @@ pub(crate) fn named(x: Progress, number: u8, position: usize) -> Progress
         dialogue: kept.dialogue,
         reference: kept.reference,
         count: kept.count,
-        answer: Final::Refused(Refusal { number, position }),
-    };
+        answer,
+    }
+}
+
+/// A fault is named.
+pub(crate) fn named(x: Progress, number: u8, position: usize) -> Progress
+    ensures { λ r. ⌜ r ≡ namedAt x number position ⌝ }
+{
+    let kept = x.kept;
+    let answer = Final::Refused(Refusal { number, position });
     Progress {
-        kept: answered,
+        kept: answered(kept, answer),
         at: x.at,
         numbers: x.numbers,
         ended: true,

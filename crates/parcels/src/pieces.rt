@@ -6,13 +6,12 @@ use crate::passing::pass_cut;
 use crate::passing::pass_one;
 use crate::passing::pass_stretch;
 use cuts::find_terminator;
-use steps::state::Phase;
+use interchange::is_closed;
+use interchange::is_inside;
 ghost use mathlib.Core.Path.{_≡_};
-ghost use mathlib.Core.Bool.{true, false};
+ghost use mathlib.Core.Bool.{true};
 ghost use Prim.Native.Nat.{_+_, _≤_, _<_, min};
 ghost use lib.ListN.{length};
-ghost use Rattle.interchange.specs.Reader.{isClosed};
-ghost use Rattle.interchange.specs.Runs.{isInside};
 ghost use Rattle.parcels.specs.Onward.{Onward};
 ghost use Rattle.parcels.specs.Passing.{Faster};
 ghost use Rattle.parcels.specs.Pieces.{haltedAt, unendedAt, ReadyEnd, Standing, Went};
@@ -26,28 +25,6 @@ fn least(a: usize, b: usize) -> usize
     ensures { λ r. ⌜ r ≡ min a b ⌝ }
 {
     if a < b { a } else { b }
-}
-
-pub(crate) fn is_closed(phase: Phase) -> bool
-    ensures { λ r. ⌜ r ≡ isClosed phase ⌝ }
-{
-    match phase {
-        Phase::Opening => false,
-        Phase::Between => false,
-        Phase::Inside => false,
-        Phase::Closed => true,
-    }
-}
-
-fn is_inside(phase: Phase) -> bool
-    ensures { λ r. ⌜ r ≡ isInside phase ⌝ }
-{
-    match phase {
-        Phase::Opening => false,
-        Phase::Between => false,
-        Phase::Inside => true,
-        Phase::Closed => false,
-    }
 }
 
 // Nothing more is read.

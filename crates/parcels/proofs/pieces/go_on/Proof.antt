@@ -18,7 +18,7 @@ use Rattle.parcels.proofs.pieces.go_on.Lts as lts
 use Rattle.cuts.proofs.find_terminator.Reads as find-terminator-reads
 use Rattle.parcels.proofs.passing.named.Reads as named-reads
 use Rattle.parcels.proofs.pieces.halted.Reads as halted-reads
-use Rattle.parcels.proofs.pieces.is_closed.Reads as is-closed-reads
+use Rattle.interchange.proofs.is_closed.Reads as is-closed-reads
 use Rattle.parcels.proofs.pieces.least.Reads as least-reads
 use Rattle.parcels.proofs.pieces.pass_piece.Reads as pass-piece-reads
 use Rattle.parcels.proofs.pieces.unended.Reads as unended-reads

@@ -12,7 +12,7 @@ use Rattle.parcels.proofs.pieces.pass_piece.Lts as lts
 use Rattle.parcels.proofs.passing.pass_cut.Reads as pass-cut-reads
 use Rattle.parcels.proofs.passing.pass_one.Reads as pass-one-reads
 use Rattle.parcels.proofs.passing.pass_stretch.Reads as pass-stretch-reads
-use Rattle.parcels.proofs.pieces.is_inside.Reads as is-inside-reads
+use Rattle.interchange.proofs.is_inside.Reads as is-inside-reads
 
 add-pass-cut : tie.Need-add-pass-cut
 add-pass-cut c = search needs
