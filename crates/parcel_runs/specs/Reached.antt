@@ -25,7 +25,7 @@ use Rattle.parcel_store.specs.Store.{storeSize, dialoguePlace, referencePlace, 
 use Rattle.parcel_store.specs.Bounds.{FinalFits, Fits}
 use Rattle.parcel_store.specs.Numbers.{kept-read}
 use Rattle.parcel_store.specs.Laws.{length-keep, held-kept}
-use Rattle.parcel_store.specs.Onward.{fits-beginning, fits-on, held-on}
+use Rattle.parcel_store.specs.Onward.{answered-fits, fits-beginning, fits-on, held-on}
 use Rattle.parcels.specs.Calls.{telling, isStore, broughtBy, isCrowded, verdictBy, isOpen, takeTold, takeStore, takeRows, finishAnswer, finishStore, beginStore}
 use Rattle.parcels.specs.CallLaws.{keep-head}
 
@@ -191,20 +191,6 @@ end-fits x h =
     (choose (eqb (length (x .body)) 0)
     (λ q. rw q (choose (isClosed (x .state .phase)) (λ r. rw r refl) (λ r. rw r (omega arith, omega arith, omega arith))))
     (λ q. rw q (cut-fits (x .count) (x .offset) (x .body) h))))
-
-answered-fits : (x : Stand) → Fits x → (a : Answer ℕ) → FinalFits (x .count) (given a) → Fits (answered x a)
-answered-fits x fits a h =
-    record {
-      state = fits .state;
-      counted = fits .counted;
-      bared = fits .bared;
-      offset = fits .offset;
-      body = omega arith;
-      dialogue = fits .dialogue;
-      reference = fits .reference;
-      count = fits .count;
-      final = h;
-    }
 
 -- the store has the final answer then
 pub finished : (b : List ℕ) → Reached b → (length (finishStore b) ≡ storeSize) × (heldIn (finishStore b) .final ≡ given (finishAnswer b))

@@ -10,7 +10,7 @@ use lib.Dec.{eqb, ltb, leb}
 use lib.ListN.{length, drop, length-append, length-take, length-drop}
 use Rattle.laws.specs.Choice.{pick, both, all, choose, either-parts}
 use Rattle.laws.specs.Lists.{between}
-use Rattle.answers.specs.Answers.{Answer, done, refused}
+use Rattle.answers.specs.Answers.{Answer, done, refused, badSize, wrongEnvelope, segmentTooLong}
 use Rattle.syntax.specs.Bytes.{terminator, permittedOf, stands}
 use Rattle.syntax.specs.Segment.{tagNumber, wellFormed, permittedRun, bodyAnswer}
 use Rattle.syntax.specs.Firsts.{first-length}
@@ -175,8 +175,8 @@ ending-within x =
     omega arith
 
 module _ (x : Stand) (fits : Fits x) where
-  answered-fits : (number position : ℕ) → 2 ≤ number → number ≤ 21 → position < 65536 → Fits (answered x (refused number position))
-  answered-fits number position a b c =
+  pub answered-fits : (a : Answer ℕ) → FinalFits (x .count) (given a) → Fits (answered x a)
+  answered-fits a h =
       record {
         state = fits .state;
         counted = fits .counted;
@@ -186,7 +186,7 @@ module _ (x : Stand) (fits : Fits x) where
         dialogue = fits .dialogue;
         reference = fits .reference;
         count = fits .count;
-        final = (a, b, c);
+        final = h;
       }
 
   longer-fits : (b : ℕ) → length (x .body) < partSize → Fits (longer x b)
@@ -234,7 +234,7 @@ module _ (x : Stand) (fits : Fits x) where
     step-fits (done (taken st r)) led told = passed-fits st led
     step-fits (refused number position) led told =
         let w = told number position refl in
-        answered-fits number position (w .0) (w .1) (w .2)
+        answered-fits (refused number position) (w .0, w .1, w .2)
 
     scan-fits : (a : Answer ℕ) → ScanTold (x .offset) (length g) a → Fits (arrivedScan x g a .stand)
     scan-fits (done end) told =
@@ -251,7 +251,7 @@ module _ (x : Stand) (fits : Fits x) where
         (omega arith, omega arith, omega arith))
     scan-fits (refused number position) told =
         let p = told .2 in
-        answered-fits number position (told .0) (told .1) (omega arith)
+        answered-fits (refused number position) (told .0, told .1, omega arith)
 
 -- One byte, and any bytes
 
@@ -259,14 +259,14 @@ awaited-fits : (x : Stand) → Fits x → x .final ≡ awaited → (b : ℕ) →
 unfolding awaitedByte
 awaited-fits x fits none b =
     let o = fits .offset in
-    choose (leb 60000 (arrivedBytes x)) (λ p. rw p (answered-fits x fits 3 0 (omega arith) (omega arith) (omega arith)))
+    choose (leb 60000 (arrivedBytes x)) (λ p. rw p (answered-fits x fits badSize (omega arith, omega arith, omega arith)))
     (λ p.
     let early = leb-false 60000 (arrivedBytes x) p in
     rw p
-    (choose (isClosed (x .state .phase)) (λ q. rw q (answered-fits x fits 7 (x .offset) (omega arith) (omega arith) o))
+    (choose (isClosed (x .state .phase)) (λ q. rw q (answered-fits x fits (wrongEnvelope (x .offset)) (omega arith, omega arith, o)))
     (λ q.
     rw q
-    (choose (leb 4096 (length (x .body))) (λ r. rw r (answered-fits x fits 21 (x .offset) (omega arith) (omega arith) o))
+    (choose (leb 4096 (length (x .body))) (λ r. rw r (answered-fits x fits (segmentTooLong (x .offset)) (omega arith, omega arith, o)))
     (λ r.
     let short = leb-false 4096 (length (x .body)) r in
     let g = ending x in

@@ -9,7 +9,7 @@ use lib.Dec.{leb}
 use lib.ListN.{length, getD, drop, drop-of-length-le}
 use borrow.Author.Tests.{eq-eqb, ne-eqb, le-leb, le-ltb, lt-ltb, leb-true, leb-false}
 use Rattle.laws.specs.Choice.{pick, both, all, choose, false≢true}
-use Rattle.laws.specs.Lists.{between, length-between, between-none, drop-here, drop-past}
+use Rattle.laws.specs.Lists.{between, length-between, drop-here, drop-past}
 use Rattle.laws.specs.Put.{putAt, put-front, put-none, put-no-room, put-put, length-put}
 use Rattle.answers.specs.Answers.{Answer, done, refused, outputTooShort}
 use Rattle.syntax.specs.Bytes.{permittedOf}
@@ -28,7 +28,7 @@ use Rattle.parcel_store.specs.declared.Kept.{Kept}
 use Rattle.parcel_store.specs.Store.{storeSize, bodyPlace, keptIn, finalBy, standOf, heldIn, stateHead, otherWith, headOf, referred, keep}
 use Rattle.parcel_store.specs.Laws.{saved, kept-sizes}
 use Rattle.parcels.specs.declared.passing.Progress.{Progress}
-use Rattle.parcels.specs.Onward.{Sized, length-referred, answeredKept}
+use Rattle.parcels.specs.Onward.{Sized, length-referred, answeredKept, answered-stand}
 use Rattle.parcels.specs.Whole.{isAwaited, Advanced}
 use Rattle.parcels.specs.Calls.{Told, telling, broughtBy, verdictBy, isOpen, takeTold, takeStore, takeRows, finishAnswer, finishStore, beginTold, beginStore}
 
@@ -272,33 +272,6 @@ finish-given b k a size e q told =
     let g = ap (λ (z : arrival.Final). endBy z (heldIn b)) f in
     rw (eq-eqb (length b) storeSize size, o)
     (sym g, refl)
-
-answered-stand : (k : Kept) (b : List ℕ) (last : Final) (a : Answer ℕ) → finalBy last (k .count) ≡ given a → standOf (answeredKept k last) b ≡ answered (standOf k b) a
-answered-stand k b last a e =
-    ap (λ (l : List ℕ).
-    record {
-      state = standOf k b .state;
-      offset = k .offset;
-      body = l;
-      released = false;
-      dialogue = standOf k b .dialogue;
-      reference = standOf k b .reference;
-      count = k .count;
-      final = finalBy last (k .count);
-    })
-    (between-none b bodyPlace (bodyPlace + 0) (omega arith))
-    ∙ ap (λ (f : arrival.Final).
-    record {
-      state = standOf k b .state;
-      offset = k .offset;
-      body = [];
-      released = false;
-      dialogue = standOf k b .dialogue;
-      reference = standOf k b .reference;
-      count = k .count;
-      final = f;
-    })
-    e
 
 pub finish-open : (b : List ℕ) (k : Kept) (last : Final) (s : Kept) (c : List ℕ) (a : Answer ℕ) → length b ≡ storeSize → k ≡ keptIn b → k .answer ≡ Awaited → Sized k
     → finalBy last (k .count) ≡ given (awaitedEnd (standOf k b)) → s ≡ answeredKept k last → c ≡ putAt (putAt b 0 (stateHead (s .state))) 20 (otherWith s)

@@ -2,7 +2,7 @@
 -- Assumes nothing.
 use mathlib.Core.Path.{_≡_, refl, sym, ap, _∙_}
 use mathlib.Core.Bool.{Bool, true, false}
-use mathlib.Core.List.{List, _++_}
+use mathlib.Core.List.{List, [], _++_}
 use Prim.Native.Nat.{ℕ, _+_, _-_, _*_, _≤_, _<_}
 use native.Mathlib.Omega.{arith}
 use lib.ListN.{length, drop}
@@ -10,14 +10,15 @@ use Rattle.laws.specs.Choice.{either}
 use Rattle.laws.specs.Lists.{between-none}
 use Rattle.laws.specs.Put.{putAt, put-none, length-put}
 use Rattle.laws.specs.Filled.{filledUp}
-use Rattle.answers.specs.Answers.{refused}
+use Rattle.answers.specs.Answers.{Answer, refused}
 use Rattle.interchange.specs.Reader.{numbers}
+use Rattle.arrival.specs.Arrived as arrival
 use Rattle.arrival.specs.Arrived.{Stand, Brought, given, only, answered, followed, arrivedOn}
 use Rattle.arrival.specs.Folded.{arrived-stays}
 use Rattle.parcel_store.specs.declared.Final.{Final}
 use Rattle.parcel_store.specs.declared.Final.the-variants.{Refused}
 use Rattle.parcel_store.specs.declared.Kept.{Kept}
-use Rattle.parcel_store.specs.Store.{partSize, storeSize, dialoguePlace, referencePlace, bodyPlace, standOf, putPart, referred}
+use Rattle.parcel_store.specs.Store.{partSize, storeSize, dialoguePlace, referencePlace, bodyPlace, standOf, putPart, referred, finalBy}
 use Rattle.parcel_store.specs.Puts.{length-filled}
 use Rattle.parcels.specs.declared.passing.Progress.{Progress}
 use Rattle.parcels.specs.Parts.{put-over, put-apart}
@@ -66,8 +67,8 @@ namedKept k number position = answeredKept k (Refused (record { number = number;
 abbrev pub namedAt : Progress → ℕ → ℕ → Progress
 namedAt x number position = record { kept = namedKept (x .kept) number position; at = x .at; numbers = x .numbers; ended = true }
 
-pub named-stand : (k : Kept) (b : List ℕ) (number position : ℕ) → standOf (namedKept k number position) b ≡ answered (standOf k b) (refused number position)
-named-stand k b number position =
+pub answered-stand : (k : Kept) (b : List ℕ) (last : Final) (a : Answer ℕ) → finalBy last (k .count) ≡ given a → standOf (answeredKept k last) b ≡ answered (standOf k b) a
+answered-stand k b last a e =
     ap (λ (l : List ℕ).
     record {
       state = standOf k b .state;
@@ -77,9 +78,24 @@ named-stand k b number position =
       dialogue = standOf k b .dialogue;
       reference = standOf k b .reference;
       count = k .count;
-      final = given (refused number position);
+      final = finalBy last (k .count);
     })
     (between-none b bodyPlace (bodyPlace + 0) (omega arith))
+    ∙ ap (λ (f : arrival.Final).
+    record {
+      state = standOf k b .state;
+      offset = k .offset;
+      body = [];
+      released = false;
+      dialogue = standOf k b .dialogue;
+      reference = standOf k b .reference;
+      count = k .count;
+      final = f;
+    })
+    e
+
+pub named-stand : (k : Kept) (b : List ℕ) (number position : ℕ) → standOf (namedKept k number position) b ≡ answered (standOf k b) (refused number position)
+named-stand k b number position = answered-stand k b (Refused (record { number = number; position = position })) (refused number position) refl
 
 pub named-sized : (k : Kept) (number position : ℕ) → Sized k → Sized (namedKept k number position)
 named-sized k number position w = record { body = omega arith; dialogue = w .dialogue; reference = w .reference; offset = w .offset }
