@@ -9,7 +9,7 @@ use native.Mathlib.Nat.{zero-add, add-zero}
 use borrow.Author.Tests.{eqb-true, eqb-false, ltb-true, ltb-false, leb-true, lt-ltb}
 use lib.Dec.{T, eqb, ltb, leb}
 use lib.ListN.{getD}
-use Rattle.laws.specs.Choice.{pick, both, either, all, both-left, both-right, choose}
+use Rattle.laws.specs.Choice.{pick, both, either, all, both-left, both-right, holds, choose}
 use Rattle.placing.specs.declared.Place.{Place}
 use Rattle.placing.specs.declared.Fit.{Fit}
 use Rattle.placing.specs.declared.Fit.the-variants.{At, Nowhere}
@@ -111,11 +111,6 @@ module _ (t : Table) (p : Place) where
         rw (one-up level row, more-none t p tag (suc level) row (countAt p (suc level)) (most t row) refl refl h)
         (next-meets (suc level) (laterFit (suc level) t tag row) (passed (suc level) t row) (toldFrom level t tag (outer t row)) (firstOf t p tag (choicesFrom level t p (outer t row)))
         (told-meets level (outer t row)))
-
--- a test that holds
-pub holds : (b : Bool) → T b → b ≡ true
-holds true h = refl
-holds false h = absurd h
 
 refuted : (b : Bool) → T (not b) → b ≡ false
 refuted true h = absurd h

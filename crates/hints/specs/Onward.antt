@@ -8,7 +8,7 @@ use mathlib.Core.Logic.{_⊎_, inl, inr, ⊎-elim}
 use borrow.Author.Tests.{eqb-true, ltb-true, leb-true}
 use lib.Dec.{T, eqb, ltb, leb}
 use lib.ListN.{getD}
-use Rattle.laws.specs.Choice.{pick, both, either, both-left, both-right, choose}
+use Rattle.laws.specs.Choice.{pick, both, either, both-left, both-right, holds, choose}
 use Rattle.laws.specs.Sweep.{below, at}
 use Rattle.placing.specs.declared.Place.{Place}
 use Rattle.placing.specs.declared.Stepped.the-variants.{Placed}
@@ -18,7 +18,7 @@ use Rattle.placing.specs.Rule.{stepOf}
 use Rattle.messages.specs.Tags.{UIT}
 use Rattle.hints.specs.Kinds.{kinds, noKind, kindAt, kindIn, rowIn, lastIn, shiftOf, keptBits, boundOf, moreOf}
 use Rattle.hints.specs.Told.{hintRight, right}
-use Rattle.hints.specs.Laws.{holds, Stood, each-right, hint-row, hint-step, hint-level, hint-inside}
+use Rattle.hints.specs.Laws.{Stood, each-right, hint-row, hint-step, hint-level, hint-inside}
 use Rattle.hints.specs.Packing.{placeOf, kind-past, two, five, soundKind, sound-parts, moved-packed}
 
 -- the kinds that are one are sound, and none leads past 64 bits

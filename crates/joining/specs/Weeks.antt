@@ -1,14 +1,14 @@
 -- The weekdays that a period names, as the bits of a byte.
 -- Assumes nothing.
-use mathlib.Core.Path.{_≡_, refl, sym, ap, _∙_}
-use mathlib.Core.Bool.{Bool, true, false}
+use mathlib.Core.Path.{_≡_, sym, ap, _∙_}
+use mathlib.Core.Bool.{Bool, true}
 use mathlib.Core.List.{List, [], _∷_}
 use Prim.Native.Nat.{ℕ, suc, _+_, _-_, _%_, _≤_, _<_}
 use native.Mathlib.Omega.{arith}
 use native.Mathlib.Decide.{ℕ-discrete}
 use lib.Dec.{eqb, ltb, leb}
 use borrow.Author.Tests.{eq-eqb, ne-eqb, ltb-true, leb-true}
-use Rattle.laws.specs.Choice.{both, either, among, both-parts, either-true}
+use Rattle.laws.specs.Choice.{both, either, among, both-parts, either-true, either-false}
 use Rattle.laws.specs.Sweep.{agree}
 use Rattle.dates.specs.Days.{weekdayOf}
 use Rattle.dates.specs.Laws.{weekday-range}
@@ -43,11 +43,7 @@ week-bit n week {w} e f =
 module _ (w : ℕ) (hw : w < 8) where
   pub week-names : (low x : ℕ) (t : List ℕ) → 48 ≤ low → risingDays low t ≡ true → hasBit (weekBits x t) w ≡ either (hasBit x w) (among (48 + w) t)
   unfolding weekBits risingDays
-  week-names low x [] h r = sym (none (hasBit x w))
-    where
-      none : (b : Bool) → either b false ≡ b
-      none true = refl
-      none false = refl
+  week-names low x [] h r = sym (either-false (hasBit x w))
   week-names low x (b ∷ l) h r =
       let p = both-parts (both (ltb low b) (leb b 55)) (risingDays b l) r in
       let q = both-parts (ltb low b) (leb b 55) (p .0) in

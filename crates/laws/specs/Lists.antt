@@ -21,6 +21,10 @@ between-cons s a b z h k =
     let e : b - a ≡ suc (b - (a + 1)) = omega arith in
     rw (add-one, drop-cons s a z, e) (rw add-one)
 
+-- two lists that are the same begin alike and go on alike
+pub cons-parts : {A : Type 0} {x y : A} {l m : List A} → x ∷ l ≡ y ∷ m → (x ≡ y) × (l ≡ m)
+cons-parts q = (cc, cc)
+
 -- what stands from an index on begins with what stands at it
 pub drop-here : (s : List ℕ) (i : ℕ) → i < length s → drop i s ≡ getD s i 0 ∷ drop (i + 1) s
 drop-here s i h = rw (add-one, drop-cons s i 0)

@@ -7,6 +7,7 @@ use native.Mathlib.Omega.{arith}
 use lib.Dec.{eqb}
 use borrow.Author.Tests.{eqb-true, eqb-false, eq-eqb, ne-eqb}
 use Rattle.laws.specs.Choice.{pick, choose}
+use Rattle.laws.specs.Lists.{cons-parts}
 use Rattle.shuffle.specs.Calls.{own, SameForEach, replies, left, Apart, AnyOrder}
 
 module _ {A : Type 0} where
@@ -17,9 +18,6 @@ module _ {A : Type 0} where
 
   nil≢cons : (x : A) (l : List A) → [] ≡ x ∷ l → ⊥
   nil≢cons x l q = let z : _≡_ {A = ℕ} 0 1 = cc in omega arith
-
-  cons-parts : {x y : A} {l m : List A} → x ∷ l ≡ y ∷ m → (x ≡ y) × (l ≡ m)
-  cons-parts q = (cc, cc)
 
   own-cons : (c : ℕ × A) (cs : List (ℕ × A)) → own (c .0) (c ∷ cs) ≡ c .1 ∷ own (c .0) cs
   unfolding own

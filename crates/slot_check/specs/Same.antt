@@ -6,10 +6,10 @@ use mathlib.Core.List.{List, [], _∷_, _++_}
 use Prim.Native.Nat.{ℕ, zero, suc, _+_}
 use native.Mathlib.Omega.{arith}
 use lib.Dec.{eqb, ltb}
-use borrow.Author.Tests.{eq-eqb, ne-eqb, eqb-true, eqb-false, lt-ltb}
+use borrow.Author.Tests.{lt-ltb}
 use lib.ListN.{length, take, drop, replicate}
 use lib.Seq.{getD-drop}
-use Rattle.laws.specs.Choice.{both, choose, all, both-assoc}
+use Rattle.laws.specs.Choice.{both, all, both-assoc, eqb-comm}
 use Rattle.values.specs.Values.{sameText}
 use Rattle.gaps.specs.Zero.{allZero}
 use Rattle.slots.specs.Words.{Bytes}
@@ -26,19 +26,13 @@ same-append (c ∷ a) x (d ∷ b) =
 pub other-length : (a b : List ℕ) → (length a ≡ length b → ⊥) → sameText a b ≡ false
 other-length a b h = same-not a b (λ e. h (ap length e))
 
-pub same-number : (a b : ℕ) → eqb a b ≡ eqb b a
-same-number a b =
-    choose (eqb a b)
-    (λ p. rw p (sym (eq-eqb b a (sym (eqb-true a b p)))))
-    (λ p. rw p (sym (ne-eqb b a (λ e. eqb-false a b p (sym e)))))
-
 -- zeros are zeros, as many
 pub same-zeros : (n : ℕ) (b : List ℕ) → length b ≡ n → sameText (replicate n 0) b ≡ allZero b
 unfolding sameText allZero
 same-zeros zero [] h = refl
 same-zeros zero (d ∷ b) h = absurd (omega arith)
 same-zeros (suc n) [] h = absurd (omega arith)
-same-zeros (suc n) (d ∷ b) h = rw (same-number 0 d, same-zeros n b (omega arith))
+same-zeros (suc n) (d ∷ b) h = rw (eqb-comm 0 d, same-zeros n b (omega arith))
 
 pub bytes-drop : (k : ℕ) (s : List ℕ) → Bytes s → Bytes (drop k s)
 bytes-drop k s h i = rw getD-drop (h (k + i))

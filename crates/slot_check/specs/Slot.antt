@@ -10,7 +10,7 @@ use lib.Dec.{eqb, leb}
 use borrow.Author.Tests.{eq-eqb, ne-eqb, eqb-true, eqb-false, le-leb, lt-leb}
 use lib.ListN.{length, getD, take, drop, length-drop}
 use lib.Seq.{drop-cons, drop-drop, take-all, length-take-le}
-use Rattle.laws.specs.Choice.{pick, both, either, choose, both-true, both-false}
+use Rattle.laws.specs.Choice.{pick, both, either, choose, both-true, both-false, eqb-comm}
 use Rattle.laws.specs.Filled.{filledUp}
 use Rattle.values.specs.Values.{sameText}
 use Rattle.gaps.specs.Zero.{allZero}
@@ -19,7 +19,7 @@ use Rattle.contents.specs.Written.{upToZero, liveBytes, pendingBytes, slotOf, l
 use Rattle.rooms.specs.Order.{same-itself}
 use Rattle.rooms.specs.Slots.{length-slot}
 use Rattle.slots.specs.Words.{Bytes}
-use Rattle.slot_check.specs.Same.{bytes-drop, bytes-all, same-append, same-number, same-zeros, other-length}
+use Rattle.slot_check.specs.Same.{bytes-drop, bytes-all, same-append, same-zeros, other-length}
 use Rattle.slot_check.specs.Number.{isNumber, length-filled, length-up}
 
 -- whether bytes are a good record, written
@@ -43,7 +43,7 @@ module _ (f : ℕ) (c : List ℕ) (h : length c ≡ 64) where
       (λ p.
       let e = eqb-true f 0 p in
       rw e (same-zeros 64 c h))
-      (λ p. rw (p, same-itself c) (both-true (eqb 1 f) ∙ same-number 1 f))
+      (λ p. rw (p, same-itself c) (both-true (eqb 1 f) ∙ eqb-comm 1 f))
 
   pending-same : sameText (pendingBytes (pick (eqb f 0) nothing (pick (eqb f 1) (put c) removal))) (f ∷ c) ≡ pick (eqb f 0) (allZero c) (either (eqb f 1) (both (eqb f 2) (allZero c)))
   unfolding pendingBytes sameText
@@ -57,7 +57,7 @@ module _ (f : ℕ) (c : List ℕ) (h : length c ≡ 64) where
       (λ q.
       let e = eqb-true f 1 q in
       rw e (same-itself c))
-      (λ q. rw (p, q) (rw (same-number 2 f, same-zeros 64 c h))))
+      (λ q. rw (p, q) (rw (eqb-comm 2 f, same-zeros 64 c h))))
 
   live-length : length (liveBytes (pick (eqb f 0) none (some c))) ≡ 65
   unfolding liveBytes
