@@ -18,7 +18,7 @@ use Rattle.messages.specs.Types.{isPeriod}
 use Rattle.placing.specs.Table.{Table}
 use Rattle.placing.specs.Tables.{tableOf}
 use Rattle.placing.specs.Place.{startPlace}
-use Rattle.placing.specs.Rule.{stepOf, groupOf, isPlaced}
+use Rattle.placing.specs.Rule.{placeAfter, groupOf, isPlaced}
 use Rattle.envelope.specs.declared.Opened.{Opened}
 use Rattle.envelope.specs.declared.Opened.the-variants as opened
 use Rattle.envelope.specs.declared.Headed.{Headed}
@@ -89,12 +89,7 @@ messageTypeOf m = typeIn (uihOf (m .heading))
 abbrev pub referenceIn : List ℕ → List ℕ
 referenceIn g = valueOf g 2 1
 
--- "The place reached moves on one segment at a time." Nothing has a place after a segment that has none.
-abbrev pub placeAfter : Table → Stepped → ℕ → Stepped
-placeAfter t (Placed p) tag = stepOf t p tag
-placeAfter t OutOfPlace tag = OutOfPlace
-
--- the segments that follow a place, each with the place that the rule gives it
+-- "The place reached moves on one segment at a time." The segments that follow a place, each with the place that the rule gives it.
 unfoldable pub placesFrom : Table → Stepped → List (List ℕ) → List (List ℕ × Stepped)
 placesFrom t p [] = []
 placesFrom t p (g ∷ gs) = (g, placeAfter t p (tagNumber g)) ∷ placesFrom t (placeAfter t p (tagNumber g)) gs

@@ -20,11 +20,11 @@ use Rattle.placing.specs.Table.{Table, groupAt}
 use Rattle.placing.specs.Tsdupd.{tsdupdTable}
 use Rattle.placing.specs.Tables.{tableOf, tsdupd-own}
 use Rattle.placing.specs.Place.{startPlace}
-use Rattle.placing.specs.Rule.{stepOf}
+use Rattle.placing.specs.Rule.{stepOf, placeAfter}
 use Rattle.placing.specs.Walks.{entry-in}
 use Rattle.placing.specs.Laws.{placed-tag, placed-row}
 use Rattle.steps.specs.declared.state.Row.{Row}
-use Rattle.acceptance.specs.Interchange.{segmentsWritten, Message, segmentsIn, Interchange, eachOf, messageTypeOf, placeAfter, placesFrom, groupIn, withGroup, groupsIn, rowsFrom, rowsOf}
+use Rattle.acceptance.specs.Interchange.{segmentsWritten, Message, segmentsIn, Interchange, eachOf, messageTypeOf, placesFrom, groupIn, withGroup, groupsIn, rowsFrom, rowsOf}
 use Rattle.services.specs.Rows.{keep}
 use Rattle.services.specs.Tables.{no-service}
 use Rattle.interchange_services.specs.Groups.{isSkdupd, begins, beginnings, groupsAt, groupsFrom, groupsOf}
