@@ -50,14 +50,6 @@ module _ (t : Table) (good : T (wellFormed t)) where
   out-by r x w (at s) e h = absurd h
   out-by r x w nowhere e h = ap (onward (λ y. put t y w)) e
 
-  -- a step, whatever it is taken from
-  module _ (r : Reach) (x : ℕ) (w : List ℕ) (s : Stepped) (same : Same t s (firstFit x (ways t r))) where
-    step-placed : (q : Place) → s ≡ Placed q → Inside t q × (put t r (x ∷ w) ≡ behind (whereOf t (Placed q)) (put t (reachOf t q) w))
-    step-placed q e = step-by r x w q (firstFit x (ways t r)) refl (subst (λ k. Same t k (firstFit x (ways t r))) e same)
-
-    step-out : s ≡ OutOfPlace → put t r (x ∷ w) ≡ refused
-    step-out e = out-by r x w (firstFit x (ways t r)) refl (subst (λ k. Same t k (firstFit x (ways t r))) e same)
-
   -- From the ways on to the rule's walk
 
   abbrev pub Walks : Stepped → List ℕ → List Where → Type 0
@@ -68,12 +60,12 @@ module _ (t : Table) (good : T (wellFormed t)) where
       → ((q : Place) (m : List Where) → Inside t q → put t (reachOf t q) w ≡ placed m → Walks (Placed q) w m) → put t r (x ∷ w) ≡ placed l
       → (both (isPlaced s) (all isPlaced (walked t s w)) ≡ true) × (whereOf t s ∷ map (whereOf t) (walked t s w) ≡ l)
   walks-on r x w l (Placed q) same ih e =
-      let k = step-placed r x w (Placed q) same q refl in
+      let k = step-by r x w q (firstFit x (ways t r)) refl same in
       let c = placed-parts (whereOf t (Placed q)) (put t (reachOf t q) w) l (sym (k .1) ∙ e) in
       let h = ih q (c .0) (k .0) (c .1) in
       (h .0, ap (λ m. whereOf t (Placed q) ∷ m) (h .1) ∙ sym (c .2))
   walks-on r x w l OutOfPlace same ih e =
-      let f : refused ≡ placed l = sym (step-out r x w OutOfPlace same refl) ∙ e in
+      let f : refused ≡ placed l = sym (out-by r x w (firstFit x (ways t r)) refl same) ∙ e in
       let z : _≡_ {A = ℕ} 0 1 = cc in
       absurd (omega arith)
 
@@ -105,7 +97,7 @@ module _ (t : Table) (good : T (wellFormed t)) where
     walks-by : (r : Reach) (x : ℕ) (w : List ℕ) (s : Stepped) → Same t s (firstFit x (ways t r))
         → ((q : Place) → Inside t q → s ≡ Placed q → all isPlaced (walked t (Placed q) w) ≡ true → put t (reachOf t q) w ≡ placed (map (whereOf t) (walked t (Placed q) w)))
         → both (isPlaced s) (all isPlaced (walked t s w)) ≡ true → put t r (x ∷ w) ≡ placed (whereOf t s ∷ map (whereOf t) (walked t s w))
-    walks-by r x w (Placed q) same ih h = let k = step-placed r x w (Placed q) same q refl in k .1 ∙ ap (behind (whereOf t (Placed q))) (ih q (k .0) refl h)
+    walks-by r x w (Placed q) same ih h = let k = step-by r x w q (firstFit x (ways t r)) refl same in k .1 ∙ ap (behind (whereOf t (Placed q))) (ih q (k .0) refl h)
     walks-by r x w OutOfPlace same ih h = absurd (false≢true h)
 
     walks-put : (v : List ℕ) (p : Place) → Inside t p → all isPlaced (walked t (Placed p) (v ++ (u ∷ []))) ≡ true
