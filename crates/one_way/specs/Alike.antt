@@ -24,7 +24,7 @@ use Rattle.one_way.specs.Placings.{beforeAll, firstChoices, firstPlace}
 use Rattle.one_way.specs.Test.{fittingTag, tagOf, choicesFitting}
 use Rattle.one_way.specs.Reach.{Reach, Way, to, more, Found, at, nowhere, firstFit, fitting, mayPass, pass-some, entered, waysIn, ways, start}
 use Rattle.one_way.specs.Levels.{levels, reachOf, above, Open, OpenAbove, Inside}
-use Rattle.one_way.specs.Step.{Same, one-same}
+use Rattle.one_way.specs.Step.{Same, Leads, one-same}
 
 same-or : (t : Table) (a c : Stepped) (b : Bool) (r : Reach) (f : Found) → Same t a (pick b (at r) nowhere) → Same t c f → Same t (orStepped a c) (pick b (at r) f)
 same-or t (Placed q) c true r f h k = h
@@ -96,7 +96,7 @@ module _ (t : Table) (good : T (wellFormed t)) (p : Place) where
   Alike [] [] = Unit {0}
   Alike [] (d ∷ m) = ⊥
   Alike (c ∷ k) [] = ⊥
-  Alike (c ∷ k) (to x r ∷ m) = (tagOf t c ≡ x) × ((tag : ℕ) → Same t (chosen t p tag c) (pick (eqb tag x) (at r) nowhere)) × Alike k m
+  Alike (c ∷ k) (to x r ∷ m) = (tagOf t c ≡ x) × Leads t p c x r × Alike k m
 
   -- places of a level from one on, none of them filled
   abbrev choicesOn : ℕ → List ℕ → List Choice → List Choice
@@ -121,23 +121,26 @@ module _ (t : Table) (good : T (wellFormed t)) (p : Place) where
     later-alike [] c = ups
     later-alike (row ∷ rs) c =
         let s = c .0 in
-        let some : ltb 0 (most t row) ≡ true = lt-ltb 0 (most t row) (some-number t good row (s .there)) in
+        let tag = fittingTag t row in
+        let one = go row l 1 in
+        let k = choicesOn l rs up in
         let w = waysIn t rs 0 (above l t p out) tops in
-        let same : (tag : ℕ) → Same t (chosen t p tag (go row l 1)) (pick (eqb tag (fittingTag t row)) (at (entered t row rs 0 (above l t p out))) nowhere)
-        = λ tag.
-        subst⁻¹ (λ k. Same t (chosen t p tag (go row l 1)) (pick (eqb tag (fittingTag t row)) (at (entered t row k 0 (above l t p out))) nowhere)) (c .1)
-        (subst (λ o. Same t (chosen t p tag (go row l 1)) (pick (eqb tag (fittingTag t row)) (at (entered t row (later t l row) 0 (above l t p o))) nowhere)) (s .of)
-        (one-same t good p row l 0 (s .there) (s .deep) (subst⁻¹ (OpenAbove l t p) (s .of) open-above) tag)) in
-        subst⁻¹ (λ k. Alike k (more (ltb 0 (most t row)) (to (fittingTag t row) (entered t row rs 0 (above l t p out))) (pick (mayPass t row 0) w []))) (on-cons l row rs up)
-        (subst⁻¹ (λ b. Alike (go row l 1 ∷ pick (conditional t row) (choicesOn l rs up) []) (more b (to (fittingTag t row) (entered t row rs 0 (above l t p out))) (pick (mayPass t row 0) w []))) some (
+        let there = entered t row rs 0 (above l t p out) in
+        let some : ltb 0 (most t row) ≡ true = lt-ltb 0 (most t row) (some-number t good row (s .there)) in
+        let same : Leads t p one tag there
+        = subst⁻¹ (λ x. Leads t p one tag (entered t row x 0 (above l t p out))) (c .1)
+        (subst (λ o. Leads t p one tag (entered t row (later t l row) 0 (above l t p o))) (s .of)
+        (one-same t good p row l 0 (s .there) (s .deep) (subst⁻¹ (OpenAbove l t p) (s .of) open-above))) in
+        subst⁻¹ (λ x. Alike x (more (ltb 0 (most t row)) (to tag there) (pick (mayPass t row 0) w []))) (on-cons l row rs up)
+        (subst⁻¹ (λ b. Alike (one ∷ pick (conditional t row) k []) (more b (to tag there) (pick (mayPass t row 0) w []))) some (
           refl,
           same,
-          subst⁻¹ (λ b. Alike (pick (conditional t row) (choicesOn l rs up) []) (pick b w [])) (either-false (conditional t row))
-              (alike-pick (conditional t row) (choicesOn l rs up) w (later-alike rs (c .2))),
+          subst⁻¹ (λ b. Alike (pick (conditional t row) k []) (pick b w [])) (either-false (conditional t row))
+              (alike-pick (conditional t row) k w (later-alike rs (c .2))),
         ))
 
   alike-again : (b : Bool) (c : Choice) (x : ℕ) (r : Reach) (k : List Choice) (m : List Way)
-      → tagOf t c ≡ x → ((tag : ℕ) → Same t (chosen t p tag c) (pick (eqb tag x) (at r) nowhere)) → Alike k m → Alike (pick b (c ∷ []) [] ++ k) (more b (to x r) m)
+      → tagOf t c ≡ x → Leads t p c x r → Alike k m → Alike (pick b (c ∷ []) [] ++ k) (more b (to x r) m)
   alike-again true c x r k m e s h = (e, s, h)
   alike-again false c x r k m e s h = h
 
@@ -146,11 +149,14 @@ module _ (t : Table) (good : T (wellFormed t)) (p : Place) where
   unfolding again waysIn
   level-alike l row h d o s up tops ups =
       let n = countAt p l in
+      let tag = fittingTag t row in
+      let once-more = go row l (n + 1) in
+      let k = choicesOn l (later t l row) up in
       let w = waysIn t (later t l row) 0 (above l t p (outer t row)) tops in
-      let same : (tag : ℕ) → Same t (chosen t p tag (go row l (n + 1))) (pick (eqb tag (fittingTag t row)) (at (entered t row (later t l row) n (above l t p (outer t row)))) nowhere)
-      = λ tag. subst⁻¹ (λ k. Same t (chosen t p tag (go row l k)) (pick (eqb tag (fittingTag t row)) (at (entered t row (later t l row) n (above l t p (outer t row)))) nowhere)) (add-one n) (one-same t good p row l n h d o tag) in
-      subst⁻¹ (λ b. Alike (pick (ltb n (most t row)) (go row l (n + 1) ∷ []) [] ++ choicesOn l (later t l row) up) (more (ltb n (most t row)) (to (fittingTag t row) (entered t row (later t l row) n (above l t p (outer t row)))) (pick b w []))) (pass-some t row n s)
-      (alike-again (ltb n (most t row)) (go row l (n + 1)) (fittingTag t row) (entered t row (later t l row) n (above l t p (outer t row))) (choicesOn l (later t l row) up) w refl same
+      let there = entered t row (later t l row) n (above l t p (outer t row)) in
+      let same : Leads t p once-more tag there = subst⁻¹ (λ x. Leads t p (go row l x) tag there) (add-one n) (one-same t good p row l n h d o) in
+      subst⁻¹ (λ b. Alike (pick (ltb n (most t row)) (once-more ∷ []) [] ++ k) (more (ltb n (most t row)) (to tag there) (pick b w []))) (pass-some t row n s)
+      (alike-again (ltb n (most t row)) once-more tag there k w refl same
       (later-alike l (outer t row) o up tops ups (later t l row) (chain-later t good l row h d)))
 
   from-alike : (l row : ℕ) → row < rows t → levelOf t row ≡ l → Open l t p row → Alike (choicesFrom l t p row) (ways t (levels l t p row))

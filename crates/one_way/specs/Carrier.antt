@@ -56,8 +56,20 @@ inPeriod = (21, 1) ∷ inService
 abbrev pub inPair : Where
 inPair = (44, 1) ∷ inPeriod
 
-pub drawn-standings : standings skdupdTable drawn
-    ≡ ((0, 1) ∷ []) ∷ ((1, 1) ∷ []) ∷ ((2, 1) ∷ []) ∷ ((3, 1) ∷ []) ∷ ((11, 1) ∷ inService) ∷ ((22, 1) ∷ inPeriod) ∷ ((45, 1) ∷ inPair) ∷ ((47, 1) ∷ inPair) ∷ ((54, 1) ∷ []) ∷ []
+abbrev pub carriersPlaces : List Where
+carriersPlaces =
+    ((0, 1) ∷ [])
+    ∷ ((1, 1) ∷ [])
+    ∷ ((2, 1) ∷ [])
+    ∷ ((3, 1) ∷ [])
+    ∷ ((11, 1) ∷ inService)
+    ∷ ((22, 1) ∷ inPeriod)
+    ∷ ((45, 1) ∷ inPair)
+    ∷ ((47, 1) ∷ inPair)
+    ∷ ((54, 1) ∷ [])
+    ∷ []
+
+pub drawn-standings : standings skdupdTable drawn ≡ carriersPlaces
 unfolding whereIn skip pair period service drawn placesOn afterOf entryOf skdupdTable
 drawn-standings = refl
 

@@ -13,7 +13,7 @@ use Rattle.placing.specs.declared.Stepped.{Stepped}
 use Rattle.placing.specs.declared.Stepped.the-variants.{Placed, OutOfPlace}
 use Rattle.placing.specs.Table.{Table, rows, tagAt, isGroup, levelOf, outer, afterOf, endOf, places, held, later}
 use Rattle.placing.specs.Place.{reachedOf}
-use Rattle.placing.specs.Rule.{fits, go, placedAt, chosen}
+use Rattle.placing.specs.Rule.{Choice, fits, go, placedAt, chosen}
 use Rattle.placing.specs.WellFormed.{wellFormed}
 use Rattle.placing.specs.Formed.{trigger, trigger-in, segment-fits, group-fits}
 use Rattle.placing.specs.Message.{kept-inner, level-most}
@@ -27,6 +27,10 @@ Same t (Placed q) (at r) = (reachOf t q ≡ r) × Inside t q
 Same t (Placed q) nowhere = ⊥
 Same t OutOfPlace (at r) = ⊥
 Same t OutOfPlace nowhere = Unit {0}
+
+-- one tag alone fits a choice, and it leads there
+abbrev pub Leads : Table → Place → Choice → ℕ → Reach → Type 0
+Leads t p c x r = (tag : ℕ) → Same t (chosen t p tag c) (pick (eqb tag x) (at r) nowhere)
 
 same-pick : (t : Table) (b : Bool) (q : Place) (r : Reach) → reachOf t q ≡ r → Inside t q → Same t (pick b (Placed q) OutOfPlace) (pick b (at r) nowhere)
 same-pick t true q r e i = (e, i)
@@ -94,8 +98,8 @@ module _ (t : Table) (good : T (wellFormed t)) (p : Place) (row l n : ℕ) (ther
         }
 
   -- the tags fit alike, and lead to the same place
-  one-by : (b : Bool) → isGroup t row ≡ b → (tag : ℕ)
-      → Same t (chosen t p tag (go row l (suc n))) (pick (eqb tag (pick b (tagAt t (row + 1)) (tagAt t row))) (at (pick b (level (held t row) 1 there-for) there-for)) nowhere)
+  one-by : (b : Bool) → isGroup t row ≡ b
+      → Leads t p (go row l (suc n)) (pick b (tagAt t (row + 1)) (tagAt t row)) (pick b (level (held t row) 1 there-for) there-for)
   one-by true e tag =
       let g = eqb-true (tagAt t row) 0 e in
       let k = lower g in
@@ -117,5 +121,5 @@ module _ (t : Table) (good : T (wellFormed t)) (p : Place) (row l n : ℕ) (ther
       subst⁻¹ (λ x. Same t x (pick (eqb tag (tagAt t row)) (at there-for) nowhere)) c
       (same-pick t (eqb tag (tagAt t row)) segmentAt there-for segment-reach (segment-inside e))
 
-  pub one-same : (tag : ℕ) → Same t (chosen t p tag (go row l (suc n))) (pick (eqb tag (fittingTag t row)) (at (entered t row (later t l row) n (above l t p (outer t row)))) nowhere)
-  one-same tag = one-by (isGroup t row) refl tag
+  pub one-same : Leads t p (go row l (suc n)) (fittingTag t row) (entered t row (later t l row) n (above l t p (outer t row)))
+  one-same = one-by (isGroup t row) refl
