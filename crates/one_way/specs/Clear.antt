@@ -44,7 +44,7 @@ module _ (t : Table) (good : T (wellFormed t)) (Fine : Reach → Type 0) (clear 
     clear-segment p g = subst Free (entered-segment t row l n r g) (clear (entered t row l n r) (c .leads (fittingTag t row) (entered t row l n r) (goes-in (fittingTag t row) p refl)))
 
     -- inside a group, before its trigger, the only way is the group's own
-    pub goes-inner : (x : ℕ) (q : Reach) → ltb n (most t row) ≡ true → isGroup t row ≡ true → firstFit x (ways t (inner t row l n r)) ≡ at q
+    goes-inner : (x : ℕ) (q : Reach) → ltb n (most t row) ≡ true → isGroup t row ≡ true → firstFit x (ways t (inner t row l n r)) ≡ at q
         → firstFit x (ways t (here t row l n r)) ≡ at q
     unfolding firstFit
     goes-inner x q p g e =

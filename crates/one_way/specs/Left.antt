@@ -109,14 +109,14 @@ module _ (t : Table) (row : ℕ) where
 
 -- A whole arrangement is what is left where nothing came
 
-pub fills : (ts : Times) (t : Table) (row n : ℕ) → n + timesOf ts ≤ most t row → mayPass t row (n + timesOf ts) ≡ true → allStand ts t row ≡ true → Fills ts t row n
+fills : (ts : Times) (t : Table) (row n : ℕ) → n + timesOf ts ≤ most t row → mayPass t row (n + timesOf ts) ≡ true → allStand ts t row ≡ true → Fills ts t row n
 unfolding timesOf allStand
 fills nothing t row n h p e = let z : n ≡ n + 0 = omega arith in ap (mayPass t row) z ∙ p
 fills (s & ts) t row n h p e =
     let w = both-parts (standsAt s t row) (allStand ts t row) e in
     (lt-ltb n (most t row) (omega arith), w .0, fills ts t row (suc n) (omega arith) (pass-some t row (suc n + timesOf ts) (omega arith)) (w .1))
 
-pub filled : (ts : Times) (t : Table) (row n : ℕ) → n ≤ most t row → Fills ts t row n
+filled : (ts : Times) (t : Table) (row n : ℕ) → n ≤ most t row → Fills ts t row n
     → (n + timesOf ts ≤ most t row) × (mayPass t row (n + timesOf ts) ≡ true) × (allStand ts t row ≡ true)
 unfolding timesOf allStand
 filled nothing t row n h f = let z : n + 0 ≡ n = omega arith in (omega arith, ap (mayPass t row) z ∙ f, refl)

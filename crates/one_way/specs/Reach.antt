@@ -140,13 +140,13 @@ pass-some t row n h = rw (lt-ltb 0 n h) (either-true (conditional t row))
 -- The ways on from a place
 
 module _ (t : Table) (row : ℕ) (l : List ℕ) (n : ℕ) (r : Reach) where
+  -- at a place that came n times, past it, and inside it, where it is a group, before its trigger
   abbrev pub here : Reach
   here = level (row ∷ l) n r
 
   abbrev pub passed : Reach
   passed = level l 0 r
 
-  -- inside a group, before its trigger
   abbrev pub inner : Reach
   inner = level (held t row) 0 (level (row ∷ l) (suc n) r)
 
@@ -167,7 +167,7 @@ module _ (t : Table) (row : ℕ) (l : List ℕ) (n : ℕ) (r : Reach) where
   pub entered-segment : isGroup t row ≡ false → entered t row l n r ≡ level (row ∷ l) (suc n) r
   entered-segment p = rw p
 
--- Rows of the table
+-- Every row that a level names is one of the table's
 
 abbrev pub InTable : Table → List ℕ → Type 0
 InTable t [] = Unit {0}
@@ -193,7 +193,7 @@ held-in t row = places-in (afterOf t row - (row + 1)) t (row + 1) (afterOf t row
 
 -- From before a mandatory segment, such as a group's trigger, there is one way on
 
-pub single : (t : Table) (row : ℕ) (l : List ℕ) (r : Reach) → isGroup t row ≡ false → conditional t row ≡ false → 1 ≤ most t row
+single : (t : Table) (row : ℕ) (l : List ℕ) (r : Reach) → isGroup t row ≡ false → conditional t row ≡ false → 1 ≤ most t row
     → ways t (level (row ∷ l) 0 r) ≡ to (tagAt t row) (level (row ∷ l) 1 r) ∷ []
 unfolding ways waysIn
 single t row l r g c m = rw (g, c, lt-ltb 0 (most t row) m)

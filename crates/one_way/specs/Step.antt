@@ -44,14 +44,15 @@ module _ (t : Table) (good : T (wellFormed t)) (p : Place) (row l n : ℕ) (ther
   low : l ≤ 4
   low = subst (λ x. x ≤ 4) deep (level-most t row)
 
-  abbrev there-for : Reach
-  there-for = level (row ∷ later t l row) (suc n) (above l t p (outer t row))
+  -- the row's place, for one time more
+  abbrev inRow : Reach
+  inRow = level (row ∷ later t l row) (suc n) (above l t p (outer t row))
 
   -- a segment
   abbrev segmentAt : Place
   segmentAt = reachedOf p l (suc n) row l
 
-  segment-reach : reachOf t segmentAt ≡ there-for
+  segment-reach : reachOf t segmentAt ≡ inRow
   unfolding reachOf
   segment-reach = ap (λ k. levels k t segmentAt row) deep ∙ levels-here t p l (suc n) row l row low
 
@@ -76,7 +77,7 @@ module _ (t : Table) (good : T (wellFormed t)) (p : Place) (row l n : ℕ) (ther
         ap (λ x. (row + 1) ∷ places t (afterOf t (row + 1)) (pick (eqb (suc l) 0) (rows t) (afterOf t x))) (trigger t good row there g .within)
         ∙ rw (ne-eqb (suc l) 0 (λ z. omega arith)) (sym (held-trigger t good row there (eq-eqb (tagAt t row) 0 g)))
 
-    trigger-reach : reachOf t triggerAt ≡ level (held t row) 1 there-for
+    trigger-reach : reachOf t triggerAt ≡ level (held t row) 1 inRow
     unfolding reachOf levels
     trigger-reach =
         ap (λ k. levels k t triggerAt (row + 1)) trigger-deep
@@ -99,7 +100,7 @@ module _ (t : Table) (good : T (wellFormed t)) (p : Place) (row l n : ℕ) (ther
 
   -- the tags fit alike, and lead to the same place
   one-by : (b : Bool) → isGroup t row ≡ b
-      → Leads t p (go row l (suc n)) (pick b (tagAt t (row + 1)) (tagAt t row)) (pick b (level (held t row) 1 there-for) there-for)
+      → Leads t p (go row l (suc n)) (pick b (tagAt t (row + 1)) (tagAt t row)) (pick b (level (held t row) 1 inRow) inRow)
   one-by true e tag =
       let g = eqb-true (tagAt t row) 0 e in
       let k = lower g in
@@ -109,8 +110,8 @@ module _ (t : Table) (good : T (wellFormed t)) (p : Place) (row l n : ℕ) (ther
       = ap (placedAt p l (suc n)) (ap (λ d. fits d t tag row) a ∙ group-fits t good row there g (3 - l) tag)
       ∙ placed-pick p l (suc n) (row + 1) (3 - l) (eqb (tagAt t (row + 1)) tag)
       ∙ ap₂ (λ y x. pick y (Placed (reachedOf p l (suc n) (row + 1) x)) OutOfPlace) (eqb-comm (tagAt t (row + 1)) tag) b in
-      subst⁻¹ (λ x. Same t x (pick (eqb tag (tagAt t (row + 1))) (at (level (held t row) 1 there-for)) nowhere)) c
-      (same-pick t (eqb tag (tagAt t (row + 1))) triggerAt (level (held t row) 1 there-for) (trigger-reach g) (trigger-inside g))
+      subst⁻¹ (λ x. Same t x (pick (eqb tag (tagAt t (row + 1))) (at (level (held t row) 1 inRow)) nowhere)) c
+      (same-pick t (eqb tag (tagAt t (row + 1))) triggerAt (level (held t row) 1 inRow) (trigger-reach g) (trigger-inside g))
   one-by false e tag =
       let s = eqb-false (tagAt t row) 0 e in
       let d : 4 - (4 - l) ≡ l = omega (arith, low) in
@@ -118,8 +119,8 @@ module _ (t : Table) (good : T (wellFormed t)) (p : Place) (row l n : ℕ) (ther
       = ap (placedAt p l (suc n)) (segment-fits (4 - l) t tag row s)
       ∙ placed-pick p l (suc n) row (4 - l) (eqb (tagAt t row) tag)
       ∙ ap₂ (λ y x. pick y (Placed (reachedOf p l (suc n) row x)) OutOfPlace) (eqb-comm (tagAt t row) tag) d in
-      subst⁻¹ (λ x. Same t x (pick (eqb tag (tagAt t row)) (at there-for) nowhere)) c
-      (same-pick t (eqb tag (tagAt t row)) segmentAt there-for segment-reach (segment-inside e))
+      subst⁻¹ (λ x. Same t x (pick (eqb tag (tagAt t row)) (at inRow) nowhere)) c
+      (same-pick t (eqb tag (tagAt t row)) segmentAt inRow segment-reach (segment-inside e))
 
   pub one-same : Leads t p (go row l (suc n)) (fittingTag t row) (entered t row (later t l row) n (above l t p (outer t row)))
   one-same = one-by (isGroup t row) refl

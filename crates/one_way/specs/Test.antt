@@ -30,6 +30,7 @@ pub record OneFits (t : Table) : Type 0 where
 -- Computed: before the first segment, and from each segment's place, every number on the way at 1, no two choices have the same tag.
 -- A choice only falls away when a number rises.
 
+-- the place of a row, for the first time at each level
 abbrev pub firstTime : Table → ℕ → Place
 firstTime t row = reachedOf startPlace 0 1 row (levelOf t row)
 
@@ -37,13 +38,16 @@ firstTime t row = reachedOf startPlace 0 1 row (levelOf t row)
 abbrev pub fittingTag : Table → ℕ → ℕ
 fittingTag t row = pick (isGroup t row) (tagAt t (row + 1)) (tagAt t row)
 
+-- the tag that a choice fits
 abbrev pub tagOf : Table → Choice → ℕ
 tagOf t (go row level n) = fittingTag t row
 
+-- no two are the same
 unfoldable pub differ : List ℕ → Bool
 differ [] = true
 differ (x ∷ l) = both (not (among x l)) (differ l)
 
+-- the test
 unfoldable pub oneWay : Table → Bool
 oneWay t =
     both (differ (map (tagOf t) (firstChoices t)))

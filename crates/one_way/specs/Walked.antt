@@ -27,11 +27,11 @@ unfolding levels path whereOn
 path-levels t p zero row = refl
 path-levels t p (suc l) row = ap (λ w. (row, countAt p (suc l)) ∷ w) (path-levels t p l (outer t row))
 
-pub path-reach : (t : Table) (p : Place) → path (reachOf t p) ≡ whereOf t (Placed p)
+path-reach : (t : Table) (p : Place) → path (reachOf t p) ≡ whereOf t (Placed p)
 unfolding reachOf
 path-reach t p = path-levels t p (levelOf t (p .row)) (p .row)
 
-pub nothing-more : (b : Bool) (l : List Where) → pick b (placed []) refused ≡ placed l → [] ≡ l
+nothing-more : (b : Bool) (l : List Where) → pick b (placed []) refused ≡ placed l → [] ≡ l
 nothing-more true l e = cc
 nothing-more false l e = let z : _≡_ {A = ℕ} 0 1 = cc in absurd (omega arith)
 
@@ -52,7 +52,7 @@ module _ (t : Table) (good : T (wellFormed t)) where
 
   -- From the ways on to the rule's walk
 
-  abbrev pub Walks : Stepped → List ℕ → List Where → Type 0
+  abbrev Walks : Stepped → List ℕ → List Where → Type 0
   Walks s w l = (all isPlaced (walked t s w) ≡ true) × (map (whereOf t) (walked t s w) ≡ l)
 
   -- one segment, and what follows it
@@ -69,7 +69,7 @@ module _ (t : Table) (good : T (wellFormed t)) where
       let z : _≡_ {A = ℕ} 0 1 = cc in
       absurd (omega arith)
 
-  pub put-walks : (w : List ℕ) (p : Place) (l : List Where) → Inside t p → put t (reachOf t p) w ≡ placed l → Walks (Placed p) w l
+  put-walks : (w : List ℕ) (p : Place) (l : List Where) → Inside t p → put t (reachOf t p) w ≡ placed l → Walks (Placed p) w l
   unfolding put walked
   put-walks [] p l i e = (refl, nothing-more (mayEnd t (reachOf t p)) l e)
   put-walks (x ∷ w) p l i e = walks-on (reachOf t p) x w l (stepOf t p x) (step-same t good p i x) (λ q m j d. put-walks w q m j d) e

@@ -1,1 +1,2 @@
+pub mod OneArrangement
 pub mod Messages

@@ -14,28 +14,18 @@ use Rattle.placing.specs.declared.Place.{Place}
 use Rattle.placing.specs.declared.Stepped.{Stepped}
 use Rattle.placing.specs.declared.Stepped.the-variants.{Placed, OutOfPlace}
 use Rattle.placing.specs.Table.{Table, groupAt, levelOf}
-use Rattle.placing.specs.Tables.{tableOf}
 use Rattle.placing.specs.Place.{startPlace}
 use Rattle.placing.specs.Rule.{placeAfter, isPlaced}
 use Rattle.interchange.specs.Reader.{accepted, readingOf}
-use Rattle.acceptance.specs.Interchange.{Message, segmentsIn, Interchange, messageTypeOf, referenceIn, placesFrom, hasPlace, groupIn, isTrailer, placedSegments, isMessage, goodOpening, goodClosing, rulesHold, IsInterchange, withGroup, groupsIn}
+use Rattle.acceptance.specs.Interchange.{Message, Interchange, messageTypeOf, referenceIn, placesFrom, hasPlace, groupIn, isTrailer, placedSegments, isMessage, goodOpening, goodClosing, rulesHold, IsInterchange, withGroup}
 use Rattle.acceptance.specs.Within.{to-parts}
 use Rattle.acceptance.specs.Theorems.{only-when}
-use Rattle.one_way.specs.Arrangement.{Arrangement, isArrangement, tagsOf, Where, standings}
+use Rattle.one_way.specs.Arrangement.{Arrangement, isArrangement, tagsOf, standings}
 use Rattle.one_way.specs.Placings.{walked, placings, allPlaced, whereOn, whereOf}
 use Rattle.one_way.specs.Theorems.{at-most-one, arranged-when, exactly-when}
 use Rattle.one_way.specs.Whole.{uih-free, uih-first}
+use Rattle.one_way_messages.specs.OneArrangement.{tableFor, tagsIn, placesRead, rowIn, groupStanding, OneArrangement, EachOneWay}
 use Rattle.one_way.specs.Tables.{own-one-way}
-
--- the table of a message, its tags, and where the reader places its segments, the UIH first
-abbrev pub tableFor : Message → Table
-tableFor m = tableOf (messageTypeOf m)
-
-abbrev pub tagsIn : Message → List ℕ
-tagsIn m = map tagNumber (segmentsIn m)
-
-abbrev pub placesRead : Message → List Stepped
-placesRead m = Placed startPlace ∷ map (λ e. e .1) (placedSegments m)
 
 -- The reader's walk is the walk of the tags
 
@@ -98,13 +88,6 @@ module _ (m : Message) (heads : eqb (tagNumber (m .heading)) UIH ≡ true) (ends
 
 -- The group that the reader gives is that of the row in which the segment stands
 
-abbrev pub rowIn : Where → ℕ
-rowIn [] = 0
-rowIn (x ∷ l) = x .0
-
-abbrev pub groupStanding : Table → Where → ℕ
-groupStanding t w = groupAt t (rowIn w)
-
 row-told : (l : ℕ) (t : Table) (p : Place) (row : ℕ) → rowIn (whereOn l t p row) ≡ row
 unfolding whereOn
 row-told zero t p row = refl
@@ -119,15 +102,7 @@ module _ (t : Table) (free : groupAt t 0 ≡ 0) where
   groups-told [] = refl
   groups-told (e ∷ l) = ap₂ (λ x y. x ∷ y) (group-told (e .1)) (groups-told l)
 
--- A message of an interchange has one arrangement, and no other: its segments stand where the reader places them, in the groups that its rows name
-
-pub record OneArrangement (m : Message) : Type 0 where
-  pub drawn : Arrangement
-  pub arranged : isArrangement (tableFor m) drawn ≡ true
-  pub message : tagsOf drawn ≡ tagsIn m
-  pub places : standings (tableFor m) drawn ≡ map (whereOf (tableFor m)) (placesRead m)
-  pub groups : map (groupStanding (tableFor m)) (standings (tableFor m) drawn) ≡ map (λ e. e .1) (groupsIn m)
-  pub only : (a : Arrangement) → isArrangement (tableFor m) a ≡ true → tagsOf a ≡ tagsIn m → a ≡ drawn
+-- Each message has it
 
 pub message-one-way : (m : Message) → isMessage m ≡ true → OneArrangement m
 message-one-way m h =
@@ -145,11 +120,6 @@ message-one-way m h =
           ∙ ap₂ (λ x y. x ∷ y) (sym (group-told t free (Placed startPlace)) ∙ free) (sym (groups-told t free (placedSegments m)));
       only = λ a v e. at-most-one t (r .table .well) (r .one) a (c .0) v (c .1) (e ∙ sym (c .2));
     }
-
--- so has every message of an interchange
-abbrev pub EachOneWay : List Message → Type 0
-EachOneWay [] = Unit {0}
-EachOneWay (m ∷ ms) = OneArrangement m × EachOneWay ms
 
 each-one-way : (ms : List Message) → all isMessage ms ≡ true → EachOneWay ms
 each-one-way [] h = tt
