@@ -67,16 +67,17 @@ static inline int says(struct part p, const char *text) {
     return a == p.to;
 }
 
-// "Dates are yyyy-mm-dd, Gregorian, 1990-01-01 to 2099-12-31": the day's number from 1 on, 0 where it is no date.
+// "Dates are yyyy-mm-dd, Gregorian, 1990-01-01 to 2099-12-31": the day's number from 1 on, 0 where it is no date. The years are counted from March
+// on, so that a leap day is a year's last, from 1988-03-01, which is 671 days before 1990-01-01; any five months from March or August on have 153 days.
 static inline unsigned day_made(unsigned year, unsigned month, unsigned day) {
-    static const uint16_t before[13] = {0, 0, 31, 59, 90, 120, 151, 181, 212, 243, 273, 304, 334};
     static const uint8_t length[13] = {0, 31, 28, 31, 30, 31, 30, 31, 31, 30, 31, 30, 31};
     if (year < 1990 || year > 2099 || month < 1 || month > 12)
         return 0;
     unsigned leap = year % 4 == 0; // 2000 is a leap year, 2100 is past the last date
     if (day < 1 || day > length[month] + (month == 2 ? leap : 0u))
         return 0;
-    return (year - 1990) * 365 + (year - 1989) / 4 + before[month] + (month > 2 ? leap : 0u) + day;
+    unsigned years = year - 1988 - (month < 3), months = month < 3 ? month + 9 : month - 3;
+    return years * 365 + years / 4 + (months * 153 + 2) / 5 + day - 671;
 }
 
 // The number of a date that is written in ten characters.

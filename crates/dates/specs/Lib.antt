@@ -6,4 +6,4 @@ pub mod Back
 pub mod Text
 pub mod Again
 pub mod Read
-pub mod Starts
+pub mod Formula

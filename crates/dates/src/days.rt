@@ -3,11 +3,11 @@
 use crate::Date;
 use crate::Number;
 ghost use mathlib.Core.Path.{_≡_};
-ghost use Prim.Native.Nat.{_≤_, _<_};
-ghost use Rattle.dates.specs.Days.{leapYear, monthLength, isDate, monthDays};
+ghost use mathlib.Core.Bool.{true};
+ghost use Prim.Native.Nat.{_-_, _≤_, _<_};
+ghost use Rattle.dates.specs.Days.{leapYear, monthLength, isDate, monthDays, yearDays, dayNumber};
 ghost use Rattle.dates.specs.Dates.{dayOf};
 ghost use Rattle.dates.specs.Back.{InYear, InMonth};
-ghost use Rattle.dates.specs.Starts.{leapDay, daysIn, daysBefore};
 
 // The year, or the month, that a day stands in, and how many of its days stand before that day.
 pub(crate) struct DayWithin {
@@ -34,7 +34,7 @@ fn month_length(year: u32, month: u32) -> u32
     }
 }
 
-// Whether three numbers are a date of 1990-01-01 to 2099-12-31.
+// Whether three numbers are a date of 1990-01-01 to 2099-12-31. Every month has 28 days, so few dates need their month's length.
 pub(crate) fn is_date(year: u32, month: u32, day: u32) -> bool
     ensures { λ r. ⌜ r ≡ isDate year month day ⌝ }
 {
@@ -53,73 +53,49 @@ pub(crate) fn is_date(year: u32, month: u32, day: u32) -> bool
     if day < 1 {
         return false;
     }
+    if day <= 28 {
+        return true;
+    }
     day <= month_length(year, month)
 }
 
-// The leap day of a year: from 1990 to 2099 each fourth year has one, 1992 the first, and 2000 too.
-fn leap_day(year: u32) -> u32
-    ensures { λ r. ⌜ (r ≡ leapDay year) × (r ≤ 1) ⌝ }
+// The days of the years before a year: 365 for each, and one for each leap year, which is each fourth, 1992 the first. 2000 is one too, and 2100 is
+// past the last date.
+fn days_before_year(year: u32) -> u32
+    requires { ⌜ (1990 ≤ year) × (year ≤ 2099) ⌝ }
+    ensures { λ r. ⌜ (r ≡ yearDays (year - 1990)) × (r ≤ 39812) ⌝ }
 {
-    if year % 4 == 0 { 1 } else { 0 }
+    365 * (year - 1990) + (year - 1989) / 4
 }
 
-// The days of a month. But for February those of 31 days have an odd number up to July, and an even one from August on.
-fn days_in(month: u32, leap: u32) -> u32
-    requires { ⌜ (month ≤ 12) × (leap ≤ 1) ⌝ }
-    ensures { λ r. ⌜ (r ≡ daysIn month leap) × (r ≤ 31) ⌝ }
-{
-    if month == 2 {
-        return 28 + leap;
-    }
-    30 + (month + month / 8) % 2
-}
-
-// The days of a year before a month: from March on they are counted as if February had 30, and those that it has not are taken off.
-fn days_before(month: u32, leap: u32) -> u32
-    requires { ⌜ (1 ≤ month) × (month ≤ 12) × (leap ≤ 1) ⌝ }
-    ensures { λ r. ⌜ (r ≡ daysBefore month leap) × (r ≤ 335) ⌝ }
+// The days of the months before a month: as if February had 30, and from March on without the one or two that it has not.
+fn days_before_month(year: u32, month: u32) -> u32
+    requires { ⌜ (1990 ≤ year) × (year ≤ 2099) × (1 ≤ month) × (month ≤ 12) ⌝ }
+    ensures { λ r. ⌜ (r ≡ monthDays year (month - 1)) × (r ≤ 335) ⌝ }
 {
     let days = (367 * month - 362) / 12;
     if month < 3 {
         return days;
     }
-    days + leap - 2
+    if year % 4 == 0 { days - 1 } else { days - 2 }
 }
 
-// The number of a day, where the month has it.
-fn counted(year: u32, month: u32, day: u32) -> Number
-    requires { ⌜ (1990 ≤ year) × (year ≤ 2099) × (1 ≤ month) × (month ≤ 12) × (1 ≤ day) ⌝ }
-    ensures { λ r. ⌜ r ≡ dayOf year month day ⌝ }
+// How many days after 1990-01-01 a date is: the formula of docs/DAYS.md.
+fn number_of(year: u32, month: u32, day: u32) -> usize
+    requires { ⌜ isDate year month day ≡ true ⌝ }
+    ensures { λ r. ⌜ r ≡ dayNumber year month day ⌝ }
 {
-    let leap = leap_day(year);
-    if days_in(month, leap) < day {
-        return Number::NoDay;
-    }
-    let years = year - 1990;
-    let before = 365 * years + (years + 1) / 4 + days_before(month, leap);
-    Number::Day((before + (day - 1)) as usize)
+    (days_before_year(year) + days_before_month(year, month) + (day - 1)) as usize
 }
 
 /// The number of the day that a year, a month and a day of the month make.
 pub fn day_of(year: u32, month: u32, day: u32) -> Number
     ensures { λ r. ⌜ r ≡ dayOf year month day ⌝ }
 {
-    if year < 1990 {
-        return Number::NoDay;
+    if is_date(year, month, day) {
+        return Number::Day(number_of(year, month, day));
     }
-    if 2099 < year {
-        return Number::NoDay;
-    }
-    if month < 1 {
-        return Number::NoDay;
-    }
-    if 12 < month {
-        return Number::NoDay;
-    }
-    if day < 1 {
-        return Number::NoDay;
-    }
-    counted(year, month, day)
+    Number::NoDay
 }
 
 fn year_length(year: u32) -> usize

@@ -1,8 +1,10 @@
 -- `is_date` meets its contract.
 -- Assumes nothing.
+use native.Mathlib.Omega.{arith}
 use borrow.Author.Tests.{le-leb, lt-leb}
 use borrow.Author.Needs.{needs}
-use Rattle.dates.specs.Days.{isDate}
+use Rattle.dates.specs.Days.{monthLength, isDate}
+use Rattle.dates.specs.Facts.{month-at-least}
 use Rattle.dates.proofs.days.is_date.Statement.{statement}
 use Rattle.dates.proofs.days.is_date.Tie as tie
 
@@ -33,13 +35,19 @@ unfolding isDate
 returns-5 c =
     simp (le-leb _ _ (c .before .before .before .before .before .if1 .left), le-leb _ _ (c .before .before .before .if2 .left), le-leb _ _ (c .before .before .if3 .left), le-leb _ _ (c .before .if4 .left), lt-leb _ _ (c .if5 .taken))
 
-month-length-requires : tie.Need-month-length-requires
-month-length-requires c κs = search needs
-
 returns-6 : tie.Need-returns-6
 unfolding isDate
 returns-6 c =
-    let b = c .before in
+    let a = c .before .before .before .before .before .before .before .before .args in
+    simp (le-leb _ _ (c .before .before .before .before .before .before .if1 .left), le-leb _ _ (c .before .before .before .before .if2 .left), le-leb _ _ (c .before .before .before .if3 .left), le-leb _ _ (c .before .before .if4 .left), le-leb _ _ (c .before .if5 .left), le-leb (a .day) (monthLength (a .year) (a .month)) (omega (arith, month-at-least (a .year) (a .month), c .if6 .taken)))
+
+month-length-requires : tie.Need-month-length-requires
+month-length-requires c κs = search needs
+
+returns-7 : tie.Need-returns-7
+unfolding isDate
+returns-7 c =
+    let b = c .before .before in
     simp (le-leb _ _ (b .before .before .before .before .before .if1 .left), le-leb _ _ (b .before .before .before .if2 .left), le-leb _ _ (b .before .before .if3 .left), le-leb _ _ (b .before .if4 .left), le-leb _ _ (b .if5 .left), c .month-length .ensures)
 
 pub is-date-spec : {M : Type 1} → statement M
@@ -53,5 +61,6 @@ is-date-spec =
     returns-3
     returns-4
     returns-5
+    returns-6
     month-length-requires
-    returns-6)
+    returns-7)
