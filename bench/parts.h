@@ -67,8 +67,8 @@ static inline int says(struct part p, const char *text) {
     return a == p.to;
 }
 
-// "Dates are yyyy-mm-dd, Gregorian, 1990-01-01 to 2099-12-31": the day's number from 1 on, 0 where it is no date. The years are counted from March
-// on, so that a leap day is a year's last, from 1988-03-01, which is 671 days before 1990-01-01; any five months from March or August on have 153 days.
+// "Dates are yyyy-mm-dd, Gregorian, 1990-01-01 to 2099-12-31": the day's number from 1 on, 0 where it is no date. The years are counted from
+// March on, so that a leap day is a year's last, and from 1988-03-01, 671 days before 1990-01-01. March to July have 153 days, and so have August to December.
 static inline unsigned day_made(unsigned year, unsigned month, unsigned day) {
     static const uint8_t length[13] = {0, 31, 28, 31, 30, 31, 30, 31, 31, 30, 31, 30, 31};
     if (year < 1990 || year > 2099 || month < 1 || month > 12)
