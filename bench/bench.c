@@ -146,7 +146,9 @@ static void put_period(struct text *t) {
     if (fault_rate && one_in(fault_rate) && first)
         last = first - 1;
     if (fault_rate && one_in(fault_rate))
-        told = one_in(2) ? told + 1 : told - 1;
+        told = one_in(2) ? told + 1 : 0;
+    else if (one_in(3)) // a short day string
+        told = one_in(3) ? 1 : one_in(2) && told > 1 ? told - 1 : 1 + below(told);
     if (fault_rate && one_in(4 * fault_rate))
         return;
     put(t, '+');

@@ -72,7 +72,10 @@ int usual_period(const uint8_t *g, const uint8_t *end) {
         return 1;
     if (*p == '+')
         return only_weekdays(p + 1, end);
-    return (size_t)(end - p) == 2 + days && p[0] == ':' && p[1] == ':' && only_bits(p + 2, days);
+    if (end - p <= 2 || p[0] != ':' || p[1] != ':')
+        return 0;
+    size_t told = (size_t)(end - p) - 2;
+    return told <= days && only_bits(p + 2, told);
 }
 
 // ---- Any form, a character at a time ----
@@ -115,7 +118,7 @@ static unsigned days_of(const uint8_t **p, const uint8_t *end) {
     return days_between(day_number(dates), day_number(dates + 11));
 }
 
-// "Component 4440 is a string of 0 and 1, exactly one character for each day.": how many, or -1 where one is neither.
+// "Component 4440 is a string of 0 and 1": how many, or -1 where one is neither.
 static int bits_of(const uint8_t **p, const uint8_t *end) {
     int c, bits = 0;
     for (unsigned components = 2; components; components--) {
@@ -148,7 +151,8 @@ int good_period(const uint8_t *g, const uint8_t *end) {
     if (!(days = days_of(&p, end)))
         return 0;
     int bits = bits_of(&p, end);
-    if ((bits && bits != (int)days) || !rest_of_element(&p, end))
+    // "A shorter string, of at least one character, means not running on the days left. A longer one stays wrong." (document 02, A3)
+    if (bits < 0 || bits > (int)days || !rest_of_element(&p, end))
         return 0;
     if (p == end)
         return 1;

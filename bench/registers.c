@@ -112,7 +112,11 @@ static void put_period(struct text *t, unsigned first) {
     put_day(t, from + days - 1);
     if (one_in(3)) {
         puts_to(t, "::");
-        for (told -= one_in(100); told; told--)
+        if (one_in(100))
+            told = days + 1;
+        else if (one_in(3)) // a short day string
+            told = one_in(3) ? 1 : one_in(2) && told > 1 ? told - 1 : 1 + below(told);
+        for (; told; told--)
             put_character(t, '0' + (int)below(2));
     } else if (one_in(2)) {
         put(t, '+');

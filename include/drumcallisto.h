@@ -105,8 +105,10 @@ drumcallisto_reply drumcallisto_number(const uint8_t *interchange, size_t length
 drumcallisto_reply drumcallisto_days(const uint8_t *interchange, size_t length, const uint32_t *rows, size_t room,
                                      size_t from, size_t to, drumcallisto_date first, uint8_t *days, size_t days_length);
 
-/* The calendar as a whole POP segment, with a day string or with weekdays, to the front of `out`. value: the bytes written. 19, 20, 17. */
-drumcallisto_reply drumcallisto_write_day_string(const uint8_t *days, size_t days_length, drumcallisto_date first, drumcallisto_date last, uint8_t *out, size_t room);
+/* The calendar as a whole POP segment, with a day string or with weekdays, to the front of `out`. value: the bytes written. 19, 20, 17.
+   A day string has a character for each day or, where `short_form` is asked for, those up to the last running day, and a single 0 where
+   there is none; it is never 20. */
+drumcallisto_reply drumcallisto_write_day_string(const uint8_t *days, size_t days_length, drumcallisto_date first, drumcallisto_date last, bool short_form, uint8_t *out, size_t room);
 drumcallisto_reply drumcallisto_write_weekdays(const uint8_t *days, size_t days_length, drumcallisto_date first, drumcallisto_date last, uint8_t *out, size_t room);
 
 /* Whether the buffer is a register. */

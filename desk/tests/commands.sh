@@ -57,6 +57,18 @@ expect 0 "4712${tab}live${tab}$weekend" "" r show 3
 expect 0 "done${tab}0" "" r open --anew 2026-01-01 1 0 0 0 0 0 0 0
 expect 0 "done${tab}0" "" r check
 
+# a short day string: the days left do not run, from one character to one for each day; one more is 10
+anew
+for string in 1 0 100111100000 1001111000001; do
+    sk short.edi "PRD+17'$period::$string'"
+    same "rows with ::$string" 10 "$("$DESK" read short.edi | wc -l)"
+    expect 0 "done${tab}1" "" r stage 3 short.edi
+    expect 0 "17${tab}put${tab}$string$(zeros $((512 - ${#string})))" "" r show 3
+done
+sk long.edi "PRD+17'$period::10011110000010'"
+expect 1 "refused${tab}10${tab}62" "[$period::10011110000010']" r stage 3 long.edi
+expect 0 "17${tab}put${tab}$days" "" r show 3
+
 # months, as plain text and on a terminal
 anew
 sk one.edi "PRD+17'$period::1001111000001'POP+273:2001-12-25/2001-12-25'"

@@ -36,7 +36,7 @@ done << 'TABLE'
 7 47 ..:D:04A::UN+1'MSD+AAR:61'[UIT+1+4']
 8 13 UIB+UNOB:4+7'[UIH+TSDUPD:D:12B::UN+1']
 9 47 ..:D:04A::UN+1'MSD+AAR:61'[MSD+AAR:61']
-10 150 ..4711:::37+1187'PDT+::11'[POP+273:2000-08-01/2000-08-13::100111100000']
+10 150 ..4711:::37+1187'PDT+::11'[POP+273:2000-08-01/2000-08-13::10011110000011']
 TABLE
 printf '%s\n' "$(cat "$samples/paper.edi")" > newline.edi
 refused 7 63 "..+AAR:61'UIT+1+3'UIZ+7+1'[{0A}]" read newline.edi

@@ -1,4 +1,4 @@
-//! Calendars: 512 days as the bits of 64 bytes, and their two written forms.
+//! Calendars: 512 days as the bits of 64 bytes, and their written forms.
 
 use crate::library;
 use crate::{Date, Refusal};
@@ -8,8 +8,17 @@ use std::fmt;
 pub const CALENDAR_LENGTH: usize = 64;
 /// Days of a calendar and of a register's window.
 pub const WINDOW_DAYS: usize = 512;
-/// Bytes that hold either written form: `POP+273:`, two dates and what parts them, `::`, a character for each day, `'`.
+/// Bytes that hold any written form: `POP+273:`, two dates and what parts them, `::`, a character for each day, `'`.
 const WRITTEN_LENGTH: usize = 8 + 21 + 2 + WINDOW_DAYS + 1;
+
+/// How much of a day string is written.
+#[derive(Clone, Copy, PartialEq, Eq, Debug)]
+pub enum DayString {
+    /// A character for each day.
+    Full,
+    /// The characters up to the last running day, or a single 0 where there is none.
+    Short,
+}
 
 /// The days of a calendar, counted from its first date, which it does not hold: bit k % 8, from the lowest, of byte k / 8 is day k.
 #[derive(Clone, Copy, PartialEq, Eq, Hash)]
@@ -61,9 +70,9 @@ impl Calendar {
         self.days().count()
     }
 
-    /// The calendar from `first` to `last` as a whole POP segment with a day string. 19.
-    pub fn write_day_string(&self, first: Date, last: Date) -> Result<String, Refusal> {
-        library::written(WRITTEN_LENGTH, |out| library::write_day_string(&self.bytes, first, last, out))
+    /// The calendar from `first` to `last` as a whole POP segment with a day string, in full or short. 19.
+    pub fn write_day_string(&self, first: Date, last: Date, form: DayString) -> Result<String, Refusal> {
+        library::written(WRITTEN_LENGTH, |out| library::write_day_string(&self.bytes, first, last, form == DayString::Short, out))
     }
 
     /// The calendar from `first` to `last` as a whole POP segment with weekdays. 19, 20.

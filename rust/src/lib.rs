@@ -23,7 +23,7 @@ mod reading;
 mod refusal;
 mod register;
 
-pub use calendar::{Calendar, CALENDAR_LENGTH, WINDOW_DAYS};
+pub use calendar::{Calendar, DayString, CALENDAR_LENGTH, WINDOW_DAYS};
 pub use date::{Date, NotWrittenAsDate};
 pub use parcels::{room_for, Parcels, Taken, STORE_LENGTH};
 pub use reading::{read, Change, Reading, Row, Service, Services, INTERCHANGE_LENGTH};

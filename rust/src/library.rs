@@ -45,7 +45,7 @@ extern "C" {
         days: *mut u8,
         days_length: usize,
     ) -> Reply;
-    fn drumcallisto_write_day_string(days: *const u8, length: usize, first: Date, last: Date, out: *mut u8, room: usize) -> Reply;
+    fn drumcallisto_write_day_string(days: *const u8, length: usize, first: Date, last: Date, short_form: bool, out: *mut u8, room: usize) -> Reply;
     fn drumcallisto_write_weekdays(days: *const u8, length: usize, first: Date, last: Date, out: *mut u8, room: usize) -> Reply;
     fn drumcallisto_is_register(register: *const u8, length: usize) -> bool;
     fn drumcallisto_open(register: *mut u8, length: usize, first: Date, quotas: *const u32) -> Reply;
@@ -118,9 +118,9 @@ pub fn days(interchange: &[u8], rows: &[u32], from: usize, to: usize, first: Dat
 }
 
 /// How many bytes it wrote.
-pub fn write_day_string(days: &[u8], first: Date, last: Date, out: &mut [u8]) -> Result<usize, Refusal> {
+pub fn write_day_string(days: &[u8], first: Date, last: Date, short_form: bool, out: &mut [u8]) -> Result<usize, Refusal> {
     // SAFETY: two slices, and the one written is lent with `&mut`.
-    told(unsafe { drumcallisto_write_day_string(days.as_ptr(), days.len(), first, last, out.as_mut_ptr(), out.len()) })
+    told(unsafe { drumcallisto_write_day_string(days.as_ptr(), days.len(), first, last, short_form, out.as_mut_ptr(), out.len()) })
 }
 
 /// How many bytes it wrote.

@@ -3,7 +3,7 @@
 mod common;
 
 use common::*;
-use drumcallisto::{is_register, read, Calendar, Date, Refusal, Register, REGISTER_LENGTH};
+use drumcallisto::{is_register, read, Calendar, Date, DayString, Refusal, Register, REGISTER_LENGTH};
 
 /// What must hold of any bytes; says whether they were accepted.
 fn answers(register: &Register, bytes: &[u8]) -> bool {
@@ -125,7 +125,8 @@ fn calendars() {
         let front = chance.below(3);
         days[..front].copy_from_slice(&chance.bytes(front, &any));
         let (calendar, first, last) = (Calendar::from_bytes(days), date(&mut chance), date(&mut chance));
-        match (calendar.write_day_string(first, last), calendar.write_weekdays(first, last)) {
+        let form = if chance.below(2) == 0 { DayString::Full } else { DayString::Short };
+        match (calendar.write_day_string(first, last, form), calendar.write_weekdays(first, last)) {
             (Err(a), Err(b)) => assert!(a == refused(19, 0) && b == a),
             (Ok(string), weekdays) => {
                 written += 1;

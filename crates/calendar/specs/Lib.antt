@@ -10,5 +10,6 @@ pub mod Check
 pub mod Form
 pub mod Same
 pub mod Good
+pub mod Short
 pub mod Empty
 pub mod Parts

@@ -1,7 +1,7 @@
 -- The written forms put into the lent bytes part by part, and what the writers answer.
 -- Assumes nothing.
 use mathlib.Core.Path.{_≡_, refl, sym, ap, _∙_}
-use mathlib.Core.Bool.{true, false}
+use mathlib.Core.Bool.{Bool, true, false}
 use mathlib.Core.List.{List, [], _∷_, _++_}
 use Prim.Native.Nat.{ℕ, _+_, _<_, _≤_}
 use native.Mathlib.Omega.{arith}
@@ -15,7 +15,7 @@ use Rattle.laws.specs.Put.{putAt, put-behind, put-no-room}
 use Rattle.dates.specs.Text.{dateText}
 use Rattle.dates.specs.Again.{length-text}
 use Rattle.dates.specs.declared.Date.{Date}
-use Rattle.calendar.specs.Written.{anyDay, checkedOf, start, dayCharacters, dayStringText, textAnswer, dayStringAnswer, dayStringBytes, named, allOn, weekdayForm, digitsFrom, namedText, weekdayAnswer, weekdayBytes}
+use Rattle.calendar.specs.Written.{anyDay, checkedOf, start, dayCharacters, characterCount, dayStringText, textAnswer, dayStringAnswer, dayStringBytes, named, allOn, weekdayForm, digitsFrom, namedText, weekdayAnswer, weekdayBytes}
 use Rattle.calendar.specs.Days.{hasBit}
 use Rattle.calendar.specs.Week.{weekOf}
 use Rattle.calendar.specs.WeekLaws.{week-named, on-same, digits-same}
@@ -69,18 +69,18 @@ module _ (c : List ℕ) (first last : Date) (n : ℕ) (o : List ℕ) where
         put-behind o 0 (start first last ++ bytes "::" ++ dayCharacters c 0 n) (bytes "'") (31 + n) b e₄ refl (simp (length-append, length-start, length-characters, zero-add)) (simp (length-append, length-start, length-characters) (omega arith)),
       )
 
-module _ (c : List ℕ) (first last : Date) (o : List ℕ) where
-  pub day-string-bad : checkedOf c first last ≡ Bad → (badCalendar ≡ dayStringAnswer c first last o) × (o ≡ dayStringBytes c first last o)
+module _ (short : Bool) (c : List ℕ) (first last : Date) (o : List ℕ) where
+  pub day-string-bad : checkedOf c first last ≡ Bad → (badCalendar ≡ dayStringAnswer short c first last o) × (o ≡ dayStringBytes short c first last o)
   unfolding dayStringAnswer dayStringBytes
   day-string-bad e = let g = checked-bad c first last e in (rw g, rw g)
 
-  pub day-string-good : {f n : ℕ} {r : Answer ℕ} {p : List ℕ} → checkedOf c first last ≡ Days f n
-      → (r ≡ textAnswer (dayStringText c first last n) o) × (p ≡ putAt o 0 (dayStringText c first last n))
-      → (r ≡ dayStringAnswer c first last o) × (p ≡ dayStringBytes c first last o)
+  pub day-string-good : {f n m : ℕ} {r : Answer ℕ} {p : List ℕ} → checkedOf c first last ≡ Days f n → m ≡ characterCount short c n
+      → (r ≡ textAnswer (dayStringText c first last m) o) × (p ≡ putAt o 0 (dayStringText c first last m))
+      → (r ≡ dayStringAnswer short c first last o) × (p ≡ dayStringBytes short c first last o)
   unfolding dayStringAnswer dayStringBytes
-  day-string-good e w =
+  day-string-good e q w =
       let g = checked-good c first last e in
-      (rw (g .0, g .2) (w .0), rw (g .0, g .2) (w .1))
+      (rw (g .0, g .2, sym q) (w .0), rw (g .0, g .2, sym q) (w .1))
 
 -- the weekday form
 module _ (first last : Date) (w o : List ℕ) where

@@ -64,13 +64,22 @@ unfoldable pub start : Date → Date → List ℕ
 start first last =
     bytes "POP+273:" ++ dateText first ++ bytes "/" ++ dateText last
 
--- "a string of `0` and `1`, exactly one character for each day": that of day k, and those of the n days from day k on
+-- "a string of `0` and `1`", one character for each day: that of day k, and those of the n days from day k on
 unfoldable pub dayCharacter : List ℕ → ℕ → ℕ
 dayCharacter c k = pick (day c k) 49 48
 
 unfoldable pub dayCharacters : List ℕ → ℕ → ℕ → List ℕ
 dayCharacters c k zero = []
 dayCharacters c k (suc n) = dayCharacter c k ∷ dayCharacters c (k + 1) n
+
+-- Document 02, A3: how many characters the short form has of n days: "up to the last running day, or a single 0 if there is none"
+unfoldable pub shortCount : List ℕ → ℕ → ℕ
+shortCount c zero = 1
+shortCount c (suc n) = pick (day c n) (suc n) (shortCount c n)
+
+-- "The writer writes all characters, or on request the short form"
+abbrev pub characterCount : Bool → List ℕ → ℕ → ℕ
+characterCount short c n = pick short (shortCount c n) n
 
 -- the day string of n characters is component 4440, the fourth of the first element; the third is empty
 unfoldable pub dayStringText : List ℕ → Date → Date → ℕ → List ℕ
@@ -80,15 +89,19 @@ dayStringText c first last n = start first last ++ bytes "::" ++ dayCharacters c
 unfoldable pub textAnswer : List ℕ → List ℕ → Answer ℕ
 textAnswer text out = pick (leb (length text) (length out)) (done (length text)) outputTooShort
 
+-- the day string of a calendar, in full or short
+abbrev pub stringText : Bool → List ℕ → Date → Date → List ℕ
+stringText short c first last = dayStringText c first last (characterCount short c (dayCount first last))
+
 -- "the day string always exists": 19, then 17, then the bytes
-unfoldable pub dayStringAnswer : List ℕ → Date → Date → List ℕ → Answer ℕ
-dayStringAnswer c first last out =
-    pick (goodCalendar c first last) (textAnswer (dayStringText c first last (dayCount first last)) out) badCalendar
+unfoldable pub dayStringAnswer : Bool → List ℕ → Date → Date → List ℕ → Answer ℕ
+dayStringAnswer short c first last out =
+    pick (goodCalendar c first last) (textAnswer (stringText short c first last) out) badCalendar
 
 -- on a refusal the lent bytes stay, and so do those past the text
-unfoldable pub dayStringBytes : List ℕ → Date → Date → List ℕ → List ℕ
-dayStringBytes c first last out =
-    pick (goodCalendar c first last) (putAt out 0 (dayStringText c first last (dayCount first last))) out
+unfoldable pub dayStringBytes : Bool → List ℕ → Date → Date → List ℕ → List ℕ
+dayStringBytes short c first last out =
+    pick (goodCalendar c first last) (putAt out 0 (stringText short c first last)) out
 
 -- whether one of the first n days is selected and falls on the weekday w; f is the number of the first date
 unfoldable pub named : List ℕ → ℕ → ℕ → ℕ → Bool
@@ -129,3 +142,19 @@ unfoldable pub weekdayBytes : List ℕ → Date → Date → List ℕ → List �
 weekdayBytes c first last out =
     pick (both (goodCalendar c first last) (weekdayForm c (number first) (dayCount first last)))
     (putAt out 0 (weekdayText c first last)) out
+
+-- "All three forms of a calendar": which of them there are, and the text of each
+pub data WrittenForm : Type 0 where
+  allCharacters : WrittenForm
+  shortForm : WrittenForm
+  weekdays : WrittenForm
+
+abbrev pub formExists : WrittenForm → List ℕ → Date → Date → Bool
+formExists allCharacters c first last = true
+formExists shortForm c first last = true
+formExists weekdays c first last = weekdayForm c (number first) (dayCount first last)
+
+abbrev pub formText : WrittenForm → List ℕ → Date → Date → List ℕ
+formText allCharacters c first last = stringText false c first last
+formText shortForm c first last = stringText true c first last
+formText weekdays c first last = weekdayText c first last

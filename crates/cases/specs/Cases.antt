@@ -93,8 +93,9 @@ table =
     ∷ pop "POP+273:2000-08-01/2000-08-13+66'" (refused 10)
     ∷ pop "POP+273:2000-08-01/2000-08-13::1001111000001+67'" (refused 10)
     ∷ pop "POP+273:2000-08-13/2000-08-01'" (refused 10)
-    -- P8 12 characters for 13 days: 10
-    ∷ pop "POP+273:2000-08-01/2000-08-13::100111100000'" (refused 10)
+    -- P8 12 characters for 13 days: document 02, A3, "becomes an accepted one", and does not run on the day left; 14 stay 10
+    ∷ pop "POP+273:2000-08-01/2000-08-13::100111100000'" (period (august 1) (august 13) 13 (only (august 1 ∷ august 4 ∷ august 5 ∷ august 6 ∷ august 7 ∷ [])))
+    ∷ pop "POP+273:2000-08-01/2000-08-13::10011110000010'" (refused 10)
     -- P9 account 2 withdraws a number only account 1 has pending: 16, register bytes equal
     ∷ call pendingInFirst (2, withdraw (bytes "17")) (refusedWith 16 0)
     -- P10 quota 1, one live: a put of another number is 15, of the same number 0

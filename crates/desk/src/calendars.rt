@@ -1,4 +1,4 @@
-//! The two written forms of a calendar, for C.
+//! The written forms of a calendar, for C.
 
 use crate::Reply;
 use crate::done;
@@ -43,18 +43,19 @@ fn told(written: Written) -> Reply
     }
 }
 
-/// The calendar as a POP with a day string, one character for each day, to the front of a lent buffer.
+/// The calendar as a POP with a day string, in the short form where it is asked for, to the front of a lent buffer.
 #[no_mangle]
 pub extern "C" fn drumcallisto_write_day_string(
     days: &[u8],
     first: Day,
     last: Day,
+    short: bool,
     out: &mut [u8],
 ) -> Reply
-    ensures told { λ r. ⌜ r ≡ replyOf (dayStringAnswer (now (days .entry)) (dayDate first) (dayDate last) (now (out .entry))) ⌝ }
-    ensures left { λ _. ⌜ now (out .exit) ≡ dayStringBytes (now (days .entry)) (dayDate first) (dayDate last) (now (out .entry)) ⌝ }
+    ensures told { λ r. ⌜ r ≡ replyOf (dayStringAnswer short (now (days .entry)) (dayDate first) (dayDate last) (now (out .entry))) ⌝ }
+    ensures left { λ _. ⌜ now (out .exit) ≡ dayStringBytes short (now (days .entry)) (dayDate first) (dayDate last) (now (out .entry)) ⌝ }
 {
-    told(calendar::write_day_string(days, date_of(first), date_of(last), out))
+    told(calendar::write_day_string(days, date_of(first), date_of(last), short, out))
 }
 
 /// The calendar as a POP with weekdays, where it has that form, to the front of a lent buffer.

@@ -103,7 +103,7 @@ days-bits (b ∷ l) e (suc j) h =
     ap (hasBit (lowestOf l * 2 + b % 2)) (sym z) ∙ sym (down-bit (lowestOf l * 2 + b % 2) 1 j) ∙ ap (λ (x : ℕ). hasBit x j) y
     ∙ days-bits l (both-parts (zeroOrOne b) (all zeroOrOne l) e .1) j (omega arith)
 
-all-drop : (f : ℕ → Bool) (k : ℕ) (s : List ℕ) → all f s ≡ true → all f (drop k s) ≡ true
+pub all-drop : (f : ℕ → Bool) (k : ℕ) (s : List ℕ) → all f s ≡ true → all f (drop k s) ≡ true
 all-drop f zero s e = e
 all-drop f (suc k) [] e = refl
 all-drop f (suc k) (a ∷ l) e = all-drop f k l (both-parts (f a) (all f l) e .1)

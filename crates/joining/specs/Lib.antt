@@ -8,3 +8,4 @@ pub mod Eights
 pub mod Gathered
 pub mod Places
 pub mod Weekdays
+pub mod Strings

@@ -1,62 +1,67 @@
 -- Where the day string of a good period stands: the parts before it have so many bytes that it may be the rest of the POP.
 -- Assumes nothing.
 use mathlib.Core.Path.{_≡_, refl, sym, ap, _∙_}
-use mathlib.Core.Bool.{Bool, true, false, not}
+use mathlib.Core.Bool.{Bool, true, false}
 use mathlib.Core.List.{List, [], _∷_, _++_}
-use Prim.Native.Nat.{ℕ, zero, suc, _+_, _-_, _≤_, _<_}
+use Prim.Native.Nat.{ℕ, suc, _+_, _-_, _≤_, _<_}
 use native.Mathlib.Omega.{arith}
 use native.Mathlib.Decide.{decLt, ℕ-discrete}
-use lib.Dec.{eqb}
-use lib.ListN.{length, getD, take, drop, length-drop}
-use lib.Seq.{drop-drop, take-all}
-use borrow.Author.Tests.{eqb-true, ne-eqb}
+use lib.Dec.{eqb, leb}
+use lib.ListN.{length, getD, drop, length-drop}
+use lib.Seq.{drop-drop, getD-drop, take-all}
+use borrow.Author.Tests.{eqb-true, ne-eqb, leb-true}
 use Rattle.laws.specs.Lists.{drop-here}
 use Rattle.laws.specs.Text.{bytes}
-use Rattle.laws.specs.Choice.{pick, both, either, all, both-parts, choose, false≢true}
-use Rattle.syntax.specs.Bytes.{stands, releases, unless, plain, plainOn}
+use Rattle.laws.specs.Choice.{all, both-parts, choose, false≢true}
+use Rattle.syntax.specs.Bytes.{releases}
 use Rattle.syntax.specs.Few.{plain-length}
 use Rattle.syntax.specs.Firsts.{first-take, first-length}
-use Rattle.syntax.specs.Pieces.{firstPiece, laterPieces, pieces, nth, elements, occurrences, components, partOf}
-use Rattle.parts.specs.Places.{bytesOf, present}
+use Rattle.syntax.specs.Pieces.{firstPiece, laterPieces, pieces, nth, components, partOf}
+use Rattle.parts.specs.Places.{bytesOf}
 use Rattle.parts.specs.Cuts.{later-split, later-none}
 use Rattle.values.specs.Values.{sameText}
 use Rattle.period.specs.declared.Form.{Form}
-use Rattle.period.specs.declared.Form.the-variants.{Every, ByString, ByWeekdays}
+use Rattle.period.specs.declared.Form.the-variants.{ByString}
 use Rattle.period.specs.declared.Fault.the-variants.{BadDates}
 use Rattle.period.specs.declared.Period.the-variants.{Good, Wrong}
 use Rattle.period.specs.Period.{qualifier, firstLast, dayText, weekText, spanIn, zeroOrOne, dayString, fitsDays, formOf, restGood, periodOf}
-use Rattle.period.specs.Facts.{good-told, form-told, good-bounds}
-use Rattle.joining.specs.Joined.{marked}
+use Rattle.period.specs.Facts.{good-told, form-told}
+use Rattle.joining.specs.Gathered.{all-drop}
 
--- release takes no byte away only where there is none to take
-plain-same : (r : Bool) (l : List ℕ) → length (plainOn r l) ≡ length l → plainOn r l ≡ l
-unfolding plainOn
-plain-same r [] e = refl
-plain-same r (b ∷ l) e =
-    choose (stands 63 r b)
-    (λ q. let f = rw q at e in let h = plain-length (releases r b) l in absurd (omega arith))
-    (λ q. let f = rw q at e in rw q (ap (λ (x : List ℕ). b ∷ x) (plain-same (releases r b) l (omega arith))))
+-- a piece that ends before its text does ends at its mark
+ends-at : (c : ℕ) (r : Bool) (l : List ℕ) → length (firstPiece c r l) < length l → getD l (length (firstPiece c r l)) 0 ≡ c
+unfolding firstPiece
+ends-at c r [] h = absurd (omega arith)
+ends-at c true (b ∷ l) h = ends-at c false l (omega arith)
+ends-at c false (b ∷ l) h =
+    choose (eqb b c)
+    (λ q. rw q (eqb-true b c q))
+    (λ q. let k = rw q at h in rw q (ends-at c (releases false b) l (omega arith)))
 
--- a day string has a character for each day, and each is `0` or `1`
-string-days : (n : ℕ) (t : List ℕ) → dayString n t ≡ true → (length t ≡ n) × (all zeroOrOne t ≡ true)
-unfolding dayString
-string-days n t e =
-    let p = both-parts (eqb (length t) n) (all zeroOrOne t) e in
-    (eqb-true (length t) n (p .0), p .1)
+-- where from an index on only characters of days stand, one of them stands at each index behind it
+day-at : (l : List ℕ) (i j : ℕ) → all zeroOrOne (drop i l) ≡ true → i ≤ j → j < length l → zeroOrOne (getD l j 0) ≡ true
+day-at l i j p h k =
+    let e : i + (j - i) ≡ j = omega arith in
+    let q = sym (ap (λ (x : List ℕ). all zeroOrOne x) (drop-drop (j - i) i l ∙ ap (λ (x : ℕ). drop x l) e)) ∙ all-drop zeroOrOne (j - i) (drop i l) p in
+    both-parts (zeroOrOne (getD l j 0)) (all zeroOrOne (drop (j + 1) l)) (sym (ap (all zeroOrOne) (drop-here l j k)) ∙ q) .0
 
--- a day string as it stands
-module _ (p : List ℕ) (n : ℕ) (e : dayString n (plain p) ≡ true) (f : length p ≡ n) where
-  stands-plain : plain p ≡ p
-  stands-plain = plain-same false p (string-days n (plain p) e .0 ∙ sym f)
+-- so no mark does, and a piece that reaches so far is the rest
+no-mark : (c : ℕ) (l : List ℕ) (i j : ℕ) → zeroOrOne c ≡ false → all zeroOrOne (drop i l) ≡ true → j < length l → getD l j 0 ≡ c → j < i
+no-mark c l i j m p k e =
+    elim (decLt j i) [
+      | yes h ↦ h
+      | no h ↦ absurd (false≢true (sym m ∙ sym (ap zeroOrOne e) ∙ day-at l i j p (omega arith) k))
+    ]
 
-  pub days-plain : all zeroOrOne p ≡ true
-  days-plain = sym (ap (all zeroOrOne) stands-plain) ∙ string-days n (plain p) e .1
+whole-first : (c : ℕ) (l : List ℕ) → length l ≤ length (firstPiece c false l) → firstPiece c false l ≡ l
+whole-first c l h = first-take c false l ∙ take-all (length (firstPiece c false l)) l h
 
-  pub text-plain : (c : List ℕ) (at : ℕ) {last : List ℕ} → last ≡ marked (λ (k : ℕ). eqb (getD p k 0) 49) c at 0 (length p)
-      → last ≡ marked (λ (k : ℕ). eqb (getD (plain p) k 0) 49) c at 0 n
-  text-plain c at l =
-      l ∙ ap (λ (x : List ℕ). marked (λ (k : ℕ). eqb (getD x k 0) 49) c at 0 (length p)) (sym stands-plain)
-      ∙ ap (marked (λ (k : ℕ). eqb (getD (plain p) k 0) 49) c at 0) f
+whole-from : (c : ℕ) (l : List ℕ) (i : ℕ) → zeroOrOne c ≡ false → all zeroOrOne (drop i l) ≡ true → i ≤ length (firstPiece c false l) → firstPiece c false l ≡ l
+whole-from c l i m p h =
+    elim (decLt (length (firstPiece c false l)) (length l)) [
+      | yes k ↦ let n = no-mark c l i (length (firstPiece c false l)) m p k (ends-at c false l k) in absurd (omega arith)
+      | no k ↦ whole-first c l (omega arith)
+    ]
 
 -- a piece after the first that has bytes: the first ends before the text does, and the others are those of what follows it
 pub there : (l : List ℕ) (k : ℕ) → 1 ≤ length (getD (laterPieces 58 false l) k [])
@@ -76,6 +81,7 @@ record Fourth (l : List ℕ) : Type 0 where
   pub is : nth (components l) 4 ≡ firstPiece 58 false (drop start l)
   pub behind : length (nth (components l) 1) + length (nth (components l) 2) + 3 ≤ start
   pub inside : start ≤ length l
+  pub mark : getD l (start - 1) 0 ≡ 58
 
 fourth : (l : List ℕ) → 1 ≤ length (nth (components l) 4) → Fourth l
 fourth l h =
@@ -100,23 +106,21 @@ fourth l h =
     let b = length (firstPiece 58 false l₁) + 1 in
     let c = length (firstPiece 58 false l₂) + 1 in
     let k : a + (b + c) ≡ a + b + c = omega arith in
+    let j : a + (b + length (firstPiece 58 false l₂)) ≡ a + b + c - 1 = omega arith in
     record {
       start = a + b + c;
       is = e₁ ∙ e₂ ∙ e₃ ∙ ap (firstPiece 58 false) (drop-drop c b l₁ ∙ drop-drop (b + c) a l ∙ ap (λ (x : ℕ). drop x l) k);
       behind = omega arith;
       inside = omega arith;
+      mark =
+          ap (λ (x : ℕ). getD l x 0) (sym j) ∙ sym (getD-drop a l (b + length (firstPiece 58 false l₂)) 0) ∙ sym (getD-drop b l₁ (length (firstPiece 58 false l₂)) 0)
+          ∙ ends-at 58 false l₂ u₃;
     }
 
--- what a day string's POP says before it and in it, counted in bytes
-pub record Spoken (g : List ℕ) (n : ℕ) : Type 0 where
-  pub some : 1 ≤ n
-  pub few : n ≤ 512
+-- what is known of the first element's parts, counted in bytes
+pub record Dated (g : List ℕ) : Type 0 where
   pub qualified : 3 ≤ length (partOf g 1 1 1)
   pub dated : 21 ≤ length (partOf g 1 1 2)
-  pub told : dayString n (dayText g) ≡ true
-
-whole-first : (c : ℕ) (l : List ℕ) → length l ≤ length (firstPiece c false l) → firstPiece c false l ≡ l
-whole-first c l h = first-take c false l ∙ take-all (length (firstPiece c false l)) l h
 
 -- a POP that begins with its tag and a mark
 abbrev pub Tagged : List ℕ → Type 0
@@ -132,40 +136,45 @@ module _ (r : List ℕ) where
   abbrev pub element : List ℕ
   element = firstPiece 42 false (firstPiece 43 false r)
 
-  place-in : (n : ℕ) → 1 ≤ n → 3 ≤ length (nth (components element) 1) → 21 ≤ length (nth (components element) 2) → n ≤ length (nth (components element) 4)
-      → length r ≡ 27 + n → drop 27 r ≡ nth (components element) 4
-  place-in n p q d t h =
-      let o = fourth element (omega arith) in
-      let u = first-length 43 false r in
-      let v = first-length 42 false (firstPiece 43 false r) in
+  place-in : 3 ≤ length (nth (components element) 1) → 21 ≤ length (nth (components element) 2) → 1 ≤ length (nth (components element) 4)
+      → all zeroOrOne (drop 27 r) ≡ true → drop 27 r ≡ nth (components element) 4
+  place-in q d t p =
+      let o = fourth element t in
+      let j = o .behind in
+      let i = o .inside in
       let w = first-length 58 false (drop (o .start) element) in
       let l = length-drop (o .start) element in
       let m = ap length (o .is) in
-      let i = o .inside in
-      let j = o .behind in
+      let u = first-length 42 false (firstPiece 43 false r) in
+      let f = whole-from 43 r 27 refl p (omega arith) in
+      let z : element ≡ r = whole-from 42 (firstPiece 43 false r) 27 refl (ap (λ (x : List ℕ). all zeroOrOne (drop 27 x)) f ∙ p) (omega arith) ∙ f in
+      let e = ap (λ (x : List ℕ). all zeroOrOne (drop 27 x)) z ∙ p in
+      let n = no-mark 58 element 27 (o .start - 1) refl e (omega arith) (o .mark) in
       let k : o .start ≡ 27 = omega arith in
-      let z : element ≡ r = whole-first 42 (firstPiece 43 false r) (omega arith) ∙ whole-first 43 r (omega arith) in
-      sym (o .is ∙ whole-first 58 (drop (o .start) element) (omega arith) ∙ ap (λ (x : ℕ). drop x element) k ∙ ap (drop 27) z)
+      sym (o .is ∙ whole-from 58 (drop (o .start) element) 0 refl (ap (λ (x : ℕ). all zeroOrOne (drop x element)) k ∙ e) (omega arith) ∙ ap (λ (x : ℕ). drop x element) k ∙ ap (drop 27) z)
 
 pub element-cut : (r : List ℕ) (m : ℕ) → partOf (bytes "POP+" ++ r) 1 1 m ≡ nth (components (element r)) m
 unfolding partOf laterPieces
 element-cut r m = refl
 
--- so behind `POP+` and 27 bytes more it is the rest, where that is as long
-pub string-place : (g : List ℕ) (n : ℕ) → Spoken g n → length g ≡ 31 + n → Tagged g → drop 31 g ≡ partOf g 1 1 4
-string-place g n s h e =
+-- so where behind `POP+` and 27 bytes more only characters of days stand, they are the string
+pub record Bare (g : List ℕ) : Type 0 where
+  pub tagged : Tagged g
+  pub long : 31 ≤ length g
+  pub days : all zeroOrOne (drop 31 g) ≡ true
+
+pub string-place : (g : List ℕ) → Dated g → 1 ≤ length (dayText g) → Bare g → drop 31 g ≡ partOf g 1 1 4
+string-place g s c o =
     let a = s .qualified in
     let b = s .dated in
-    let c = string-days n (dayText g) (s .told) .0 in
     let d = plain-length false (partOf g 1 1 4) in
     let i : length (partOf g 1 1 1) ≡ length (nth (components (element (drop 4 g))) 1) = ap length (inside 1) in
     let j : length (partOf g 1 1 2) ≡ length (nth (components (element (drop 4 g))) 2) = ap length (inside 2) in
     let k : length (partOf g 1 1 4) ≡ length (nth (components (element (drop 4 g))) 4) = ap length (inside 4) in
-    let l = length-drop 4 g in
-    sym (drop-drop 27 4 g) ∙ place-in (drop 4 g) n (s .some) (omega arith) (omega arith) (omega arith) (omega arith) ∙ sym (inside 4)
+    sym (drop-drop 27 4 g) ∙ place-in (drop 4 g) (omega arith) (omega arith) (omega arith) (ap (all zeroOrOne) (drop-drop 27 4 g) ∙ o .days) ∙ sym (inside 4)
   where
     inside : (m : ℕ) → partOf g 1 1 m ≡ nth (components (element (drop 4 g))) m
-    inside m = ap (λ (x : List ℕ). partOf x 1 1 m) e ∙ element-cut (drop 4 g) m
+    inside m = ap (λ (x : List ℕ). partOf x 1 1 m) (o .tagged) ∙ element-cut (drop 4 g) m
 
 -- a good period with a day string
 same-length : (a b : List ℕ) → sameText a b ≡ true → length a ≡ length b
@@ -175,10 +184,23 @@ same-length [] (y ∷ b) e = absurd (false≢true e)
 same-length (x ∷ a) [] e = absurd (false≢true e)
 same-length (x ∷ a) (y ∷ b) e = ap suc (same-length a b (both-parts (eqb x y) (sameText a b) e .1))
 
-string-given : (n : ℕ) (d w : List ℕ) → formOf d w ≡ ByString → fitsDays n d ≡ true → dayString n d ≡ true
+string-given : (n : ℕ) (d w : List ℕ) → formOf d w ≡ ByString → fitsDays n d ≡ true → (1 ≤ length d) × (dayString n d ≡ true)
 string-given n [] [] e p = let z : _≡_ {A = ℕ} 0 1 = cc in absurd (omega arith)
 string-given n [] (b ∷ w) e p = let z : _≡_ {A = ℕ} 0 1 = cc in absurd (omega arith)
-string-given n (b ∷ d) w e p = p
+string-given n (b ∷ d) w e p = (omega arith, p)
+
+-- a day string has at most a character for each day, and each is `0` or `1`
+string-days : (n : ℕ) (t : List ℕ) → dayString n t ≡ true → (length t ≤ n) × (all zeroOrOne t ≡ true)
+unfolding dayString
+string-days n t e =
+    let p = both-parts (leb (length t) n) (all zeroOrOne t) e in
+    (leb-true (length t) n (p .0), p .1)
+
+-- what is known of a POP with a day string of at most n characters
+pub record Spoken (g : List ℕ) (n : ℕ) : Type 0 where
+  pub dates : Dated g
+  pub some : 1 ≤ length (dayText g)
+  pub few : length (dayText g) ≤ n
 
 module _ (g : List ℕ) (f n : ℕ) {form : Form} (e : periodOf g ≡ Good f n form) where
   dates-length : length (firstLast g) ≡ 21
@@ -196,17 +218,18 @@ module _ (g : List ℕ) (f n : ℕ) {form : Form} (e : periodOf g ≡ Good f n f
   unfolding restGood
   qualifier-length = same-length (qualifier g) (50 ∷ 55 ∷ 51 ∷ []) (both-parts _ _ (good-told g f n form e .rest) .0)
 
-  pub qualifier-bytes : 3 ≤ length (partOf g 1 1 1)
-  qualifier-bytes = omega (arith, qualifier-length, plain-length false (partOf g 1 1 1))
-
-  pub dates-bytes : 21 ≤ length (partOf g 1 1 2)
-  dates-bytes = omega (arith, dates-length, plain-length false (partOf g 1 1 2))
+  pub dated : Dated g
+  dated =
+      record {
+        qualified = omega (arith, qualifier-length, plain-length false (partOf g 1 1 1));
+        dated = omega (arith, dates-length, plain-length false (partOf g 1 1 2));
+      }
 
   pub spoken : form ≡ ByString → Spoken g n
   spoken b =
       let o = form-told n (dayText g) (weekText g) form (good-told g f n form e .told) in
-      let k = good-bounds g f n form e in
-      record { some = k .some; few = k .few; qualified = qualifier-bytes; dated = dates-bytes; told = string-given n (dayText g) (weekText g) (o .is ∙ b) (o .fits) }
+      let s = string-given n (dayText g) (weekText g) (o .is ∙ b) (o .fits) in
+      record { dates = dated; some = s .0; few = string-days n (dayText g) (s .1) .0 }
 
 -- all of a list
 pub bytes-all : (g : List ℕ) → bytesOf g (record { from = 0; to = length g }) ≡ g

@@ -19,7 +19,7 @@ use Rattle.calendar.specs.Days.{withBit}
 use Rattle.free_texts.specs.Free.{numeric, first-all, plain-all, no-plus, no-star, no-colon, no-release}
 use Rattle.period.specs.Period.{weekText}
 use Rattle.joining.specs.Joined.{weekBits}
-use Rattle.joining.specs.Places.{there, element, element-cut, Tagged}
+use Rattle.joining.specs.Places.{there, element, element-cut, Dated, Tagged}
 
 -- the weekdays of a text of digits 1 to 7 as the bits of a byte; 0 where it has another byte
 unfoldable pub plainWeek : ℕ → List ℕ → ℕ
@@ -73,11 +73,6 @@ stops c (suc i) r (a ∷ l) h k n e =
     (λ q.
     let z = rw q at h in
     rw q (ap suc (stops c i (releases r a) l (omega arith) (omega arith) n e)))
-
--- what is known of the first element's parts, counted in bytes
-pub record Dated (g : List ℕ) : Type 0 where
-  pub qualified : 3 ≤ length (partOf g 1 1 1)
-  pub dated : 21 ≤ length (partOf g 1 1 2)
 
 -- a mark behind `POP+` and 25 bytes
 pub record Marked (g : List ℕ) : Type 0 where

@@ -11,6 +11,7 @@ use period::Fault;
 use period::Form;
 use period::Period;
 use period::Pop;
+use period::are_days;
 use period::part_of;
 use period::pop_at;
 use period::read_period;
@@ -28,12 +29,13 @@ ghost use Rattle.syntax.specs.Segment.{bodyAt};
 ghost use Rattle.parts.specs.Places.{bytesOf};
 ghost use Rattle.dates.specs.Days.{weekdayOf};
 ghost use Rattle.calendar.specs.Days.{hasBit, withDay};
-ghost use Rattle.period.specs.Period.{weekText, zeroOrOne, dayString, runsBy, periodOf};
+ghost use Rattle.period.specs.Period.{dayText, weekText, zeroOrOne, runsBy, periodOf};
 ghost use Rattle.period.specs.declared.Period.the-variants.{Good};
 ghost use Rattle.joining.specs.Joined.{marked, weekBits, windowAnswer, windowDays, answered, daysJoined, joinedAnswer, joinAnswer};
 ghost use Rattle.joining.specs.Gathered.{gatheredOf};
-ghost use Rattle.joining.specs.Places.{Tagged, Spoken};
-ghost use Rattle.joining.specs.Weekdays.{plainWeek, Dated, Marked};
+ghost use Rattle.joining.specs.Places.{Dated, Tagged, Bare, Spoken};
+ghost use Rattle.joining.specs.Strings.{runsOn};
+ghost use Rattle.joining.specs.Weekdays.{plainWeek, Marked};
 
 // The lowest bit of each of eight bytes.
 const LOWEST: usize = 0x0101_0101_0101_0101;
@@ -156,7 +158,7 @@ fn day_bits(text: &[u8], from: usize, m: usize) -> u8
     bits
 }
 
-// Selects the days whose character is `1`, where the text has one for each day: as the weekdays.
+// Selects the days whose character is `1`, each of the text's: as the weekdays.
 fn mark_text(days: &mut [u8], at: usize, text: &[u8])
     requires { ⌜ (1 ≤ length (now text)) × (at + length (now text) ≤ 8 * length (now days)) × (at + length (now text) ≤ 65536) × (all zeroOrOne (now text) ≡ true) ⌝ }
     ensures { λ _. ⌜ now (days .exit) ≡ marked (λ k. eqb (getD (now (text .entry)) k 0) 49) (now (days .entry)) at 0 (length (now (text .entry))) ⌝ }
@@ -201,18 +203,6 @@ fn mark_released(days: &mut [u8], at: usize, part: &[u8], n: usize)
     }
 }
 
-// Selects those of n days whose character is `1`, of a part that says so many: as long as they are, it has none that is released.
-fn mark_string(days: &mut [u8], at: usize, part: &[u8], n: usize)
-    requires { ⌜ (1 ≤ n) × (at + n ≤ 8 * length (now days)) × (at + n ≤ 65536) × (dayString n (plain (now part)) ≡ true) ⌝ }
-    ensures { λ _. ⌜ now (days .exit) ≡ marked (λ k. eqb (getD (plain (now (part .entry))) k 0) 49) (now (days .entry)) at 0 n ⌝ }
-{
-    if part.len() == n {
-        mark_text(days, at, part);
-        return;
-    }
-    mark_released(days, at, part, n);
-}
-
 // Component c of element e of a POP.
 fn part_in(g: &[u8], e: usize, c: usize) -> &[u8]
     ensures { λ r. ⌜ now r ≡ partOf (now (g .entry)) e 1 c ⌝ }
@@ -247,19 +237,46 @@ fn is_tagged(g: &[u8]) -> bool
     g[3] == b'+'
 }
 
-// The day string of a POP whose period is good. At least 27 bytes stand between `POP+` and the string, so in a POP that is
-// 31 bytes longer than it, it is the rest.
-fn string_of(g: &[u8], n: usize) -> &[u8]
-    requires { ⌜ Spoken (now g) n ⌝ }
-    ensures { λ r. ⌜ now r ≡ partOf (now (g .entry)) 1 1 4 ⌝ }
+// Whether behind `POP+` and 27 bytes more only characters of days stand.
+fn is_bare(g: &[u8]) -> bool
+    ensures { λ r. ⌜ (r ≡ true → Bare (now (g .entry))) ⌝ }
 {
-    if g.len() != 31 + n {
-        return part_in(g, 1, 4);
+    if g.len() < 31 {
+        return false;
     }
-    if !is_tagged(g) {
-        return part_in(g, 1, 4);
+    if !are_days(g, 31) {
+        return false;
     }
-    &g[31..]
+    is_tagged(g)
+}
+
+// The day string of a POP whose period is good, where none of its characters is released; else nothing. At least 27 bytes stand between
+// `POP+` and the string, so where only characters of days stand behind so many, they are the string.
+fn bare_string(g: &[u8]) -> &[u8]
+    requires { ⌜ Dated (now g) × (1 ≤ length (dayText (now g))) ⌝ }
+    ensures { λ r. ⌜ (1 ≤ length (now r) → (now r ≡ partOf (now (g .entry)) 1 1 4) × (all zeroOrOne (now r) ≡ true)) ⌝ }
+{
+    if is_bare(g) {
+        return &g[31..];
+    }
+    let part = part_in(g, 1, 4);
+    if are_days(part, 0) {
+        return part;
+    }
+    &part[..0]
+}
+
+// Selects those of n days whose character is `1`; the days that have none do not run.
+fn mark_string(days: &mut [u8], at: usize, g: &[u8], n: usize)
+    requires { ⌜ (at + n ≤ 8 * length (now days)) × (at + n ≤ 65536) × Spoken (now g) n ⌝ }
+    ensures { λ _. ⌜ now (days .exit) ≡ marked (runsOn (dayText (now (g .entry)))) (now (days .entry)) at 0 n ⌝ }
+{
+    let text = bare_string(g);
+    if text.len() == 0 {
+        mark_released(days, at, part_in(g, 1, 4), n);
+        return;
+    }
+    mark_text(days, at, text);
 }
 
 // Whether a mark stands behind `POP+` and 25 bytes more.
@@ -323,7 +340,7 @@ fn mark_form(days: &mut [u8], at: usize, g: &[u8], first: usize, n: usize, form:
             mark_weekdays(days, at, first, n, 254);
         }
         Form::ByString => {
-            mark_string(days, at, string_of(g, n), n);
+            mark_string(days, at, g, n);
         }
         Form::ByWeekdays => {
             mark_weekdays(days, at, first, n, week_in(g));

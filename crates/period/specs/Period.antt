@@ -57,12 +57,13 @@ madeSpan NoDate last = Bad
 unfoldable pub spanIn : List ℕ → Span
 spanIn t = pick (both (eqb (length t) 21) (eqb (getD t 10 0) 47)) (madeSpan (dateAt t 0) (dateAt t 11)) Bad
 
--- "a string of `0` and `1`, exactly one character for each day"
+-- "a string of `0` and `1`", and at most one character for each day. Document 02, A3: "A shorter string, of at least one character, means not
+-- running on the days left. A longer one stays wrong."
 abbrev pub zeroOrOne : ℕ → Bool
 zeroOrOne b = either (eqb b 48) (eqb b 49)
 
 unfoldable pub dayString : ℕ → List ℕ → Bool
-dayString n t = both (eqb (length t) n) (all zeroOrOne t)
+dayString n t = both (leb (length t) n) (all zeroOrOne t)
 
 abbrev pub fitsDays : ℕ → List ℕ → Bool
 fitsDays n t = either (not (present t)) (dayString n t)
@@ -141,7 +142,7 @@ popOn at (Days f n) g = popBy at (formedOf n (dayText g) (weekText g)) (restGood
 unfoldable pub popAnswer : ℕ → List ℕ → Answer Given
 popAnswer at g = popOn at (spanIn (firstLast g)) g
 
--- whether the day k days after the first runs, f the number of the first
+-- whether the day k days after the first runs, f the number of the first; a string that has no character for it reads as 0 there, which is no `1`
 unfoldable pub runsBy : List ℕ → Form → ℕ → ℕ → Bool
 runsBy g Every f k = true
 runsBy g ByString f k = eqb (getD (dayText g) k 0) 49

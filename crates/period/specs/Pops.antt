@@ -9,7 +9,7 @@ use native.Mathlib.Omega.{arith}
 use lib.Dec.{eqb, leb, ltb}
 use lib.ListN.{length, getD, take, drop, take-append-drop, length-append}
 use lib.Seq.{drop-drop, getD-drop}
-use borrow.Author.Tests.{eq-eqb, le-leb, leb-true, ltb-true, eqb-true}
+use borrow.Author.Tests.{le-leb, leb-true, ltb-true, eqb-true}
 use Rattle.laws.specs.Choice.{pick, both, all, both-parts, choose}
 use Rattle.laws.specs.Lists.{between, drop-here, drop-past, length-between}
 use Rattle.parts.specs.Places.{present}
@@ -63,7 +63,7 @@ pub pop-known : (s : List ℕ) (at : ℕ) {r : Pop} {e f n : ℕ} {form : Form} 
 pop-known s at t q = subst (popTold s at) q t
 
 -- the characters of the forms
-day-numeric : (b : ℕ) → zeroOrOne b ≡ true → numeric b ≡ true
+pub day-numeric : (b : ℕ) → zeroOrOne b ≡ true → numeric b ≡ true
 day-numeric b p =
     choose (eqb b 48) (λ q. rw (eqb-true b 48 q)) (λ q. rw (eqb-true b 49 (rw q at p)))
 
@@ -121,9 +121,9 @@ module _ (n : ℕ) (l : List ℕ) (k : present l ≡ true) where
   unfolding formedOf
   told-weekdays r = rw (r, k)
 
-  told-string : length l ≡ n → all zeroOrOne l ≡ true → formedOf n l [] ≡ Told ByString
+  told-string : length l ≤ n → all zeroOrOne l ≡ true → formedOf n l [] ≡ Told ByString
   unfolding formedOf risingDays dayString
-  told-string e z = rw (k, eq-eqb (length l) n e, z)
+  told-string e z = rw (k, le-leb (length l) n e, z)
 
 told-every : (n : ℕ) → formedOf n [] [] ≡ Told Every
 unfolding formedOf risingDays
@@ -143,7 +143,7 @@ module _ (t : List ℕ) (at : ℕ) (g d s w rest : List ℕ) (p : Parts g d s w)
       let v = p .whole t at rest e in
       sym (pop-is t at (v .1) (ap periodOf (v .0) ∙ sym (cut-good g d s w (p .cut) pd ps pw a b)))
 
--- weekdays, and a day string of n characters, behind the dates and before a terminator
+-- weekdays, and a day string of at most n characters, behind the dates and before a terminator
 pub record WeekIn (g : List ℕ) (e : ℕ) : Type 0 where
   pub is : e ≡ 30 + risingRun 48 (drop 30 g)
   pub some : 30 < e
@@ -151,7 +151,8 @@ pub record WeekIn (g : List ℕ) (e : ℕ) : Type 0 where
   pub quote : getD g e 0 ≡ 39
 
 pub record StringIn (g : List ℕ) (n e : ℕ) : Type 0 where
-  pub is : e ≡ 31 + n
+  pub some : 31 < e
+  pub few : e ≤ 31 + n
   pub inside : e < length g
   pub colon : getD g 29 0 ≡ 58
   pub second-colon : getD g 30 0 ≡ 58
@@ -197,7 +198,8 @@ module _ (t : List ℕ) (at : ℕ) (g : List ℕ) (here : drop at t ≡ g) {f n 
 
   pub string-pop : (e : ℕ) → StringIn g n e → Whole (at + e) f n ByString ≡ popAt t at
   string-pop e i =
-      let r = i .is in
+      let r = i .some in
+      let o = i .few in
       let k = i .inside in
       let l = length-between g 31 e (omega arith) in
       let v = all-weaker zeroOrOne numeric (between g 31 e) day-numeric (i .days) in

@@ -3,28 +3,27 @@
 use mathlib.Core.Path.{_≡_, refl, sym}
 use mathlib.Core.Bool.{true, false}
 use mathlib.Core.List.{List, [], _∷_}
-use Prim.Native.Nat.{ℕ, zero, suc, _+_, _-_, _<_, _≤_}
+use Prim.Native.Nat.{ℕ, zero, suc, _-_, _<_, _≤_}
 use native.Mathlib.Omega.{arith}
-use native.Mathlib.Decide.{ℕ-discrete}
-use lib.Dec.{eqb}
-use lib.ListN.{length, getD, drop}
+use native.Mathlib.Decide.{decLt, ℕ-discrete}
+use lib.Dec.{leb}
+use lib.ListN.{length}
 use borrow.Author.Tests.{eq-eqb, ne-eqb, lt-ltb, le-ltb, le-leb, lt-leb}
-use Rattle.laws.specs.Choice.{both, all, both-false}
-use Rattle.laws.specs.Lists.{drop-here, drop-past}
+use Rattle.laws.specs.Choice.{both-false}
 use Rattle.parts.specs.Places.{present}
 use Rattle.period.specs.Period.{zeroOrOne, dayString, risingDays}
 
-eqb-next : (a b : ℕ) → eqb (suc a) (suc b) ≡ eqb a b
-eqb-next a b =
-    elim (ℕ-discrete a b) [
-      | yes e ↦ rw (eq-eqb a b e) (eq-eqb (suc a) (suc b) (omega arith))
-      | no e ↦ rw (ne-eqb a b e) (ne-eqb (suc a) (suc b) (λ q. e (omega arith)))
+leb-next : (a b : ℕ) → leb (suc a) (suc b) ≡ leb a b
+leb-next a b =
+    elim (decLt b a) [
+      | yes e ↦ rw (lt-leb a b e) (lt-leb (suc a) (suc b) (omega arith))
+      | no e ↦ rw (le-leb a b (omega arith)) (le-leb (suc a) (suc b) (omega arith))
     ]
 
-other-character : (b : ℕ) → (b ≡ 48 → ⊥) → (b ≡ 49 → ⊥) → zeroOrOne b ≡ false
+pub other-character : (b : ℕ) → (b ≡ 48 → ⊥) → (b ≡ 49 → ⊥) → zeroOrOne b ≡ false
 other-character b p q = rw (ne-eqb b 48 p, ne-eqb b 49 q)
 
-day-character : (b : ℕ) → 48 ≤ b → b ≤ 49 → zeroOrOne b ≡ true
+pub day-character : (b : ℕ) → 48 ≤ b → b ≤ 49 → zeroOrOne b ≡ true
 day-character b h k =
     elim (ℕ-discrete b 48) [
       | yes e ↦ rw (eq-eqb b 48 e)
@@ -35,14 +34,14 @@ module _ (t l : List ℕ) (b : ℕ) (f : t ≡ b ∷ l) where
   pub text-present : true ≡ present t
   text-present = rw f
 
-  -- a day string of n characters
+  -- a day string of at most n characters
   pub string-longer : (n : ℕ) → n ≡ 0 → false ≡ dayString n t
   unfolding dayString
-  string-longer n e = rw (f, e, ne-eqb (suc (length l)) 0 (λ q. omega arith))
+  string-longer n e = rw (f, e, lt-leb (suc (length l)) 0 (omega arith))
 
   string-other : (n : ℕ) → zeroOrOne b ≡ false → false ≡ dayString n t
   unfolding dayString
-  string-other n e = rw (f, e) (sym (both-false (eqb (suc (length l)) n)))
+  string-other n e = rw (f, e) (sym (both-false (leb (suc (length l)) n)))
 
   pub string-below : (n : ℕ) → b < 48 → false ≡ dayString n t
   string-below n h = string-other n (other-character b (λ e. omega arith) (λ e. omega arith))
@@ -55,7 +54,7 @@ module _ (t l : List ℕ) (b : ℕ) (f : t ≡ b ∷ l) where
   string-goes zero z h k = absurd (z refl)
   string-goes (suc n) z h k =
       let e : suc n - 1 ≡ n = omega arith in
-      rw (f, e, day-character b h k, eqb-next (length l) n)
+      rw (f, e, day-character b h k, leb-next (length l) n)
 
   -- weekdays that rise
   pub rises-not : (before : ℕ) → b ≤ before → false ≡ risingDays before t
@@ -74,29 +73,10 @@ module _ (t : List ℕ) (f : t ≡ []) where
   pub text-absent : false ≡ present t
   text-absent = rw f
 
-  pub string-ends : (n : ℕ) → eqb n 0 ≡ dayString n t
+  pub string-ends : (n : ℕ) → true ≡ dayString n t
   unfolding dayString
-  string-ends zero = rw f
-  string-ends (suc n) = rw (f, ne-eqb 0 (suc n) (λ q. omega arith)) (ne-eqb (suc n) 0 (λ q. omega arith))
+  string-ends n = rw (f, le-leb 0 n (omega arith))
 
   pub rises-ends : (before : ℕ) → true ≡ risingDays before t
   unfolding risingDays
   rises-ends before = rw f
-
--- a whole text of such characters, at an index of it
-module _ (g : List ℕ) (i : ℕ) where
-  module _ (h : i < length g) where
-    days-not : zeroOrOne (getD g i 0) ≡ false → false ≡ all zeroOrOne (drop i g)
-    days-not e = rw (drop-here g i h, e)
-
-    pub days-below : getD g i 0 < 48 → false ≡ all zeroOrOne (drop i g)
-    days-below k = days-not (other-character (getD g i 0) (λ e. omega arith) (λ e. omega arith))
-
-    pub days-above : 49 < getD g i 0 → false ≡ all zeroOrOne (drop i g)
-    days-above k = days-not (other-character (getD g i 0) (λ e. omega arith) (λ e. omega arith))
-
-    pub days-go : 48 ≤ getD g i 0 → getD g i 0 ≤ 49 → all zeroOrOne (drop (i + 1) g) ≡ all zeroOrOne (drop i g)
-    days-go k l = sym (rw (drop-here g i h, day-character (getD g i 0) k l))
-
-  pub days-end : length g ≤ i → true ≡ all zeroOrOne (drop i g)
-  days-end h = rw (drop-past g i h)

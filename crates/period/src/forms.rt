@@ -25,7 +25,7 @@ fn is_present(part: &[u8]) -> bool
     }
 }
 
-// Whether a part is one `0` or `1` for each of n days.
+// Whether a part is of `0` and `1` alone, at most one for each of n days.
 fn is_day_string(part: &[u8], n: usize) -> bool
     ensures { λ r. ⌜ r ≡ dayString n (plain (now (part .entry))) ⌝ }
 {
@@ -47,11 +47,11 @@ fn is_day_string(part: &[u8], n: usize) -> bool
                 left -= 1;
             }
             Next::Done => {
-                return left == 0;
+                return true;
             }
         }
     }
-    left == 0
+    true
 }
 
 // A day string that is absent is right too.

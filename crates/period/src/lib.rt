@@ -14,6 +14,7 @@ use crate::written::read_written;
 pub use elements::part_of;
 use parts::Part;
 pub use runs::day_runs;
+pub use strings::are_days;
 use syntax::segment::Scanned;
 use syntax::segment::read_segment;
 ghost use mathlib.Core.Path.{_≡_};

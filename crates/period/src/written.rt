@@ -5,6 +5,7 @@ use crate::Pop;
 use crate::dated::are_dates;
 use crate::dated::day_at;
 use crate::strings::are_days;
+use crate::strings::days_end;
 use calendar::Span;
 use calendar::days_from;
 use dates::Number;
@@ -85,14 +86,17 @@ fn weekdays_end(g: &[u8]) -> usize
     0
 }
 
-// Where the POP ends whose day string stands behind the dates, of so many days; 0 where there is none.
-fn string_end(g: &[u8], count: usize) -> usize
+// Where the POP ends whose day string stands behind the dates with a character for each of so many days; 0 where there is none.
+fn full_end(g: &[u8], count: usize) -> usize
     ensures { λ r. ⌜ (0 < r → StringIn (now (g .entry)) count r) ⌝ }
 {
     if g.len() < 32 {
         return 0;
     }
     if g.len() - 32 < count {
+        return 0;
+    }
+    if count == 0 {
         return 0;
     }
     let end = 31 + count;
@@ -104,6 +108,38 @@ fn string_end(g: &[u8], count: usize) -> usize
         return end;
     }
     0
+}
+
+// Where it ends with at least one character and at most so many, wherever they end; 0 where there is none.
+fn short_end(g: &[u8], count: usize) -> usize
+    ensures { λ r. ⌜ (0 < r → StringIn (now (g .entry)) count r) ⌝ }
+{
+    let end = days_end(g, 31);
+    if g.len() <= end {
+        return 0;
+    }
+    if end <= 31 {
+        return 0;
+    }
+    if count < end - 31 {
+        return 0;
+    }
+    if word(g[29], g[30], g[end], 0) == word(b':', b':', b'\'', 0) {
+        return end;
+    }
+    0
+}
+
+// Where the POP ends whose day string stands behind the dates; 0 where there is none. Most have a character for each day, so that their end
+// is known before.
+fn string_end(g: &[u8], count: usize) -> usize
+    ensures { λ r. ⌜ (0 < r → StringIn (now (g .entry)) count r) ⌝ }
+{
+    let end = full_end(g, count);
+    if 0 < end {
+        return end;
+    }
+    short_end(g, count)
 }
 
 // The POP whose second element is empty, whatever follows: "Giving neither means every day."

@@ -1,31 +1,38 @@
--- Either written form of a calendar, read back and joined into an empty one, is that calendar: for all calendars and all dates in range.
+-- Each written form of a calendar, read back and joined into an empty one, is that calendar: for all calendars and all dates in range.
+-- "All three forms of a calendar read back the same." (document 02, A3)
 -- Assumes nothing.
 use mathlib.Core.Path.{_≡_, ap, _∙_}
-use mathlib.Core.Bool.{true}
+use mathlib.Core.Bool.{true, false}
 use mathlib.Core.List.{List}
 use Prim.Native.Nat.{ℕ}
 use Rattle.syntax.specs.Segment.{bodyAt}
 use Rattle.dates.specs.Dates.{number}
 use Rattle.dates.specs.declared.Date.{Date}
-use Rattle.calendar.specs.Written.{dayCount, goodCalendar, dayStringText, weekdayForm, weekdayText}
+use Rattle.calendar.specs.Written.{goodCalendar, WrittenForm, allCharacters, shortForm, weekdays, formExists, formText}
+use Rattle.period.specs.declared.Form.{Form}
 use Rattle.period.specs.declared.Form.the-variants.{ByString, ByWeekdays}
 use Rattle.joining.specs.Joined.{daysJoined}
 use Rattle.joining.specs.Union.{no-days}
 use Rattle.joining.specs.Bytes.{AreBytes}
-use Rattle.read_back.specs.Written.{day-string-back}
+use Rattle.read_back.specs.Written.{ReadsBack, day-string-back}
 use Rattle.read_back.specs.Week.{weekdays-back}
 use Rattle.read_back.specs.Same.{joined-same}
 
-module _ (c : List ℕ) (first last : Date) (good : goodCalendar c first last ≡ true) (a : AreBytes c) where
-  pub day-string-same : daysJoined (no-days 64) (number first) (bodyAt (dayStringText c first last (dayCount first last)) 0) ≡ c
-  day-string-same =
-      let r = day-string-back c first last good in
-      ap (daysJoined (no-days 64) (number first)) (r .cut)
-      ∙ joined-same (dayStringText c first last (dayCount first last)) c first last ByString r good a
+-- what tells the days of a POP that is written in a form
+abbrev pub tells : WrittenForm → Form
+tells allCharacters = ByString
+tells shortForm = ByString
+tells weekdays = ByWeekdays
 
-  pub weekdays-same : weekdayForm c (number first) (dayCount first last) ≡ true
-      → daysJoined (no-days 64) (number first) (bodyAt (weekdayText c first last) 0) ≡ c
-  weekdays-same form =
-      let r = weekdays-back c first last good form in
+module _ (c : List ℕ) (first last : Date) (good : goodCalendar c first last ≡ true) where
+  pub written-back : (form : WrittenForm) → formExists form c first last ≡ true → ReadsBack (formText form c first last) c first last (tells form)
+  written-back allCharacters e = day-string-back false c first last good
+  written-back shortForm e = day-string-back true c first last good
+  written-back weekdays e = weekdays-back c first last good e
+
+  pub written-same : AreBytes c → (form : WrittenForm) → formExists form c first last ≡ true
+      → daysJoined (no-days 64) (number first) (bodyAt (formText form c first last) 0) ≡ c
+  written-same a form e =
+      let r = written-back form e in
       ap (daysJoined (no-days 64) (number first)) (r .cut)
-      ∙ joined-same (weekdayText c first last) c first last ByWeekdays r good a
+      ∙ joined-same (formText form c first last) c first last (tells form) r good a

@@ -1,13 +1,14 @@
--- What is written reads back: the dates and days of either written form are those of the calendar.
+-- What is written reads back: the dates and days of a day string, in full or short, are those of the calendar.
 -- Assumes nothing.
 use mathlib.Core.Path.{_≡_, refl, sym, ap, _∙_}
 use mathlib.Core.Bool.{Bool, true, false, not}
 use mathlib.Core.List.{List, [], _∷_, _++_, append-assoc}
 use Prim.Native.Nat.{ℕ, zero, suc, _+_, _/_, _%_, _≤_, _<_}
 use native.Mathlib.Omega.{arith}
+use native.Mathlib.Decide.{decLt}
 use lib.Dec.{eqb}
-use lib.ListN.{length, getD, take, drop}
-use borrow.Author.Tests.{eq-eqb, le-leb, lt-ltb}
+use lib.ListN.{length, getD, take, drop, List·getD-eq-default}
+use borrow.Author.Tests.{le-leb, lt-ltb}
 use Rattle.laws.specs.Choice.{pick, both, either, all}
 use Rattle.laws.specs.Text.{bytes}
 use Rattle.syntax.specs.Segment.{bodyAt, segmentAt}
@@ -21,7 +22,8 @@ use Rattle.dates.specs.declared.Date.{Date}
 use Rattle.calendar.specs.Days.{day}
 use Rattle.calendar.specs.Steps.{length-characters, character-at}
 use Rattle.calendar.specs.Good.{GoodCalendar, good-facts}
-use Rattle.calendar.specs.Written.{dayCount, goodPeriod, daysSpan, goodCalendar, start, dayCharacter, dayCharacters, dayStringText}
+use Rattle.calendar.specs.Written.{dayCount, goodPeriod, daysSpan, goodCalendar, start, dayCharacter, dayCharacters, characterCount, dayStringText, stringText}
+use Rattle.calendar.specs.Short.{Counted, counted}
 use Rattle.period.specs.Period.{zeroOrOne, dayString, fitsDays, risingDays, formOf, formedOf, periodOf, runsBy, runsIn, runs}
 use Rattle.period.specs.Tests.{two-dates}
 use Rattle.period.specs.Written.{string-plain, cut-good}
@@ -108,9 +110,9 @@ unfolding dayCharacters
 some-characters c zero h = absurd (omega arith)
 some-characters c (suc n) h = refl
 
-string-fits : (c : List ℕ) (n : ℕ) → fitsDays n (dayCharacters c 0 n) ≡ true
+string-fits : (c : List ℕ) (n m : ℕ) → m ≤ n → fitsDays n (dayCharacters c 0 m) ≡ true
 unfolding dayString
-string-fits c n = fits (present (dayCharacters c 0 n)) (dayString n (dayCharacters c 0 n)) (rw (length-characters c 0 n, eq-eqb n n refl, zeros-and-ones c 0 n))
+string-fits c n m h = fits (present (dayCharacters c 0 m)) (dayString n (dayCharacters c 0 m)) (rw (length-characters c 0 m, le-leb m n h, zeros-and-ones c 0 m))
   where
     fits : (p q : Bool) → q ≡ true → either (not p) q ≡ true
     fits true q e = e
@@ -124,9 +126,15 @@ day-of : (d : Bool) → eqb (pick d 49 48) 49 ≡ d
 day-of true = refl
 day-of false = refl
 
-string-runs : (c : List ℕ) (n k : ℕ) → k < n → eqb (getD (dayCharacters c 0 n) k 0) 49 ≡ day c k
+-- a day with a character runs by it, and one that has none does not run
+string-runs : (c : List ℕ) (n m : ℕ) → Counted c n m → (k : ℕ) → k < n → eqb (getD (dayCharacters c 0 m) k 0) 49 ≡ day c k
 unfolding dayCharacter
-string-runs c n k h = ap (λ (x : ℕ). eqb x 49) (character-at c n k h) ∙ day-of (day c k)
+string-runs c n m o k h =
+    let l = length-characters c 0 m in
+    elim (decLt k m) [
+      | yes u ↦ ap (λ (x : ℕ). eqb x 49) (character-at c m k u) ∙ day-of (day c k)
+      | no u ↦ ap (λ (x : ℕ). eqb x 49) (List·getD-eq-default (dayCharacters c 0 m) 0 (omega arith)) ∙ sym (o .past k (omega arith) h)
+    ]
 
 -- what reading a text back is to give: one whole segment, the same dates, and the days of the calendar
 pub record ReadsBack (text c : List ℕ) (first last : Date) (form : Form) : Type 0 where
@@ -137,31 +145,37 @@ pub record ReadsBack (text c : List ℕ) (first last : Date) (form : Form) : Typ
   pub period : periodOf body ≡ Good (number first) (dayCount first last) form
   pub days : (k : ℕ) → k < dayCount first last → runs body k ≡ day c k
 
-module _ (c : List ℕ) (first last : Date) (good : goodCalendar c first last ≡ true) where
+module _ (short : Bool) (c : List ℕ) (first last : Date) (good : goodCalendar c first last ≡ true) where
+  abbrev count : ℕ
+  count = characterCount short c (dayCount first last)
+
   abbrev string : List ℕ
-  string = dayCharacters c 0 (dayCount first last)
+  string = dayCharacters c 0 count
 
   abbrev stringBody : List ℕ
   stringBody = oneElement (withString (dates first last) string)
 
-  string-text : dayStringText c first last (dayCount first last) ≡ stringBody ++ (39 ∷ [])
+  string-text : stringText short c first last ≡ stringBody ++ (39 ∷ [])
   unfolding dayStringText start dateText dayCharacters
   string-text =
       sym (ap (λ (l : List ℕ). 80 ∷ 79 ∷ 80 ∷ 43 ∷ 50 ∷ 55 ∷ 51 ∷ 58 ∷ l) (append-assoc (dates first last) (58 ∷ 58 ∷ string) (39 ∷ [])))
 
   -- the day string reads back as the same calendar
-  pub day-string-back : ReadsBack (dayStringText c first last (dayCount first last)) c first last ByString
+  pub day-string-back : ReadsBack (stringText short c first last) c first last ByString
   unfolding runsIn runsBy
   day-string-back =
       let f = good-facts c first last good in
       let m = f .not-long in
-      let s = numeric-characters c 0 (dayCount first last) in
-      let l = length-characters c 0 (dayCount first last) in
+      let o = counted short c (dayCount first last) (omega arith) in
+      let some = o .some in
+      let few = o .few in
+      let s = numeric-characters c 0 count in
+      let l = length-characters c 0 count in
       let d = length-dates first last in
       let p = string-parts (dates first last) string (numeric-dates first last) s (omega arith) (omega arith) in
-      let x = some-characters c (dayCount first last) (omega arith) in
+      let x = some-characters c count (omega arith) in
       let e =
-      period-read c first last f stringBody string [] p s refl (string-fits c (dayCount first last)) no-weekdays (rw x)
+      period-read c first last f stringBody string [] p s refl (string-fits c (dayCount first last) count few) no-weekdays (rw x)
       ∙ ap (λ (t : Bool). Good (number first) (dayCount first last) (pick t ByString Every)) x in
       record {
         body = stringBody;
@@ -171,5 +185,5 @@ module _ (c : List ℕ) (first last : Date) (good : goodCalendar c first last �
         period = e;
         days = λ k h.
             rw (e, lt-ltb k (dayCount first last) h)
-            (ap (λ (t : List ℕ). eqb (getD t k 0) 49) (string-plain stringBody (dates first last) string [] (p .cut) (numeric-dates first last) s refl) ∙ string-runs c (dayCount first last) k h);
+            (ap (λ (t : List ℕ). eqb (getD t k 0) 49) (string-plain stringBody (dates first last) string [] (p .cut) (numeric-dates first last) s refl) ∙ string-runs c (dayCount first last) count o k h);
       }

@@ -1,4 +1,4 @@
-// Writes each calendar of standard input in both forms. A line has two dates, parted by a slash, a space and the days as characters.
+// Writes each calendar of standard input in its three forms. A line has two dates, parted by a slash, a space and the days as characters.
 // What it must write was made by another implementation, with Python's datetime.
 use calendar::Written;
 use dates::Date;
@@ -60,28 +60,29 @@ fn show(written: Written, out: &[u8]) {
     }
 }
 
-// Both forms into 544 bytes, which every day string fits; then the day string into 44 and the weekdays into 33.
+fn day_string(days: &[u8], first: Date, last: Date, short: bool, out: &mut [u8]) {
+    show(
+        calendar::write_day_string(days, first, last, short, out),
+        out,
+    );
+}
+
+fn weekdays(days: &[u8], first: Date, last: Date, out: &mut [u8]) {
+    show(calendar::write_weekdays(days, first, last, out), out);
+}
+
+// All characters, the short form and the weekdays into 544 bytes, which every form fits; then into 44, 39 and 33.
 fn forms(days: &[u8], first: Date, last: Date) {
     let mut out = [0u8; 544];
-    show(
-        calendar::write_day_string(days, first, last, &mut out),
-        &out,
-    );
-    let mut weekdays = [0u8; 544];
-    show(
-        calendar::write_weekdays(days, first, last, &mut weekdays),
-        &weekdays,
-    );
-    let mut short = [0u8; 44];
-    show(
-        calendar::write_day_string(days, first, last, &mut short),
-        &short,
-    );
-    let mut small = [0u8; 33];
-    show(
-        calendar::write_weekdays(days, first, last, &mut small),
-        &small,
-    );
+    day_string(days, first, last, false, &mut out);
+    day_string(days, first, last, true, &mut out);
+    weekdays(days, first, last, &mut out);
+    let mut all = [0u8; 44];
+    day_string(days, first, last, false, &mut all);
+    let mut short = [0u8; 39];
+    day_string(days, first, last, true, &mut short);
+    let mut named = [0u8; 33];
+    weekdays(days, first, last, &mut named);
 }
 
 fn handle(line: &[u8]) {

@@ -1,17 +1,14 @@
 -- `mark_form` meets its contract.
 -- Assumes nothing.
-use mathlib.Core.Path.{refl, ap, _∙_}
-use mathlib.Core.List.{List}
-use Prim.Native.Nat.{ℕ, _+_, _*_, _≤_}
+use mathlib.Core.Path.{refl}
+use Prim.Native.Nat.{_+_, _*_, _≤_}
 use native.Mathlib.Omega.{arith}
 use borrow.Author.Needs.{needs}
 use denote.Ref.{now}
 use lib.ListN.{length}
-use Rattle.syntax.specs.Bytes.{plain}
-use Rattle.period.specs.Period.{dayString}
 use Rattle.period.specs.Facts.{good-bounds, good-rising}
 use Rattle.joining.specs.Weeks.{marked-every, marked-week, marked-string}
-use Rattle.joining.specs.Places.{qualifier-bytes, dates-bytes, spoken}
+use Rattle.joining.specs.Places.{dated, spoken}
 use Rattle.joining.proofs.mark_form.Statement.{statement}
 use Rattle.joining.proofs.mark_form.Tie as tie
 
@@ -31,16 +28,12 @@ mark-weekdays-requires c κs = bounded (c .before .before .before .before .befor
 enum-told-2 : tie.Need-enum-told-2
 enum-told-2 c = search needs
 
-string-of-requires : tie.Need-string-of-requires
-string-of-requires c κs =
-    let s = c .before .before .before .before .before in
-    spoken (now (s .args .g)) (s .args .first) (s .args .n) (s .pre .2) (c .before .enum-told2 .given .1)
-
 mark-string-requires : tie.Need-mark-string-requires
 mark-string-requires c κs =
-    let s = c .before .before .before .before .before .before in
+    let t = c .before in
+    let s = t .before .before .before .before in
     let b = bounded s in
-    (b .0, b .1, b .2, ap (λ (x : List ℕ). dayString (s .args .n) (plain x)) (c .string-of .ensures) ∙ spoken (now (s .args .g)) (s .args .first) (s .args .n) (s .pre .2) (c .before .before .enum-told2 .given .1) .told)
+    (b .1, b .2, spoken (now (s .args .g)) (s .args .first) (s .args .n) (s .pre .2) (t .enum-told2 .given .1))
 
 enum-told-3 : tie.Need-enum-told-3
 enum-told-3 c = search needs
@@ -49,7 +42,7 @@ week-in-requires : tie.Need-week-in-requires
 week-in-requires c κs =
     let s = c .before .before .before .before .before in
     let a = s .args in
-    record { qualified = qualifier-bytes (now (a .g)) (a .first) (a .n) (s .pre .2); dated = dates-bytes (now (a .g)) (a .first) (a .n) (s .pre .2) }
+    dated (now (a .g)) (a .first) (a .n) (s .pre .2)
 
 mark-weekdays-requires-2 : tie.Need-mark-weekdays-requires-2
 mark-weekdays-requires-2 c κs = bounded (c .before .before .before .before .before .before)
@@ -67,8 +60,8 @@ same-length-2 c = search needs
 
 returns-2 : tie.Need-returns-2
 returns-2 c =
-    let a = c .before .before .before .before .before .before .before .before .before .args in
-    marked-string (now (a .g)) (now (a .days)) (a .at) (a .first) (a .n) (c .before .before .before .before .before .enum-told2 .given .1) (c .before .before .before .string-of .ensures) (c .before .before .mark-string .ensures)
+    let a = c .before .before .before .before .before .before .before .before .args in
+    marked-string (now (a .g)) (now (a .days)) (a .at) (a .first) (a .n) (c .before .before .before .before .enum-told2 .given .1) refl (c .before .before .mark-string .ensures)
 
 same-length-3 : tie.Need-same-length-3
 same-length-3 c = search needs
@@ -81,4 +74,4 @@ returns-3 c =
     marked-week (now (a .g)) (now (a .days)) (a .at) (a .first) (a .n) r (c .before .before .before .before .before .enum-told3 .given .1) refl (c .before .before .before .week-in .ensures) (c .before .before .mark-weekdays2 .ensures)
 
 pub mark-form-spec : {M : Type 1} → statement M
-mark-form-spec = tie.close (tie.spec enum-told mark-weekdays-requires enum-told-2 string-of-requires mark-string-requires enum-told-3 week-in-requires mark-weekdays-requires-2 same-length returns same-length-2 returns-2 same-length-3 returns-3)
+mark-form-spec = tie.close (tie.spec enum-told mark-weekdays-requires enum-told-2 mark-string-requires enum-told-3 week-in-requires mark-weekdays-requires-2 same-length returns same-length-2 returns-2 same-length-3 returns-3)

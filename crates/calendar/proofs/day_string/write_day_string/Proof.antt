@@ -19,7 +19,10 @@ enum-told c = search needs
 returns : tie.Need-returns
 returns c =
     let a = c .before .before .before .before .before .args in
-    day-string-bad (now (a .days)) (a .first) (a .last) (now (a .out)) (sym (c .before .before .check .ensures) ∙ c .enum-told .given .1)
+    day-string-bad (a .short) (now (a .days)) (a .first) (a .last) (now (a .out)) (sym (c .before .before .check .ensures) ∙ c .enum-told .given .1)
+
+character-count-requires : tie.Need-character-count-requires
+character-count-requires c κs = search needs
 
 write-characters-requires : tie.Need-write-characters-requires
 write-characters-requires c κs = search needs
@@ -29,8 +32,11 @@ same-length c = search needs
 
 returns-2 : tie.Need-returns-2
 returns-2 c =
-    let a = c .before .before .before .before .before .before .before .before .before .before .args in
-    day-string-good (now (a .days)) (a .first) (a .last) (now (a .out)) (sym (c .before .before .before .before .before .before .before .check .ensures) ∙ c .before .before .before .before .before .n .given .1) (c .before .before .write-characters .ensures)
+    let w = c .before .before in
+    let t = w .before .before in
+    let k = t .before .before in
+    let a = k .before .before .before .before .before .args in
+    day-string-good (a .short) (now (a .days)) (a .first) (a .last) (now (a .out)) (sym (k .before .before .check .ensures) ∙ k .n .given .1) (t .character-count .ensures) (w .write-characters .ensures)
 
 pub write-day-string-spec : {M : Type 1} → statement M
 write-day-string-spec =
@@ -40,6 +46,7 @@ write-day-string-spec =
     enum-known-n
     enum-told
     returns
+    character-count-requires
     write-characters-requires
     same-length
     returns-2)

@@ -1,6 +1,6 @@
 -- `are_days` meets its contract.
 -- Assumes nothing.
-use mathlib.Core.Path.{_≡_, refl, sym, _∙_}
+use mathlib.Core.Path.{_≡_, refl, _∙_}
 use mathlib.Core.List.{List}
 use Prim.Native.Nat.{ℕ, _-_}
 use native.Mathlib.Omega.{arith}
@@ -11,7 +11,7 @@ use lib.ListN.{length, drop}
 use Rattle.laws.specs.Choice.{both, all}
 use Rattle.bytes.specs.Eights.{Eights, eights-known}
 use Rattle.period.specs.Period.{zeroOrOne}
-use Rattle.period.specs.Strings.{days-eight, days-other, days-none}
+use Rattle.period.specs.Strings.{days-eight, days-other, days-none, run-whole}
 use Rattle.period.proofs.strings.are_days.Statement.{statement}
 use Rattle.period.proofs.strings.are_days.Tie as tie
 
@@ -38,14 +38,14 @@ returns c =
     let o = c .before .before .before .before in
     days-other (now (o .before .before .args .g)) (o .loop .i) (o .loop .other) (c .if1 .taken) ∙ o .loop .inv
 
-are-last-days-requires : tie.Need-are-last-days-requires Inv-loop μ-loop
-are-last-days-requires c κs = search needs
+last-days-end-requires : tie.Need-last-days-end-requires Inv-loop μ-loop
+last-days-end-requires c κs = search needs
 
 returns-2 : tie.Need-returns-2 Inv-loop μ-loop
 returns-2 c =
     let e = c .before in
     let o = e .before .before .before .before in
-    c .are-last-days .ensures ∙ days-none (now (o .before .before .args .g)) (o .loop .i) (o .loop .other) (e .if1 .left) ∙ o .loop .inv
+    run-whole (now (o .before .before .args .g)) (o .loop .i) (c .last-days-end .result) (c .last-days-end .ensures) ∙ days-none (now (o .before .before .args .g)) (o .loop .i) (o .loop .other) (e .if1 .left) ∙ o .loop .inv
 
 -- eight bytes were found
 module _ (t : tie.After-known-told Inv-loop μ-loop) where
@@ -78,7 +78,7 @@ are-days-spec =
     enum-known-word
     enum-told
     returns
-    are-last-days-requires
+    last-days-end-requires
     returns-2
     add-i
     loop-less

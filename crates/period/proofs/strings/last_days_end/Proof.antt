@@ -1,19 +1,19 @@
--- `are_last_days` meets its contract.
+-- `last_days_end` meets its contract.
 -- Assumes nothing.
 use mathlib.Core.Path.{_≡_, refl, _∙_}
-use Prim.Native.Nat.{_-_}
+use Prim.Native.Nat.{_+_, _-_}
 use native.Mathlib.Omega.{arith}
 use borrow.Author.Needs.{needs}
 use denote.Ref.{now}
 use lib.ListN.{length, drop}
-use Rattle.laws.specs.Choice.{all}
+use Rattle.laws.specs.Leads.{runOf}
 use Rattle.period.specs.Period.{zeroOrOne}
-use Rattle.period.specs.Steps.{days-below, days-above, days-go, days-end}
-use Rattle.period.proofs.strings.are_last_days.Statement.{statement}
-use Rattle.period.proofs.strings.are_last_days.Tie as tie
+use Rattle.period.specs.Strings.{run-below, run-above, run-goes, run-ends}
+use Rattle.period.proofs.strings.last_days_end.Statement.{statement}
+use Rattle.period.proofs.strings.last_days_end.Tie as tie
 
 abbrev Inv-loop : tie.InvT-loop
-Inv-loop g from i₀ i = all zeroOrOne (drop i g) ≡ all zeroOrOne (drop from g)
+Inv-loop g from i₀ i = i + runOf zeroOrOne (drop i g) ≡ from + runOf zeroOrOne (drop from g)
 
 abbrev μ-loop : tie.MeasureT-loop
 μ-loop g from i₀ i = length g - i
@@ -28,13 +28,13 @@ returns : tie.Need-returns Inv-loop μ-loop
 returns c =
     let t = c .before .before in
     let o = t .before in
-    days-below (now (o .before .args .g)) (o .loop .i) (t .loop-test .taken) (c .if1 .taken) ∙ o .loop .inv
+    run-below (now (o .before .args .g)) (o .loop .i) (t .loop-test .taken) (c .if1 .taken) ∙ o .loop .inv
 
 returns-2 : tie.Need-returns-2 Inv-loop μ-loop
 returns-2 c =
     let t = c .before .before .before in
     let o = t .before in
-    days-above (now (o .before .args .g)) (o .loop .i) (t .loop-test .taken) (c .if2 .taken) ∙ o .loop .inv
+    run-above (now (o .before .args .g)) (o .loop .i) (t .loop-test .taken) (c .if2 .taken) ∙ o .loop .inv
 
 add-i : tie.Need-add-i Inv-loop μ-loop
 add-i c = search needs
@@ -46,15 +46,15 @@ loop-again : tie.Need-loop-again Inv-loop μ-loop
 loop-again c =
     let t = c .before .before .before in
     let o = t .before in
-    days-go (now (o .before .args .g)) (o .loop .i) (t .loop-test .taken) (c .before .if1 .left) (c .if2 .left) ∙ o .loop .inv
+    run-goes (now (o .before .args .g)) (o .loop .i) (t .loop-test .taken) (c .before .if1 .left) (c .if2 .left) ∙ o .loop .inv
 
 returns-3 : tie.Need-returns-3 Inv-loop μ-loop
 returns-3 c =
     let o = c .before in
-    days-end (now (o .before .args .g)) (o .loop .i) (c .loop-test .left) ∙ o .loop .inv
+    run-ends (now (o .before .args .g)) (o .loop .i) (c .loop-test .left) ∙ o .loop .inv
 
-pub are-last-days-spec : {M : Type 1} → statement M
-are-last-days-spec =
+pub last-days-end-spec : {M : Type 1} → statement M
+last-days-end-spec =
     tie.close
     (tie.spec
     Inv-loop
