@@ -913,6 +913,9 @@ static void costs(unsigned rounds) {
     memcpy(p, "'", 2);
     put_same(&sample, 1, "PRD+1'", long_text, LONGEST);
     cost_one("periods of 512 days", rounds);
+    memcpy(long_text + 31 + 400, "'", 2);
+    put_same(&sample, 1, "PRD+1'", long_text, LONGEST);
+    cost_one("400 characters for 512", rounds);
     put_same(&sample, 1, "", "PRD'POP+273:2000-01-01/2001-05-26'", LONGEST);
     cost_one("periods without days", rounds);
     put_long_parts();
