@@ -142,9 +142,6 @@ module _ (r : List ℕ) where
       let o = fourth element t in
       let j = o .behind in
       let i = o .inside in
-      let w = first-length 58 false (drop (o .start) element) in
-      let l = length-drop (o .start) element in
-      let m = ap length (o .is) in
       let u = first-length 42 false (firstPiece 43 false r) in
       let f = whole-from 43 r 27 refl p (omega arith) in
       let z : element ≡ r = whole-from 42 (firstPiece 43 false r) 27 refl (ap (λ (x : List ℕ). all zeroOrOne (drop 27 x)) f ∙ p) (omega arith) ∙ f in
@@ -189,12 +186,10 @@ string-given n [] [] e p = let z : _≡_ {A = ℕ} 0 1 = cc in absurd (omega ari
 string-given n [] (b ∷ w) e p = let z : _≡_ {A = ℕ} 0 1 = cc in absurd (omega arith)
 string-given n (b ∷ d) w e p = (omega arith, p)
 
--- a day string has at most a character for each day, and each is `0` or `1`
-string-days : (n : ℕ) (t : List ℕ) → dayString n t ≡ true → (length t ≤ n) × (all zeroOrOne t ≡ true)
+-- a day string has at most a character for each day
+string-few : (n : ℕ) (t : List ℕ) → dayString n t ≡ true → length t ≤ n
 unfolding dayString
-string-days n t e =
-    let p = both-parts (leb (length t) n) (all zeroOrOne t) e in
-    (leb-true (length t) n (p .0), p .1)
+string-few n t e = leb-true (length t) n (both-parts (leb (length t) n) (all zeroOrOne t) e .0)
 
 -- what is known of a POP with a day string of at most n characters
 pub record Spoken (g : List ℕ) (n : ℕ) : Type 0 where
@@ -229,7 +224,7 @@ module _ (g : List ℕ) (f n : ℕ) {form : Form} (e : periodOf g ≡ Good f n f
   spoken b =
       let o = form-told n (dayText g) (weekText g) form (good-told g f n form e .told) in
       let s = string-given n (dayText g) (weekText g) (o .is ∙ b) (o .fits) in
-      record { dates = dated; some = s .0; few = string-days n (dayText g) (s .1) .0 }
+      record { dates = dated; some = s .0; few = string-few n (dayText g) (s .1) }
 
 -- all of a list
 pub bytes-all : (g : List ℕ) → bytesOf g (record { from = 0; to = length g }) ≡ g
