@@ -147,8 +147,8 @@ static void put_period(struct text *t) {
         last = first - 1;
     if (fault_rate && one_in(fault_rate))
         told = one_in(2) ? told + 1 : 0;
-    else if (one_in(3)) // a short day string
-        told = one_in(3) ? 1 : one_in(2) && told > 1 ? told - 1 : 1 + below(told);
+    else if (one_in(3))
+        told = short_string(told);
     if (fault_rate && one_in(4 * fault_rate))
         return;
     put(t, '+');

@@ -114,8 +114,8 @@ static void put_period(struct text *t, unsigned first) {
         puts_to(t, "::");
         if (one_in(100))
             told = days + 1;
-        else if (one_in(3)) // a short day string
-            told = one_in(3) ? 1 : one_in(2) && told > 1 ? told - 1 : 1 + below(told);
+        else if (one_in(3))
+            told = short_string(told);
         for (; told; told--)
             put_character(t, '0' + (int)below(2));
     } else if (one_in(2)) {

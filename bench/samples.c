@@ -64,6 +64,10 @@ static unsigned leap(unsigned y) { return (y % 4 == 0 && y % 100 != 0) || y % 40
 static unsigned month_length(unsigned y, unsigned m) { return m == 2 ? 28 + leap(y) : m == 4 || m == 6 || m == 9 || m == 11 ? 30 : 31; }
 
 // The date so many days after 1990-01-01, which may lie past 2099.
+unsigned short_string(unsigned days) {
+    return one_in(3) ? 1 : one_in(2) && days > 1 ? days - 1 : 1 + below(days);
+}
+
 void put_date(struct text *t, unsigned day) {
     unsigned y = 1990, m = 1;
     while (day >= 365 + leap(y))

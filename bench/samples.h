@@ -29,6 +29,9 @@ void put_character(struct text *t, int c);
 void put_characters(struct text *t, const uint8_t *s, size_t n);
 void put_word(struct text *t, const char *s);
 
+// How many characters a short day string has for so many days: one, all but one, or any number.
+unsigned short_string(unsigned days);
+
 // The date so many days after 1990-01-01, which may lie past 2099.
 void put_date(struct text *t, unsigned day);
 

@@ -3,6 +3,7 @@
 use mathlib.Core.Path.{_≡_, refl, sym, ap}
 use mathlib.Core.Bool.{Bool, true, false}
 use mathlib.Core.List.{List}
+use mathlib.Core.Logic.{_⊎_, inl, inr}
 use Prim.Native.Nat.{ℕ, zero, suc, _-_, _≤_, _<_}
 use native.Mathlib.Omega.{arith}
 use native.Mathlib.Decide.{ℕ-discrete}
@@ -55,6 +56,26 @@ module _ (c : List ℕ) where
       elim (ℕ-discrete k n) [
         | yes e ↦ rw e p
         | no e ↦ short-past n k (rw p at h) (omega arith)
+      ])
+
+  -- so it goes up to the last running day, or is a single character where there is none
+  pub short-last : (n : ℕ) → (day c (shortCount c n - 1) ≡ true) ⊎ ((shortCount c n ≡ 1) × ((k : ℕ) → k < n → day c k ≡ false))
+  unfolding shortCount
+  short-last zero = inr (refl, λ k h. absurd (omega arith))
+  short-last (suc n) =
+      choose (day c n)
+      (λ p. let e : suc n - 1 ≡ n = omega arith in inl (rw p (rw e p)))
+      (λ p.
+      elim (short-last n) [
+        | inl q ↦ inl (rw p q)
+        | inr q ↦ inr (
+          rw p (q .0),
+          λ k h.
+              elim (ℕ-discrete k n) [
+                | yes e ↦ rw e p
+                | no e ↦ q .1 k (omega arith)
+              ],
+        )
       ])
 
 -- the same in either form

@@ -154,12 +154,13 @@ pub element-cut : (r : List ℕ) (m : ℕ) → partOf (bytes "POP+" ++ r) 1 1 m 
 unfolding partOf laterPieces
 element-cut r m = refl
 
--- so where behind `POP+` and 27 bytes more only characters of days stand, they are the string
+-- behind `POP+` and 27 bytes more only characters of days stand
 pub record Bare (g : List ℕ) : Type 0 where
   pub tagged : Tagged g
   pub long : 31 ≤ length g
   pub days : all zeroOrOne (drop 31 g) ≡ true
 
+-- so they are the day string
 pub string-place : (g : List ℕ) → Dated g → 1 ≤ length (dayText g) → Bare g → drop 31 g ≡ partOf g 1 1 4
 string-place g s c o =
     let a = s .qualified in
