@@ -1,5 +1,5 @@
 // Holds the proved reader against the yardstick, in one process: the same answers, and how long each takes.
-//   bench compare N SEED   N interchanges, good ones and damaged ones, through both; stops at the first difference
+//   bench compare N SEED   N interchanges, good ones and damaged ones, through both with the same wish; stops at the first difference
 //   bench time             yardstick's time over ours for realistic interchanges: 1.0 or more means at least as fast
 //   bench costs            what a byte of extreme interchanges costs, over what a byte of a realistic one costs
 //   bench where            what our time goes to, by interchanges that differ in one thing
@@ -9,9 +9,9 @@
 #include "measure.h"
 #include "parcels.h"
 #include "samples.h"
+#include "tally.h"
 #include "yardstick.h"
 
-int printf(const char *format, ...);
 int fflush(void *file);
 int strcmp(const char *a, const char *b);
 size_t strlen(const char *a);
@@ -35,6 +35,7 @@ static struct text pool;
 static struct segment segments[MOST_SEGMENTS];
 static size_t segment_count;
 static unsigned fault_rate;   // one in so many contents is faulty
+static int formless;          // whether there are POPs with neither form on purpose
 static struct text dialogue;  // after release
 
 static const char *const tags[] = {
@@ -100,15 +101,20 @@ static void put_day(struct text *t, unsigned day) {
 
 static const char *const odd_weekdays[] = {"76", "66", "0", "8", "12345678", "1234567 ", "a", "11", "7 1", "01", "135", "7", "1", "67", "246"};
 
-static void put_weekdays(struct text *t) {
-    if (fault_rate && one_in(fault_rate)) {
-        put_word(t, odd_weekdays[below(sizeof odd_weekdays / sizeof odd_weekdays[0])]);
-        return;
-    }
+static void put_odd_weekdays(struct text *t) { put_word(t, odd_weekdays[below(sizeof odd_weekdays / sizeof odd_weekdays[0])]); }
+
+static void put_good_weekdays(struct text *t) {
     unsigned set = below(128);
     for (int d = 0; d < 7; d++)
         if (set >> d & 1)
             put_character(t, '1' + d);
+}
+
+static void put_weekdays(struct text *t) {
+    if (fault_rate && one_in(fault_rate))
+        put_odd_weekdays(t);
+    else
+        put_good_weekdays(t);
 }
 
 static const char *const odd_periods[] = {
@@ -119,15 +125,82 @@ static const char *const odd_periods[] = {
     "2000-01-01 2000-01-02", "2000-01-01/2000-01-02 ", "2000-01-01/2000-13-01", "2000-00-01/2000-01-01", "2000-01-00/2000-01-01", "1992-02-29/1992-03-01",
     "1993-02-28/1993-02-29", "2000-01-01/2000-1-001", "2000-01:01/2000-01-02", "2000-01-01", "2000-01-01/", "/2000-01-01", "2000-01-0a/2000-01-31"};
 
+static void put_odd_dates(struct text *t) { put_word(t, odd_periods[below(sizeof odd_periods / sizeof odd_periods[0])]); }
+
 // A period's dates that are odd, with weekdays or with nothing.
 static void put_odd_period(struct text *t) {
     puts_to(t, "+");
     put_word(t, "273");
     puts_to(t, ":");
-    put_word(t, odd_periods[below(sizeof odd_periods / sizeof odd_periods[0])]);
-    if (one_in(3)) {
+    put_odd_dates(t);
+    if (!formless || one_in(3)) {
         put(t, '+');
         put_word(t, one_in(2) ? "67" : "1234567");
+    }
+}
+
+static const char *const odd_qualifiers[] = {"274", "27", "2733", "", "73", " 273", "372"};
+
+static void put_odd_qualifier(struct text *t) { put_word(t, odd_qualifiers[below(sizeof odd_qualifiers / sizeof odd_qualifiers[0])]); }
+
+// A day string: none, one that fits, one that is too long, or one with a character that is neither 0 nor 1.
+static void put_any_string(struct text *t, unsigned days) {
+    enum { NONE, FITTING, TOO_LONG, OTHER, KINDS };
+    unsigned kind = below(KINDS), told = kind == NONE ? 0 : kind == TOO_LONG ? days + 1 + below(2) : one_in(2) ? days : short_string(days);
+    unsigned other = kind == OTHER ? below(told) : told;
+    for (unsigned k = 0; k < told; k++)
+        put_character(t, k == other ? "/2 A"[below(4)] : '0' + (int)below(2));
+}
+
+// Now and then an element once more, with what would be read if it stood first.
+static void put_again(struct text *t, const char *again) {
+    if (one_in(6)) {
+        put(t, '*');
+        puts_to(t, one_in(3) ? "" : again);
+    }
+}
+
+static void put_any_dates(struct text *t, unsigned days) {
+    unsigned first = below(40177 - 511);
+    if (one_in(6)) {
+        put_odd_dates(t);
+        return;
+    }
+    put_date(t, first);
+    put_character(t, '/');
+    put_date(t, first + days - 1);
+}
+
+static void put_any_weekdays(struct text *t) {
+    if (one_in(2))
+        put_odd_weekdays(t);
+    else if (one_in(2))
+        put_good_weekdays(t);
+}
+
+// A POP whose parts are each good, wrong or absent, whatever the others are, so that several are wrong at once.
+static void put_any_parts(struct text *t) {
+    unsigned days = one_in(20) ? 511 + below(2) : 1 + below(20);
+    put(t, '+');
+    if (one_in(3))
+        put_odd_qualifier(t);
+    else
+        put_word(t, "273");
+    put(t, one_in(40) ? '*' : ':');
+    put_any_dates(t, days);
+    if (one_in(2)) {
+        put(t, ':');
+        put_any(t, one_in(3) ? 3 : 0);
+        put(t, ':');
+        put_any_string(t, days);
+    }
+    put_again(t, "273:2000-08-01/2000-08-31::1");
+    if (one_in(2)) {
+        put(t, '+');
+        put_any_weekdays(t);
+        put_again(t, "67");
+    } else if (one_in(4)) {
+        puts_to(t, "++A*B");
     }
 }
 
@@ -137,9 +210,12 @@ static void put_period(struct text *t) {
         put_odd_period(t);
         return;
     }
-    static const char *const qualifiers[] = {"274", "27", "2733", "", "73", " 273", "372"};
+    if (fault_rate && fault_rate < 30 && one_in(2)) {
+        put_any_parts(t);
+        return;
+    }
     unsigned days = one_in(4) ? 1 : one_in(4) ? 512 : one_in(8) ? 13 : 1 + below(512);
-    unsigned first = one_in(10) ? 0 : one_in(10) ? 40177 - days : below(40177 - 511), form = below(4), told = days, last;
+    unsigned first = one_in(10) ? 0 : one_in(10) ? 40177 - days : below(40177 - 511), form = formless ? below(4) : 1 + below(2), told = days, last;
     if (fault_rate && one_in(fault_rate))
         days = one_in(2) ? 513 : one_in(2) ? 512 : below(2000);
     last = first + days - 1;
@@ -153,7 +229,7 @@ static void put_period(struct text *t) {
         return;
     put(t, '+');
     if (fault_rate && one_in(fault_rate))
-        put_word(t, qualifiers[below(7)]);
+        put_odd_qualifier(t);
     else
         put_word(t, "273");
     put(t, ':');
@@ -212,7 +288,7 @@ static size_t target = NO_TARGET;
 static void put_segment(const char *tag, int read, unsigned density) {
     struct segment *g = begin(tag, PLAIN);
     if (read && target != NO_TARGET && !strcmp(tag, "POP"))
-        puts_to(&pool, "+273:2000-01-01/2000-01-01");
+        puts_to(&pool, formless ? "+273:2000-01-01/2000-01-01" : "+273:2000-01-01/2000-01-01+6");
     else if (!strcmp(tag, "POP") && (read || one_in(2)))
         put_period(&pool);
     else if (density)
@@ -655,7 +731,10 @@ static void put_sized(size_t n) {
     join();
 }
 
-void put_case(void) {
+// A POP with neither form ends a reading where the caller does not ask for the old one: three in four of those interchanges have none on
+// purpose.
+void put_case(_Bool old_reading) {
+    formless = old_reading || one_in(4);
     if (one_in(400)) {
         put_sized(one_in(3) ? LONGEST + 1 : one_in(2) ? LONGEST : LONGEST - below(3));
         while (one_in(3))
@@ -666,8 +745,8 @@ void put_case(void) {
         joined.n = 0;
         return;
     }
-    if (one_in(6)) {
-        put_interchange(one_in(3) ? AT_LIMIT : PERIODS);
+    if (one_in(5)) {
+        put_interchange(one_in(4) ? AT_LIMIT : PERIODS);
         join();
         return;
     }
@@ -710,7 +789,7 @@ void put_case(void) {
 static uint32_t ours[MOST_NUMBERS + 1000 + GUARD], theirs[MOST_NUMBERS + 1000 + GUARD];
 
 void show(const char *who, struct reply r) {
-    printf("%s: number %u, position %lu, rows %lu\n", who, r.number, (unsigned long)r.position, (unsigned long)r.rows);
+    printf("%s: number %u, position %lu, part %u, rows %lu\n", who, r.number, (unsigned long)r.position, r.part, (unsigned long)r.rows);
 }
 
 void show_input(void) {
@@ -726,11 +805,12 @@ void show_input(void) {
 }
 
 static int compare(unsigned long n, unsigned long seed) {
-    static unsigned long answers[32];
+    static struct tally tally;
     unsigned long bytes = 0;
     chance = seed * 0x9E3779B97F4A7C15u + 88172645463325252u;
     for (unsigned long k = 0; k < n; k++) {
-        put_case();
+        _Bool old_reading = one_in(2);
+        put_case(old_reading);
         if (joined.n > LONGEST + 1)
             joined.n = LONGEST + 1;
         size_t quotes = 0;
@@ -752,13 +832,13 @@ static int compare(unsigned long n, unsigned long seed) {
             room = MOST_NUMBERS + 1000;
         for (size_t i = 0; i < room + GUARD; i++)
             ours[i] = theirs[i] = (uint32_t)(i * 2654435761u + k);
-        struct reply a = drumcallisto_read(joined.at, joined.n, ours, room);
-        struct reply b = yardstick_read(joined.at, joined.n, theirs, room);
-        int same = a.number == b.number && a.position == b.position && a.rows == b.rows && !memcmp(ours, theirs, (room + GUARD) * sizeof *ours);
+        struct reply a = drumcallisto_read(joined.at, joined.n, old_reading, ours, room);
+        struct reply b = yardstick_read(joined.at, joined.n, old_reading, theirs, room);
+        int same = same_reply(a, b) && !memcmp(ours, theirs, (room + GUARD) * sizeof *ours);
         for (size_t i = a.number ? 0 : a.rows * 3; i < room + GUARD; i++)
             same &= ours[i] == (uint32_t)(i * 2654435761u + k);
         if (!same) {
-            printf("case %lu of seed %lu differs, room for %lu numbers\n", k, seed, (unsigned long)room);
+            printf("case %lu of seed %lu differs, room for %lu numbers, old reading %d\n", k, seed, (unsigned long)room, old_reading);
             show("ours     ", a);
             show("yardstick", b);
             for (size_t i = 0; i < room + GUARD; i++)
@@ -769,13 +849,11 @@ static int compare(unsigned long n, unsigned long seed) {
             show_input();
             return 1;
         }
-        answers[a.number < 31 ? a.number : 31]++;
+        count_answer(&tally, a.number, a.part, old_reading);
         bytes += joined.n;
     }
-    printf("%lu interchanges, %lu bytes, no difference; accepted %lu\n", n, bytes, answers[0]);
-    for (unsigned i = 1; i < 32; i++)
-        if (answers[i])
-            printf("  refused %2u: %lu\n", i, answers[i]);
+    printf("%lu interchanges, %lu bytes, no difference; accepted %lu\n", n, bytes, tally.numbers[0]);
+    show_refusals(&tally);
     return 0;
 }
 
@@ -792,12 +870,12 @@ static void put_same(struct text *t, int skdupd, const char *first, const char *
 
 // ---- Time ----
 
-typedef struct reply reader(const uint8_t *, size_t, uint32_t *, size_t);
+typedef struct reply reader(const uint8_t *, size_t, _Bool, uint32_t *, size_t);
 
 static double took(reader *read, const struct text *t, unsigned times) {
     double start = now();
     for (unsigned k = 0; k < times; k++) {
-        struct reply r = read(t->at, t->n, ours, MOST_NUMBERS);
+        struct reply r = read(t->at, t->n, OLD_READING, ours, MOST_NUMBERS);
         if (r.number)
             printf("refused %u at %lu\n", r.number, (unsigned long)r.position);
     }
@@ -823,7 +901,7 @@ static struct text sample;
 
 static void time_one(const char *name, unsigned rounds) {
     struct times us, them;
-    struct reply r = drumcallisto_read(sample.at, sample.n, ours, MOST_NUMBERS);
+    struct reply r = drumcallisto_read(sample.at, sample.n, OLD_READING, ours, MOST_NUMBERS);
     if (r.number) {
         printf("%s: refused %u at %lu\n", name, r.number, (unsigned long)r.position);
         return;
@@ -851,7 +929,7 @@ static double usual_ours, usual_theirs;
 
 static void cost_one(const char *name, unsigned rounds) {
     struct times us, them;
-    struct reply r = drumcallisto_read(sample.at, sample.n, ours, MOST_NUMBERS);
+    struct reply r = drumcallisto_read(sample.at, sample.n, OLD_READING, ours, MOST_NUMBERS);
     if (r.number) {
         printf("%s: refused %u at %lu\n", name, r.number, (unsigned long)r.position);
         return;
@@ -943,15 +1021,15 @@ static void where(unsigned rounds) {
 }
 
 // Reads nothing: what a process costs without a reading.
-static struct reply nobody(const uint8_t *s, size_t n, uint32_t *rows, size_t room) {
-    (void)s, (void)n, (void)rows, (void)room;
-    return (struct reply){0, 0, 0};
+static struct reply nobody(const uint8_t *s, size_t n, _Bool old_reading, uint32_t *rows, size_t room) {
+    (void)s, (void)n, (void)old_reading, (void)rows, (void)room;
+    return (struct reply){0, 0, 0, 0};
 }
 
 static int once(const char *who, const char *kind, unsigned long longest) {
     put_realistic(&sample, !strcmp(kind, "skdupd"), longest);
     reader *read = !strcmp(who, "ours") ? drumcallisto_read : !strcmp(who, "parcels") ? read_in_parcels : !strcmp(who, "yardstick") ? yardstick_read : nobody;
-    struct reply r = read(sample.at, sample.n, ours, MOST_NUMBERS);
+    struct reply r = read(sample.at, sample.n, OLD_READING, ours, MOST_NUMBERS);
     printf("%s %s: %lu bytes, %lu segments, number %u\n", who, kind, (unsigned long)sample.n, (unsigned long)r.rows, r.number);
     return r.number;
 }

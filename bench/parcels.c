@@ -1,8 +1,8 @@
 // Reading in parcels against the whole reader: the same rows and answer under cuts by chance, and how long each takes.
 #include "parcels.h"
 #include "measure.h"
+#include "tally.h"
 
-int printf(const char *format, ...);
 int fflush(void *file);
 int memcmp(const void *a, const void *b, size_t n);
 void *memcpy(void *to, const void *from, size_t n);
@@ -18,6 +18,7 @@ struct outcome {
     uint32_t at[MOST_NUMBERS + GUARD];
 };
 static struct outcome once, cut;
+static _Bool old_reading;   // the wish of both readings
 static struct reply answer; // the whole reader's, and its rows
 static uint32_t whole[MOST_NUMBERS];
 static unsigned long parcels, again, beyond, broken;
@@ -34,7 +35,11 @@ static void expect(int good, const char *what) {
         fault = what;
 }
 
-static int same_reply(struct reply a, struct reply b) { return a.number == b.number && a.position == b.position && a.rows == b.rows; }
+// One of six parts beside 10, and none beside any other number.
+static void expect_answer(struct reply r) {
+    expect(r.number <= 21, "a number that there is not");
+    expect(r.number == 10 ? r.part >= 1 && r.part <= 6 : !r.part, "a part that there is not");
+}
 
 // One call, whose rows go to a buffer with room for so many numbers: what stands past them, and past the store, stays as it was. The
 // parcel is lent for this call alone: it is a copy, and the next one is written over it.
@@ -55,7 +60,7 @@ static struct reply take(const uint8_t *s, size_t n, size_t room) {
         expect(lent[i] == mark + (uint32_t)i, "a number past the rows was written");
     expect(!memcmp(store + STORE_LENGTH, behind, GUARD), "a byte past the store was written");
     expect(!memcmp(parcel, s, n), "the parcel was written");
-    expect(r.number <= 21, "a number that there is not");
+    expect_answer(r);
     parcels++;
     return r;
 }
@@ -93,9 +98,9 @@ static size_t next_length(int way, size_t equal, size_t left) {
 static void read_cut(struct outcome *o, int way) {
     size_t equal = 1 + below(one_in(2) ? 2000 : 70);
     int tight = way != ONE && one_in(3);
-    expect(drumcallisto_begin(store, STORE_LENGTH).number == 0, "begin refuses");
+    expect(drumcallisto_begin(store, STORE_LENGTH, old_reading).number == 0, "begin refuses");
     o->rows = 0;
-    struct reply r = {0, 0, 0};
+    struct reply r = {0, 0, 0, 0};
     for (size_t at = 0; at < joined.n || (way == CHANCE && one_in(3));) {
         size_t n = next_length(way, equal, joined.n - at);
         struct reply next = tight && one_in(4) ? take_again(joined.at + at, n) : take(joined.at + at, n, r.number ? below(20) : ample(n));
@@ -106,7 +111,7 @@ static void read_cut(struct outcome *o, int way) {
             o->at[o->rows * 3 + i] = lent[i];
         o->rows += next.rows;
         int first = !r.number && next.number;
-        r = (struct reply){next.number, next.position, 0};
+        r = (struct reply){next.number, next.position, next.part, 0};
         // the rest brings nothing: it is given seldom
         if (fault || (first && !one_in(8)))
             break;
@@ -115,7 +120,7 @@ static void read_cut(struct outcome *o, int way) {
     expect(!r.number || same_reply(o->reply, r), "finish does not repeat the final answer");
     expect(same_reply(drumcallisto_finish(store, STORE_LENGTH), o->reply), "a second finish answers otherwise");
     struct reply after = take((const uint8_t *)"UIB'", 4, 3);
-    expect(same_reply(after, (struct reply){o->reply.number, o->reply.position, 0}), "a parcel after the end is not passed over");
+    expect(same_reply(after, (struct reply){o->reply.number, o->reply.position, o->reply.part, 0}), "a parcel after the end is not passed over");
 }
 
 // So many bytes more in a segment, before its terminator: mostly elements that no rule looks at.
@@ -146,11 +151,13 @@ static void lengthen(void) {
         put_before(end, length - (end + 1 - from));
 }
 
-// A realistic interchange of 60,000 bytes, or one or two more or fewer, and some bytes after it.
+// A realistic interchange of 60,000 bytes, or one or two more or fewer, and some bytes after it. Services have POPs with neither form and are
+// read to the end only with the wish: without it there are mostly stations.
 static void put_longest(void) {
-    uint64_t kept = chance;
     size_t end = 0, length = LONGEST + 2 - (one_in(2) ? 2 : below(5));
-    put_realistic(&joined, kept % 2, LONGEST - 40);
+    int services = old_reading ? one_in(2) : one_in(8);
+    uint64_t kept = chance;
+    put_realistic(&joined, services, LONGEST - 40);
     chance = kept;
     while (joined.at[end] != '\'')
         end++;
@@ -169,16 +176,16 @@ static struct reply wanted(size_t *before) {
         released = !released && joined.at[i] == '?';
     }
     int within = i == joined.n;
-    struct reply r = {7, 0, 0};
+    struct reply r = {7, 0, 0, 0};
     if (within || from)
-        r = drumcallisto_read(joined.at, within ? i : from, whole, MOST_NUMBERS);
+        r = drumcallisto_read(joined.at, within ? i : from, old_reading, whole, MOST_NUMBERS);
     *before = r.number && r.number != 3 ? r.position : from;
     if (within || (r.number && (r.number != 7 || r.position != from)))
         return r;
     beyond++;
     if (i == LONGEST && (r.number || from == i))
-        return (struct reply){3, 0, 0};
-    return (struct reply){r.number ? 21 : 7, from, 0};
+        return (struct reply){3, 0, 0, 0};
+    return (struct reply){r.number ? 21 : 7, from, 0, 0};
 }
 
 // "after the rows of the segments before the fault": offset and tag of each segment that ends before a position, and no more.
@@ -238,45 +245,46 @@ static void read_broken(void) {
     if (one_in(3)) {
         put_noise(store, STORE_LENGTH);
     } else {
-        drumcallisto_begin(store, STORE_LENGTH);
+        drumcallisto_begin(store, STORE_LENGTH, old_reading);
         take(joined.at, below((unsigned)joined.n + 1), MOST_NUMBERS);
         for (unsigned n = 1 + below(6); n; n--)
-            store[one_in(4) ? below(STORE_LENGTH) : below(40)] = (uint8_t)(one_in(2) ? below(256) : below(5));
+            store[one_in(4) ? below(STORE_LENGTH) : below(44)] = (uint8_t)(one_in(2) ? below(256) : below(5));
     }
     for (unsigned n = 1 + below(6); n && !fault; n--) {
         size_t from = below((unsigned)joined.n + 1), length = below((unsigned)(joined.n - from) + 1);
         take(joined.at + from, one_in(3) ? 0 : length, one_in(2) ? ample(length) : below((unsigned)ample(length) + 1));
         if (one_in(2))
-            expect(drumcallisto_finish(store, STORE_LENGTH).number <= 21, "a number that there is not");
+            expect_answer(drumcallisto_finish(store, STORE_LENGTH));
     }
     size_t length = one_in(2) ? STORE_LENGTH - 1 : one_in(2) ? STORE_LENGTH + 1 : below(STORE_LENGTH);
-    unsigned number = one_in(2) ? drumcallisto_begin(store, length).number : drumcallisto_finish(store, length).number;
+    unsigned number = one_in(2) ? drumcallisto_begin(store, length, old_reading).number : drumcallisto_finish(store, length).number;
     expect(number == 17 && drumcallisto_take(store, length, joined.at, joined.n, lent, MOST_NUMBERS).number == 17, "a store of another length was taken");
     broken++;
 }
 
 int compare_parcels(unsigned long n, unsigned long seed) {
-    static unsigned long answers[32];
+    static struct tally tally;
     unsigned long bytes = 0;
     chance = seed * 0x9E3779B97F4A7C15u + 88172645463325252u;
     for (unsigned long k = 0; k < n; k++) {
+        old_reading = one_in(2);
         if (one_in(400))
             put_longest();
         else
-            put_case();
+            put_case(old_reading);
         if (one_in(20))
             lengthen();
         if (joined.n > LONGEST + 40)
             joined.n = LONGEST + 40;
         bytes += joined.n;
         agree();
-        answers[once.reply.number < 31 ? once.reply.number : 31]++;
+        count_answer(&tally, once.reply.number, once.reply.part, old_reading);
         if (!fault && !once.reply.number && one_in(2))
             agree_damaged();
         if (!fault && one_in(4))
             read_broken();
         if (fault) {
-            printf("case %lu of seed %lu: %s\n", k, seed, fault);
+            printf("case %lu of seed %lu, old reading %d: %s\n", k, seed, old_reading, fault);
             show("whole       ", answer);
             show("in one piece", once.reply);
             show("in parcels  ", cut.reply);
@@ -284,10 +292,8 @@ int compare_parcels(unsigned long n, unsigned long seed) {
             return 1;
         }
     }
-    printf("%lu interchanges, %lu bytes, %lu parcels, no difference; accepted %lu\n", n, bytes, parcels, answers[0]);
-    for (unsigned i = 1; i < 32; i++)
-        if (answers[i])
-            printf("  refused %2u: %lu\n", i, answers[i]);
+    printf("%lu interchanges, %lu bytes, %lu parcels, no difference; accepted %lu\n", n, bytes, parcels, tally.numbers[0]);
+    show_refusals(&tally);
     printf("  %lu judged by a limit of its own, %lu parcels without room and then with it, %lu broken stores\n", beyond, again, broken);
     return 0;
 }
@@ -297,22 +303,22 @@ int compare_parcels(unsigned long n, unsigned long seed) {
 enum { MOST_ROUNDS = 200, PARCEL = 1460 };
 
 // In parcels of one length. The rows are put one behind the other.
-static struct reply read_by(size_t length, const uint8_t *s, size_t n, uint32_t *rows, size_t room) {
-    drumcallisto_begin(store, STORE_LENGTH);
+static struct reply read_by(size_t length, const uint8_t *s, size_t n, _Bool wish, uint32_t *rows, size_t room) {
+    drumcallisto_begin(store, STORE_LENGTH, wish);
     for (size_t at = 0, numbers = 0; at < n; at += length)
         numbers += 3 * drumcallisto_take(store, STORE_LENGTH, s + at, n - at < length ? n - at : length, rows + numbers, room - numbers).rows;
     return drumcallisto_finish(store, STORE_LENGTH);
 }
 
-struct reply read_in_parcels(const uint8_t *s, size_t n, uint32_t *rows, size_t room) { return read_by(PARCEL, s, n, rows, room); }
+struct reply read_in_parcels(const uint8_t *s, size_t n, _Bool wish, uint32_t *rows, size_t room) { return read_by(PARCEL, s, n, wish, rows, room); }
 
-static struct reply read_by_bytes(const uint8_t *s, size_t n, uint32_t *rows, size_t room) { return read_by(1, s, n, rows, room); }
+static struct reply read_by_bytes(const uint8_t *s, size_t n, _Bool wish, uint32_t *rows, size_t room) { return read_by(1, s, n, wish, rows, room); }
 
 // Nanoseconds for one reading.
-static double took(struct reply read(const uint8_t *, size_t, uint32_t *, size_t), const struct text *t, unsigned times) {
+static double took(struct reply read(const uint8_t *, size_t, _Bool, uint32_t *, size_t), const struct text *t, unsigned times) {
     double start = now();
     for (unsigned k = 0; k < times; k++) {
-        struct reply r = read(t->at, t->n, whole, MOST_NUMBERS);
+        struct reply r = read(t->at, t->n, OLD_READING, whole, MOST_NUMBERS);
         if (r.number)
             printf("refused %u at %lu\n", r.number, (unsigned long)r.position);
     }

@@ -63,15 +63,15 @@ static inline int only_weekdays(const uint8_t *p, const uint8_t *end) {
     return 1;
 }
 
-int usual_period(const uint8_t *g, const uint8_t *end) {
+int usual_period(const uint8_t *g, const uint8_t *end, _Bool old_reading) {
     const uint8_t *p = g + DATES;
     unsigned days;
     if (end < p || four_at(g + 4) != (uint32_t)EIGHT_OF('2', '7', '3', ':', 0, 0, 0, 0) || !(days = usual_days(g + 8)))
         return 0;
     if (p == end)
-        return 1;
+        return old_reading;
     if (*p == '+')
-        return only_weekdays(p + 1, end);
+        return p + 1 == end ? old_reading : only_weekdays(p + 1, end);
     if (end - p <= 2 || p[0] != ':' || p[1] != ':')
         return 0;
     size_t told = (size_t)(end - p) - 2;
@@ -86,24 +86,32 @@ static void rest_of_component(const uint8_t **p, const uint8_t *end) {
         ;
 }
 
-// Passes what is left of an element; whether nothing in it was repeated.
+// Passes what is left of an element; whether it is repeated.
 static int rest_of_element(const uint8_t **p, const uint8_t *end) {
     const uint8_t *q = *p;
+    int repeated = 0;
     while (q < end && *q != '+') {
-        if (*q == '*')
-            return 0;
+        repeated |= *q == '*';
         q += *q == '?' ? 2 : 1;
     }
     *p = q;
-    return 1;
+    return repeated;
 }
 
-// Passes `273`, a `:` and the two dates; how many days they are, 0 where something is wrong.
+// Passes a component; whether it is a text.
+static int component_says(const uint8_t **p, const uint8_t *end, const char *text) {
+    int c;
+    while ((c = next_character(p, end)) == *text)
+        text++;
+    if (c < 0)
+        return !*text;
+    rest_of_component(p, end);
+    return 0;
+}
+
+// Passes a `:` and the two dates; how many days they are, 0 where they are absent or wrong.
 static unsigned days_of(const uint8_t **p, const uint8_t *end) {
     uint8_t dates[21];
-    for (const char *q = "273"; *q; q++)
-        if (next_character(p, end) != *q)
-            return 0;
     if (*p == end || **p != ':')
         return 0;
     ++*p;
@@ -133,31 +141,45 @@ static int bits_of(const uint8_t **p, const uint8_t *end) {
     return bits;
 }
 
-// "Element 2160 is a string of weekdays, Monday 1 to Sunday 7, strictly rising.": how many, or -1 where it is none.
+// "Element 2160 is a string of weekdays, Monday 1 to Sunday 7, strictly rising.": how many, or -1 where it is none. Its `+` is passed too.
 static int weekdays_of(const uint8_t **p, const uint8_t *end) {
     int c, weekdays = 0;
+    if (*p == end)
+        return 0;
+    ++*p;
     for (int before = '0'; (c = next_character(p, end)) >= 0; before = c, weekdays++)
         if (c <= before || c > '7')
             return -1;
     return weekdays;
 }
 
-int good_period(const uint8_t *g, const uint8_t *end) {
-    const uint8_t *p = g + 3;
-    unsigned days;
-    if (p == end)
-        return 0;
-    p++;
-    if (!(days = days_of(&p, end)))
-        return 0;
-    int bits = bits_of(&p, end);
+// Which part of the two forms is wrong: so many days, and what `bits_of` and `weekdays_of` found.
+static unsigned wrong_forms(int days, int bits, int weekdays, _Bool old_reading) {
     // "A shorter string, of at least one character, means not running on the days left. A longer one stays wrong." (document 02, A3)
-    if (bits < 0 || bits > (int)days || !rest_of_element(&p, end))
-        return 0;
-    if (p == end)
-        return 1;
+    if (bits < 0 || bits > days)
+        return WRONG_DAY_STRING;
+    if (weekdays < 0)
+        return WRONG_WEEKDAYS;
     // "Giving both is wrong."
+    if (bits && weekdays)
+        return BOTH_FORMS;
+    // "From now on a POP with neither form is refused unless the caller asks for the old reading." (document 02, A2)
+    return !bits && !weekdays && !old_reading ? NEITHER_FORM : ALL_GOOD;
+}
+
+unsigned wrong_part(const uint8_t *g, const uint8_t *end, _Bool old_reading) {
+    const uint8_t *p = g + 3;
+    if (p == end)
+        return WRONG_DATES;
     p++;
+    int other = !component_says(&p, end, "273");
+    unsigned days = days_of(&p, end);
+    if (!days)
+        return WRONG_DATES;
+    int bits = bits_of(&p, end);
+    other |= rest_of_element(&p, end);
     int weekdays = weekdays_of(&p, end);
-    return weekdays >= 0 && !(bits && weekdays) && rest_of_element(&p, end);
+    other |= rest_of_element(&p, end);
+    unsigned wrong = wrong_forms((int)days, bits, weekdays, old_reading);
+    return wrong ? wrong : other ? WRONG_OTHERWISE : ALL_GOOD;
 }

@@ -16,9 +16,9 @@ enum { NOTHING, PUT, REMOVAL };
 // The dates from 1990-01-01 to 2099-12-31, and the days of a window.
 enum { DATES = 40177, WINDOW = 512 };
 
-static struct answer done(size_t value) { return (struct answer){0, 0, value}; }
+static struct answer done(size_t value) { return (struct answer){0, 0, 0, value}; }
 
-static struct answer refuse(unsigned number, size_t position) { return (struct answer){(uint8_t)number, position, 0}; }
+static struct answer refuse(unsigned number, size_t position) { return (struct answer){(uint8_t)number, position, 0, 0}; }
 
 // ---- Whether a buffer is a register ----
 
@@ -337,7 +337,7 @@ static void join_string(uint8_t *days, unsigned from, struct part p) {
             set_day(days, k);
 }
 
-// Weekdays, Monday 1, as bits 0 to 6; "Giving neither means every day."
+// Weekdays, Monday 1, as bits 0 to 6; "Giving neither means every day.", and where the caller does not ask for that, no POP gives neither.
 static unsigned weekdays_of(struct part p) {
     unsigned set = 0;
     int c;
@@ -477,15 +477,15 @@ static void enter_all(uint8_t *b, struct room *r, const struct service *all, siz
             enter_put(b, r, &all[i]);
 }
 
-struct answer yardstick_stage(uint8_t *b, size_t n, size_t account, const uint8_t *s, size_t length) {
+struct answer yardstick_stage(uint8_t *b, size_t n, size_t account, const uint8_t *s, size_t length, _Bool old_reading) {
     uint32_t rows[MOST_ROWS * 3];
     struct service all[MOST_SERVICES];
     unsigned number = unfit(b, n, account);
     if (number)
         return refuse(number, 0);
-    struct reply reading = yardstick_read(s, length, rows, MOST_ROWS * 3);
+    struct reply reading = yardstick_read(s, length, old_reading, rows, MOST_ROWS * 3);
     if (reading.number)
-        return refuse(reading.number, reading.position);
+        return (struct answer){reading.number, reading.position, reading.part, 0};
     struct room r = room_of(b, account);
     struct reading x = {s, rows, reading.rows};
     struct answer answer = test_services(b, r, &x, all, length);

@@ -4,8 +4,8 @@
 #include "measure.h"
 #include "proved.h"
 #include "samples.h"
+#include "tally.h"
 
-int printf(const char *format, ...);
 int fflush(void *file);
 int strcmp(const char *a, const char *b);
 unsigned long strtoul(const char *text, char **end, int base);
@@ -37,6 +37,7 @@ struct command {
     uint32_t quotas[ACCOUNTS];
     uint8_t number[16];
     size_t number_length;
+    _Bool old_reading; // the wish of a staging
 };
 static struct text interchange;
 
@@ -100,31 +101,54 @@ static void put_day(struct text *t, long day) {
         put_date(t, (unsigned)day);
 }
 
+// What POPs an interchange has.
+static unsigned fault_rate; // one in so many of their parts is wrong, none where it is 0
+static int formless;        // whether there are some with neither form on purpose
+
+static int faulty(void) { return fault_rate && one_in(fault_rate); }
+
+static void put_string(struct text *t, unsigned days) {
+    unsigned told = faulty() ? days + 1 : one_in(3) ? short_string(days) : days;
+    for (; told; told--)
+        put_character(t, faulty() && one_in(days) ? '2' : '0' + (int)below(2));
+}
+
+static void put_weekdays(struct text *t) {
+    static const char *const wrong[] = {"76", "66", "0", "8", "12345678", "7 ", "01"};
+    if (faulty()) {
+        put_word(t, wrong[below(sizeof wrong / sizeof wrong[0])]);
+        return;
+    }
+    for (int d = '1'; d <= '7'; d++)
+        if (one_in(2))
+            put_character(t, d);
+}
+
+// A day string, weekdays or neither, and where something is wrong both.
+static void put_form(struct text *t, unsigned days) {
+    unsigned form = below(formless ? 3 : 2);
+    if (form == 0 || faulty()) {
+        puts_to(t, "::");
+        put_string(t, days);
+    }
+    if (form == 1 || faulty()) {
+        put(t, '+');
+        put_weekdays(t);
+    }
+}
+
 // A POP, mostly within the window and now and then a day before it or past it.
 static void put_period(struct text *t, unsigned first) {
-    unsigned days = one_in(3) ? 1 : one_in(6) ? WINDOW : 1 + below(WINDOW), told = days;
+    unsigned days = one_in(3) ? 1 : one_in(6) ? WINDOW : 1 + below(WINDOW);
     long from = first + (one_in(4) ? 0 : one_in(4) ? WINDOW - days : below(WINDOW - days + 1));
     if (one_in(60))
         from = one_in(2) ? (long)first - 1 : (long)first + WINDOW - days + 1;
-    puts_to(t, "POP+273:");
+    puts_to(t, faulty() ? "POP+274:" : "POP+273:");
     put_day(t, from);
-    put_word(t, "/");
+    put_word(t, faulty() ? "-" : "/");
     put_day(t, from + days - 1);
-    if (one_in(3)) {
-        puts_to(t, "::");
-        if (one_in(100))
-            told = days + 1;
-        else if (one_in(3))
-            told = short_string(told);
-        for (; told; told--)
-            put_character(t, '0' + (int)below(2));
-    } else if (one_in(2)) {
-        put(t, '+');
-        for (int d = '1'; d <= '7'; d++)
-            if (one_in(2))
-                put_character(t, d);
-    }
-    puts_to(t, one_in(100) ? "*'" : "'");
+    put_form(t, days);
+    puts_to(t, faulty() ? "*'" : "'");
 }
 
 // The numbers that an interchange has so far.
@@ -209,10 +233,14 @@ static void put_odd_length(struct text *t) {
             put(t, 'A');
 }
 
-static void put_interchange(struct text *t, const uint8_t *b, size_t account) {
+// A POP with neither form ends a staging where the caller does not ask for the old reading: five in six of those interchanges have none on
+// purpose.
+static void put_interchange(struct text *t, const uint8_t *b, size_t account, _Bool old_reading) {
     unsigned messages = 1 + (unsigned)one_in(4);
     t->n = given_count = 0;
     release_rate = one_in(3) ? 2 + below(20) : 0;
+    fault_rate = one_in(6) ? 4 + below(20) : 0;
+    formless = old_reading || one_in(6);
     puts_to(t, "UIB+UNOB:4+7'");
     for (unsigned m = messages; m; m--)
         put_message(t, b, account);
@@ -285,7 +313,8 @@ static struct command any_command(const struct pair *p, size_t which) {
         any_quotas(c.quotas, which);
         break;
     case STAGE:
-        put_interchange(&interchange, p->theirs, c.account);
+        c.old_reading = one_in(2);
+        put_interchange(&interchange, p->theirs, c.account, c.old_reading);
         break;
     case WITHDRAW:
         c.number_length = some_number(p->theirs, c.account, 4, c.number);
@@ -407,13 +436,13 @@ struct outcome {
 static struct outcome ours, theirs;
 
 static void run_ours(const struct command *c, uint8_t *b, struct outcome *o) {
-    struct answer a = {0, 0, 0};
+    struct answer a = {0, 0, 0, 0};
     switch (c->kind) {
     case OPEN:
         a = drumcallisto_open(b, c->length, (struct date){c->year, c->month, c->day}, c->quotas);
         break;
     case STAGE:
-        a = drumcallisto_stage(b, c->length, c->account, interchange.at, interchange.n);
+        a = drumcallisto_stage(b, c->length, c->account, interchange.at, interchange.n, c->old_reading);
         break;
     case RELEASE:
         a = drumcallisto_release(b, c->length, c->account);
@@ -432,13 +461,13 @@ static void run_ours(const struct command *c, uint8_t *b, struct outcome *o) {
 }
 
 static void run_theirs(const struct command *c, uint8_t *b, struct outcome *o) {
-    struct answer a = {0, 0, 0};
+    struct answer a = {0, 0, 0, 0};
     switch (c->kind) {
     case OPEN:
         a = yardstick_open(b, c->length, (uint16_t)c->year, (uint8_t)c->month, (uint8_t)c->day, c->quotas);
         break;
     case STAGE:
-        a = yardstick_stage(b, c->length, c->account, interchange.at, interchange.n);
+        a = yardstick_stage(b, c->length, c->account, interchange.at, interchange.n, c->old_reading);
         break;
     case RELEASE:
         a = yardstick_release(b, c->length, c->account);
@@ -456,10 +485,12 @@ static void run_theirs(const struct command *c, uint8_t *b, struct outcome *o) {
     o->answer = a;
 }
 
-static int same_answer(struct answer a, struct answer b) { return a.number == b.number && a.position == b.position && a.value == b.value; }
+static int same_answer(struct answer a, struct answer b) {
+    return a.number == b.number && a.position == b.position && a.part == b.part && a.value == b.value;
+}
 
 static void show_answer(const char *who, struct answer a) {
-    printf("%s: number %u, position %lu, value %lu\n", who, a.number, (unsigned long)a.position, (unsigned long)a.value);
+    printf("%s: number %u, position %lu, part %u, value %lu\n", who, a.number, (unsigned long)a.position, a.part, (unsigned long)a.value);
 }
 
 static void show_bytes(const char *what, const uint8_t *s, size_t n) {
@@ -485,8 +516,10 @@ static void show_difference(const struct command *c, const struct pair *p) {
     show_first_other("output", ours.out, theirs.out, sizeof ours.out);
     if (c->kind == OPEN)
         printf("first date %u %u %u\n", c->year, c->month, c->day);
-    if (c->kind == STAGE)
+    if (c->kind == STAGE) {
+        printf("old reading %d\n", c->old_reading);
         show_bytes("interchange", interchange.at, interchange.n);
+    }
     if (c->kind == WITHDRAW)
         show_bytes("number", c->number, c->number_length);
     if (c->kind == SHOW)
@@ -515,15 +548,17 @@ static int run_both(const struct command *c, struct pair *p) {
            left_alone(c, before, p, fill);
 }
 
-static unsigned long answers[KINDS][32];
+static struct tally tallies[KINDS];
 
 static void show_counts(void) {
     for (unsigned kind = 0; kind < KINDS; kind++) {
         printf("  %s:", names[kind]);
         for (unsigned i = 0; i < 32; i++)
-            if (answers[kind][i])
-                printf(" %lu with %u", answers[kind][i], i);
+            if (tallies[kind].numbers[i])
+                printf(" %lu with %u", tallies[kind].numbers[i], i);
         printf("\n");
+        if (kind == STAGE)
+            show_parts(&tallies[kind]);
     }
 }
 
@@ -547,7 +582,7 @@ static int compare(unsigned long n, unsigned long seed) {
             show_difference(&c, p);
             return 1;
         }
-        answers[c.kind][ours.answer.number & 31]++;
+        count_answer(&tallies[c.kind], ours.answer.number, ours.answer.part, c.old_reading);
         if (p->damaged && !--p->damaged)
             mend_pair(p);
     }
@@ -567,18 +602,18 @@ static const uint32_t one_account[ACCOUNTS] = {SLOTS, 0, 0, 0, 0, 0, 0, 0};
 
 typedef struct answer call(uint8_t *b);
 
-static struct answer reading(struct reply r) { return (struct answer){r.number, r.position, r.rows}; }
+static struct answer reading(struct reply r) { return (struct answer){r.number, r.position, r.part, r.rows}; }
 
 static struct answer our_read(uint8_t *b) {
     (void)b;
-    return reading(drumcallisto_read(sample.at, sample.n, rows, 45000));
+    return reading(drumcallisto_read(sample.at, sample.n, OLD_READING, rows, 45000));
 }
 static struct answer their_read(uint8_t *b) {
     (void)b;
-    return reading(yardstick_read(sample.at, sample.n, rows, 45000));
+    return reading(yardstick_read(sample.at, sample.n, OLD_READING, rows, 45000));
 }
-static struct answer our_stage(uint8_t *b) { return drumcallisto_stage(b, REGISTER_LENGTH, 1, sample.at, sample.n); }
-static struct answer their_stage(uint8_t *b) { return yardstick_stage(b, REGISTER_LENGTH, 1, sample.at, sample.n); }
+static struct answer our_stage(uint8_t *b) { return drumcallisto_stage(b, REGISTER_LENGTH, 1, sample.at, sample.n, OLD_READING); }
+static struct answer their_stage(uint8_t *b) { return yardstick_stage(b, REGISTER_LENGTH, 1, sample.at, sample.n, OLD_READING); }
 static struct answer our_release(uint8_t *b) { return drumcallisto_release(b, REGISTER_LENGTH, 1); }
 static struct answer their_release(uint8_t *b) { return yardstick_release(b, REGISTER_LENGTH, 1); }
 static struct answer our_withdraw(uint8_t *b) { return drumcallisto_withdraw(b, REGISTER_LENGTH, 1, (const uint8_t *)"1128", 4); }

@@ -39,6 +39,9 @@ void put_date(struct text *t, unsigned day);
 void open_text(struct text *t, int skdupd);
 void close_text(struct text *t);
 
+// What is timed is read with the wish for the old reading: the services have POPs with neither form.
+enum { OLD_READING = 1 };
+
 // Whole services, or stations, while the interchange stays below a length.
 void put_realistic(struct text *t, int skdupd, size_t longest);
 

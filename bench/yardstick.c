@@ -64,7 +64,8 @@ static inline void put_row(struct front *f, size_t end, uint32_t group, uint32_t
 
 // The segments of a message while each is placed by its hint, is good and cannot pass a limit. It stops before any other, whatever
 // it may be, and before the input's last bytes. Apart from the careful steps, so that its registers are its own.
-__attribute__((noinline)) static struct front run(const uint8_t *s, size_t n, const struct message *m, struct reached *r, struct front f) {
+__attribute__((noinline)) static struct front run(const uint8_t *s, size_t n, const struct message *m, struct reached *r, struct front f,
+                                                  _Bool old_reading) {
     const uint32_t bare = (uint32_t)('+' ^ '\'') << 24;
     while (f.at + 8 <= n) {
         uint32_t head = four_at(s + f.at);
@@ -77,7 +78,7 @@ __attribute__((noinline)) static struct front run(const uint8_t *s, size_t n, co
             end = segment_end(s, n, f.at + 4);
             if (end == n)
                 break;
-            if (h->period ? !usual_period(s + f.at, s + end) : !within_limits(s + f.at, s + end))
+            if (h->period ? !usual_period(s + f.at, s + end, old_reading) : !within_limits(s + f.at, s + end))
                 break;
         } else if ((head ^ h->head) != bare || h->period) {
             break;
@@ -95,6 +96,8 @@ enum phase { OPENING, BETWEEN, INSIDE, CLOSED };
 // A reading: what has come so far.
 struct reading {
     enum phase phase;
+    _Bool old_reading; // the caller's wish
+    uint8_t part;      // of a POP that is refused; 0 before
     struct part dialogue, reference;
     const struct message *message;
     struct reached reached;
@@ -113,8 +116,9 @@ static unsigned inside(struct reading *d, const uint8_t *g, const uint8_t *end, 
             return 7;
         d->messages++;
         d->phase = BETWEEN;
-    } else if (tag == TAG('P', 'O', 'P') && *group == 4 && m->table == yardstick_skdupd && !good_period(g, end)) {
-        return 10;
+    } else if (tag == TAG('P', 'O', 'P') && *group == 4 && m->table == yardstick_skdupd) {
+        d->part = (uint8_t)wrong_part(g, end, d->old_reading);
+        return d->part ? 10 : 0;
     }
     return 0;
 }
@@ -142,17 +146,17 @@ static unsigned outside(struct reading *d, const uint8_t *g, const uint8_t *end,
     return tag == TAG('U', 'I', 'Z') && d->messages && trailer(g, end, d->dialogue, d->messages) ? 0 : 7;
 }
 
-static inline struct reply refused(unsigned number, size_t position) { return (struct reply){(uint8_t)number, position, 0}; }
+static inline struct reply refused(unsigned number, size_t position) { return (struct reply){(uint8_t)number, position, 0, 0}; }
 
-struct reply yardstick_read(const uint8_t *s, size_t n, uint32_t *rows, size_t room) {
+struct reply yardstick_read(const uint8_t *s, size_t n, _Bool old_reading, uint32_t *rows, size_t room) {
     uint32_t gathered[MOST_ROWS * 3];
     struct front f = {0, gathered};
-    struct reading d = {.phase = OPENING};
+    struct reading d = {.phase = OPENING, .old_reading = old_reading};
     if (n == 0 || n > LONGEST)
         return refused(3, 0);
     while (f.at < n) {
         if (d.phase == INSIDE) {
-            struct front on = run(s, n, d.message, &d.reached, f);
+            struct front on = run(s, n, d.message, &d.reached, f, old_reading);
             d.segments += (size_t)(on.row - f.row) / 3;
             f = on;
         }
@@ -167,7 +171,7 @@ struct reply yardstick_read(const uint8_t *s, size_t n, uint32_t *rows, size_t r
         uint32_t tag = TAG(g[0], g[1], g[2]), group = 0;
         unsigned number = d.phase == INSIDE ? inside(&d, g, end, tag, &group) : outside(&d, g, end, tag);
         if (number)
-            return refused(number, f.at);
+            return (struct reply){(uint8_t)number, f.at, d.part, 0};
         put_row(&f, found.at, group, tag);
     }
     if (d.phase != CLOSED)
@@ -176,5 +180,5 @@ struct reply yardstick_read(const uint8_t *s, size_t n, uint32_t *rows, size_t r
     if (room < numbers)
         return refused(17, 0);
     memcpy(rows, gathered, numbers * sizeof *rows);
-    return (struct reply){0, 0, numbers / 3};
+    return (struct reply){0, 0, 0, numbers / 3};
 }

@@ -13,12 +13,14 @@ typedef __SIZE_TYPE__ size_t;
 struct reply {
     uint8_t number;
     size_t position;
+    uint8_t part; // which part of a POP is wrong, beside number 10 (periods.h); 0 beside every other number
     size_t rows;
 };
 
 // Reads an interchange of n bytes and writes its rows, three numbers each (offset, group, tag), to the front of a lent buffer
 // that holds `room` numbers. A refusal leaves the buffer as it was, and what stands past the rows stays too.
-struct reply yardstick_read(const uint8_t *s, size_t n, uint32_t *rows, size_t room);
+// The wish is whether the caller asks for the old reading, in which a POP with neither form means every day.
+struct reply yardstick_read(const uint8_t *s, size_t n, _Bool old_reading, uint32_t *rows, size_t room);
 
 // A place of a segment table. A group's place stands before the places that it holds and has its trigger's tag.
 struct place {

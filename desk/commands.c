@@ -27,6 +27,8 @@ bool read_number(const char *word, uint32_t *to) {
     return *word && strspn(word, "0123456789") == strlen(word);
 }
 
+bool says(const char *word, const char *option) { return word && !strcmp(word, option); }
+
 // Three numbers as yyyy-mm-dd, whether they make a date or not.
 static bool read_date(const char *word, drumcallisto_date *to) {
     bool good = strlen(word) == 10 && strspn(word, "0123456789-") == 10 && word[4] == '-' && word[7] == '-';
@@ -37,7 +39,7 @@ static bool read_date(const char *word, drumcallisto_date *to) {
 static int open_command(const char *name, int count, char **words) {
     drumcallisto_date first;
     uint32_t quotas[DRUMCALLISTO_ACCOUNTS];
-    bool anew = count > 1 && !strcmp(words[1], "--anew");
+    bool anew = says(words[1], "--anew");
     words += anew;
     bool good = count - anew == 2 + DRUMCALLISTO_ACCOUNTS && read_date(words[1], &first);
     for (int i = 0; good && i < DRUMCALLISTO_ACCOUNTS; i++)
@@ -51,7 +53,9 @@ static int open_command(const char *name, int count, char **words) {
 
 // stage, release, withdraw: under the lock. A file is read before, so that a slow one keeps nobody waiting.
 static int change_command(const char *name, int count, char **words) {
-    bool stage = !strcmp(words[0], "stage"), release = !strcmp(words[0], "release");
+    bool stage = !strcmp(words[0], "stage"), release = !strcmp(words[0], "release"), every_day = stage && says(words[1], "--every-day");
+    words += every_day;
+    count -= every_day;
     struct text given = {words[count - 1], stage ? interchange : (const uint8_t *)words[count - 1], strlen(words[count - 1])};
     uint32_t account;
     if (count != (release ? 2 : 3) || !read_number(words[1], &account))
@@ -61,7 +65,7 @@ static int change_command(const char *name, int count, char **words) {
     if (release)
         return settled(drumcallisto_release(store.bytes, store.length, account), NULL);
     if (stage)
-        return settled(drumcallisto_stage(store.bytes, store.length, account, given.bytes, given.length), &given);
+        return settled(drumcallisto_stage(store.bytes, store.length, account, given.bytes, given.length, every_day), &given);
     return settled(drumcallisto_withdraw(store.bytes, store.length, account, given.bytes, given.length), NULL);
 }
 
@@ -95,7 +99,7 @@ static int check_command(const char *name, int count, char **words) {
     if (count != 1 || take_store(&store, name, LOOK))
         return count != 1 ? MISUSED : FAILED;
     if (!drumcallisto_is_register(store.bytes, store.length))
-        return refuse((drumcallisto_reply){DRUMCALLISTO_NOT_A_REGISTER, 0, 0}, NULL, &store);
+        return refuse((drumcallisto_reply){DRUMCALLISTO_NOT_A_REGISTER, 0, 0, 0}, NULL, &store);
     for (size_t account = 1, k = 0; account <= DRUMCALLISTO_ACCOUNTS; account++, k = 0)
         while (!drumcallisto_show(store.bytes, store.length, account, k++, lines, sizeof lines).number)
             records++;
@@ -108,7 +112,7 @@ int perform(const char *name, int count, char **words) {
         const char *name, *takes;
         int (*command)(const char *name, int count, char **words);
     } all[] = {
-        {"open", "open [--anew] yyyy-mm-dd Q1 Q2 Q3 Q4 Q5 Q6 Q7 Q8", open_command}, {"stage", "stage ACCOUNT FILE", change_command},
+        {"open", "open [--anew] yyyy-mm-dd Q1 Q2 Q3 Q4 Q5 Q6 Q7 Q8", open_command}, {"stage", "stage [--every-day] ACCOUNT FILE", change_command},
         {"release", "release ACCOUNT", change_command}, {"withdraw", "withdraw ACCOUNT NUMBER", change_command},
         {"show", "show ACCOUNT [K] [--months]", show_command}, {"check", "check", check_command}};
     for (size_t i = 0; i < sizeof all / sizeof all[0]; i++) {

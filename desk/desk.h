@@ -26,7 +26,7 @@ void leave_store(struct store *f);
 int read_file(const char *name, uint8_t *to, size_t most, size_t *length); // `-` is standard input
 int failed(const char *name, const char *then);                            // says why, by errno
 
-// words.c. What a number means, NULL where there is none; a refusal answered, with the text and the register that it is about.
+// words.c. What a number means, NULL where there is none; a refusal answered, with the part of a POP that is wrong, with the text and the register that it is about.
 struct text {
     const char *name;
     const uint8_t *bytes;
@@ -39,12 +39,13 @@ int refuse(drumcallisto_reply reply, const struct text *text, const struct store
 drumcallisto_date date_of(const struct store *f, unsigned k);
 void print_months(const struct store *f, const char *lines);
 
-// reading.c. The segments of a file, or of standard input as it arrives.
-int read_command(const char *name);
+// reading.c. The segments of a file, or of standard input as it arrives; whether a POP that gives no days means every day.
+int read_command(const char *name, bool every_day);
 
 // commands.c. A command over a register, by its words.
 bool read_number(const char *word, uint32_t *to);
 int perform(const char *name, int count, char **words);
+bool says(const char *word, const char *option);
 int wrong(const char *what, const char *then); // says so, and gives USAGE
 
 #endif

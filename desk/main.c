@@ -8,16 +8,17 @@
 
 static const char help[] =
     "desk REGISTER open [--anew] yyyy-mm-dd Q1 .. Q8   a register: its window's first date, a quota for each account\n"
-    "desk REGISTER stage ACCOUNT FILE                  the services of a file become pending, all or none\n"
+    "desk REGISTER stage [--every-day] ACCOUNT FILE    the services of a file become pending, all or none\n"
     "desk REGISTER release ACCOUNT                     what is pending becomes live\n"
     "desk REGISTER withdraw ACCOUNT NUMBER             what is pending under a service number is dropped\n"
     "desk REGISTER show ACCOUNT [K] [--months]         record K, from 0, or all: as lines, or as months\n"
     "desk REGISTER check                               whether it is a register, and how many records it has\n"
     "desk REGISTER run                                 commands from standard input, one a line, without `desk REGISTER`\n"
-    "desk read FILE                                    the segments of a file: offset, group, tag\n"
+    "desk read [--every-day] FILE                      the segments of a file: offset, group, tag\n"
     "desk --help [NUMBER], desk --version              this, or what a refusal's number means\n"
     "FILE may be -, standard input. read - prints each segment as it arrives, of at most 4,096 bytes.\n"
-    "Answers are done and a value, or refused, a number and a position.\n"
+    "--every-day: a POP with neither a day string nor weekdays means every day, as the ferry account's files need; else it is refused.\n"
+    "Answers are done and a value, or refused, a number, a position and, beside 10, which part of the POP is wrong, else 0.\n"
     "Status: 0 done, 1 refused, 2 wrong usage, 3 the system failed. More: man desk\n";
 
 static int print_help(const char *word) {
@@ -68,8 +69,8 @@ static int command_line(int count, char **words) {
         return print_help(words[2]);
     if (count == 2 && !strcmp(words[1], "--version"))
         return fputs("desk 1.0 (Drumcallisto)\n", stdout) < 0 ? FAILED : DONE;
-    if (count == 3 && !strcmp(words[1], "read"))
-        return read_command(words[2]);
+    if (count > 2 && !strcmp(words[1], "read") && count == 3 + says(words[2], "--every-day"))
+        return read_command(words[count - 1], count == 4);
     if (count == 3 && !strcmp(words[2], "run"))
         return run(words[1]);
     return count < 3 || !strcmp(words[1], "read") ? wrong("desk --help says what it takes", "") : perform(words[1], count - 2, words + 2);

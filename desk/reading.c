@@ -17,10 +17,10 @@ static void put_rows(size_t count, bool first) {
 
 // What one call of read brings is a parcel, and its rows go out before the next one is waited for. After a refusal, and where the rows
 // cannot go out, nothing more is read. The bytes are kept to show the place of a refusal; byte 60,001, the last with room here, is one.
-static int read_parcels(const char *name) {
+static int read_parcels(const char *name, bool every_day) {
     static uint8_t store[DRUMCALLISTO_STORE_LENGTH];
     struct text text = {name, interchange, 0};
-    drumcallisto_reply reply = drumcallisto_begin(store, sizeof store);
+    drumcallisto_reply reply = drumcallisto_begin(store, sizeof store, every_day);
     size_t told = 0;
     for (ssize_t n = 1; n && !reply.number && !ferror(stdout); text.length += (size_t)n, told += reply.value) {
         uint8_t *parcel = interchange + text.length;
@@ -36,13 +36,13 @@ static int read_parcels(const char *name) {
     return reply.number ? refuse(reply, &text, NULL) : DONE;
 }
 
-int read_command(const char *name) {
+int read_command(const char *name, bool every_day) {
     struct text text = {name, interchange, 0};
     if (!strcmp(name, "-"))
-        return read_parcels(name);
+        return read_parcels(name, every_day);
     if (read_file(name, interchange, sizeof interchange, &text.length))
         return FAILED;
-    drumcallisto_reply reply = drumcallisto_read(interchange, text.length, rows, DRUMCALLISTO_ROW_NUMBERS);
+    drumcallisto_reply reply = drumcallisto_read(interchange, text.length, every_day, rows, DRUMCALLISTO_ROW_NUMBERS);
     if (reply.number)
         return refuse(reply, &text, NULL);
     put_rows(reply.value, true);

@@ -14,7 +14,7 @@ static const char *const meanings[] = {
     "the envelope is wrong: order, contents or counts of UIB, UIH, UIT, UIZ, or bytes after UIZ",
     "the message's type or directory is not known",
     "a segment out of place",
-    "a POP with wrong dates, days or weekdays",
+    "a POP with wrong contents",
     "a service with a wrong number, or with a POP missing or not allowed",
     "a service number for the second time in the file",
     "a period not wholly in the register's window",
@@ -26,6 +26,17 @@ static const char *const meanings[] = {
     "a calendar with bad dates, a bad length or a day past its last",
     "a calendar that has no weekday form",
     "a segment of more than 4,096 bytes, read as it arrives",
+};
+
+// Which part of a POP is wrong.
+static const char *const parts[] = {
+    "",
+    ": its dates",
+    ": its day string",
+    ": its weekdays",
+    ": it has both a day string and weekdays",
+    ": it has neither a day string nor weekdays, and --every-day is not said",
+    ": its qualifier, or an element that is repeated",
 };
 
 const char *meaning_of(unsigned number) { return number < sizeof meanings / sizeof meanings[0] ? meanings[number] : NULL; }
@@ -52,9 +63,10 @@ static void put_place(const struct text *p, unsigned number, size_t at) {
 
 int refuse(drumcallisto_reply reply, const struct text *text, const struct store *f) {
     unsigned n = reply.number;
-    printf("refused\t%u\t%zu\n", n, reply.position);
+    printf("refused\t%u\t%zu\t%u\n", n, reply.position, (unsigned)reply.part);
     fflush(stdout);
-    fprintf(stderr, "desk: refused %u: %s", n, meaning_of(n) ? meaning_of(n) : "a number without words");
+    fprintf(stderr, "desk: refused %u: %s%s", n, meaning_of(n) ? meaning_of(n) : "a number without words",
+            reply.part < sizeof parts / sizeof parts[0] ? parts[reply.part] : "");
     if (n == DRUMCALLISTO_NOT_A_REGISTER && f)
         fprintf(stderr, ": %s has %ld bytes, a register %d%s", f->path, (long)f->stat.st_size, DRUMCALLISTO_REGISTER_LENGTH,
                 f->length == DRUMCALLISTO_REGISTER_LENGTH ? ", but not these" : "");

@@ -1,4 +1,5 @@
-// Reads an interchange and lists its services: number, put or del, and the days over 512 days from a first date.
+// Reads an interchange and lists its services: number, put or del, and the days over 512 days from a first date. A POP that gives no days
+// is refused: this program does not ask for the old reading.
 //   services FILE 2000-08-01
 #include "drumcallisto.h"
 #include <stdio.h>
@@ -7,7 +8,7 @@ static uint8_t file[DRUMCALLISTO_INTERCHANGE_LENGTH + 1];
 static uint32_t rows[DRUMCALLISTO_ROW_NUMBERS];
 
 static int refused(drumcallisto_reply r) {
-    printf("refused\t%u\t%zu\n", (unsigned)r.number, r.position);
+    printf("refused\t%u\t%zu\t%u\n", (unsigned)r.number, r.position, (unsigned)r.part);
     return 1;
 }
 
@@ -26,7 +27,7 @@ static int list(size_t length, size_t count, drumcallisto_date first) {
         if (r.number)
             return refused(r);
         printf("%.*s\t%s\t", (int)r.value, (const char *)number, v.removal ? "del" : "put");
-        r = drumcallisto_days(file, length, rows, DRUMCALLISTO_ROW_NUMBERS, v.from, v.to, first, days, sizeof days);
+        r = drumcallisto_days(file, length, rows, DRUMCALLISTO_ROW_NUMBERS, (drumcallisto_rows){v.from, v.to}, first, false, days, sizeof days);
         if (r.number)
             return refused(r);
         if (!v.removal)
@@ -48,6 +49,6 @@ int main(int count, char **words) {
         return 2;
     }
     size_t length = fread(file, 1, sizeof file, in);
-    drumcallisto_reply r = drumcallisto_read(file, length, rows, DRUMCALLISTO_ROW_NUMBERS);
+    drumcallisto_reply r = drumcallisto_read(file, length, false, rows, DRUMCALLISTO_ROW_NUMBERS);
     return r.number ? refused(r) : list(length, r.value, first);
 }

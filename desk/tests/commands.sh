@@ -4,11 +4,13 @@ days=1001111000001$(zeros 499)
 weekend=0000110000011$(zeros 499)
 
 expect 0 "desk 1.0 (Drumcallisto)" "" --version
-has "help" "desk REGISTER stage ACCOUNT FILE" "$("$DESK" --help)"
+has "help" "desk REGISTER stage [--every-day] ACCOUNT FILE" "$("$DESK" --help)"
+has "help on the old reading" "--every-day: a POP with neither a day string nor weekdays means every day" "$("$DESK" --help)"
 
 # A wrong usage is 2, and nothing is answered.
 anew
-for words in "" "r" "--help 22" "--help x" "read" "read a b" "r stage" "r stage 3" "r stage 3 a b" "r stage x a" "r release" "r release -1" \
+for words in "" "r" "--help 22" "--help x" "read" "read a b" "r stage" "r stage 3" "r stage 3 a b" "r stage x a" "r stage --every-day" "r stage --every-day 3" "r stage 3 --every-day a" "r stage --everyday 3 a" "r release" "r release --every-day 3" \
+    "read --every-day" "read --everyday a" "read a --every-day" "read --every-day a b" "r release -1" \
     "r release 1 2" "r withdraw 3" "r show" "r show 3 x" "r show 3 0 0" "r check 1" "r run 1" "r nonsense" "n open" "n open 2026-01-01" \
     "n open 2026-1-01 1 1 1 1 1 1 1 1" "n open 2026-1-011 1 1 1 1 1 1 1 1" "n open today 1 1 1 1 1 1 1 1" "n open 2026-01-01 1 1 1 1 1 1 1" \
     "n open 2026-01-01 1 1 1 1 1 1 1 1 1" "n open 2026-01-01 1 1 1 1 1 1 1 x" "n open --anew"; do
@@ -66,12 +68,12 @@ for string in 1 0 100111100000 1001111000001; do
     expect 0 "17${tab}put${tab}$string$(zeros $((512 - ${#string})))" "" r show 3
 done
 sk long.edi "PRD+17'$period::10011110000010'"
-expect 1 "refused${tab}10${tab}62" "[$period::10011110000010']" r stage 3 long.edi
+expect 1 "refused${tab}10${tab}62${tab}2" "[$period::10011110000010']" r stage 3 long.edi
 expect 0 "17${tab}put${tab}$days" "" r show 3
 
 # months, as plain text and on a terminal
 anew
-sk one.edi "PRD+17'$period::1001111000001'POP+273:2001-12-25/2001-12-25'"
+sk one.edi "PRD+17'$period::1001111000001'POP+273:2001-12-25/2001-12-25+2'"
 expect 0 "done${tab}1" "" r stage 3 one.edi
 months="17, put
 2000-08  Mo Tu We Th Fr Sa Su
@@ -104,11 +106,11 @@ has "a removal among months" "17, del" "$("$DESK" r show 3 0 --months)"
 
 # run: every command is answered, and the worst status is the run's
 anew
-sk one.edi "PRD+1 7'$period'"
+sk one.edi "PRD+1 7'$period+1234567'"
 expect_run 0 "done${tab}1${line}done${tab}1" "stage 3 one.edi" "" "# a line that is none" "  release 3 "
-expect_run 1 "done${tab}1${line}refused${tab}16${tab}0${line}done${tab}0${line}refused${tab}2${tab}0${line}done${tab}0" \
+expect_run 1 "done${tab}1${line}refused${tab}16${tab}0${tab}0${line}done${tab}0${line}refused${tab}2${tab}0${tab}0${line}done${tab}0" \
     "stage 3 one.edi" "withdraw 3 17" 'withdraw 3 1\ 7' "release 9" "release 3"
-expect_run 2 "refused${tab}16${tab}0${line}failed${tab}2${line}failed${tab}2${line}done${tab}1" "show 3 1" "stage 3" "stage 3 -" "check"
+expect_run 2 "refused${tab}16${tab}0${tab}0${line}failed${tab}2${line}failed${tab}2${line}done${tab}1" "show 3 1" "stage 3" "stage 3 -" "check"
 expect_run 3 "failed${tab}3${line}failed${tab}2${line}done${tab}1${line}done${tab}0" "stage 3 none.edi" "run" "check" "release 3"
 has "run shows" "1 7${tab}live${tab}1111111111111000" "$(echo show 3 | "$DESK" r run)"
 same "a line with a zero byte" "failed${tab}2" "$(printf 'release 3\0\n' | "$DESK" r run 2> /dev/null)"
@@ -125,4 +127,4 @@ same "standard output closed" 3 "$?"
 # the example
 same "the example" "4711 put 1001111000001000000000000000000100111110011111|4712 put 0000110000011000001100000110000011000001100000|4713 del |" \
     "$("$root/target/desk/services" "$samples/skdupd.edi" 2000-08-01 | cut -c1-55 | tr '\t\n' ' |')"
-has "the example refuses" "refused${tab}9${tab}47" "$("$root/target/desk/services" "$samples/refused-9.edi" 2000-08-01)"
+has "the example refuses" "refused${tab}9${tab}47${tab}0" "$("$root/target/desk/services" "$samples/refused-9.edi" 2000-08-01)"

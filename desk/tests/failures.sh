@@ -7,15 +7,15 @@ unchanged() {
 }
 
 anew
-sk a "PRD+17'$period'"
+sk a "PRD+17'$period+1234567'"
 sk b "PRD+17'$period+67'PRD+18'MSD+AAR:56'"
 expect 0 "done${tab}1" "" r stage 3 a
 kept=$(cksum < r)
 
 # a refused command does not write: it is the same file still
 file=$(stat -c %i.%y r)
-expect 1 "refused${tab}14${tab}95" "removal" r stage 3 b
-expect 1 "refused${tab}16${tab}0" "nothing pending" r withdraw 3 99
+expect 1 "refused${tab}14${tab}95${tab}0" "removal" r stage 3 b
+expect 1 "refused${tab}16${tab}0${tab}0" "nothing pending" r withdraw 3 99
 expect 2 "" "only open --anew replaces it" r open 2000-08-01 1 1 1 1 1 1 1 1
 same "a refused command does not write" "$file" "$(stat -c %i.%y r)"
 unchanged "refused"
@@ -69,13 +69,13 @@ fi
 # a register cut short, too long, damaged, or something else
 for size in 0 1 35857; do
     head -c "$size" r > "$work/cut"
-    expect 1 "refused${tab}1${tab}0" "cut has $size bytes, a register 35858" "$work/cut" stage 3 a
+    expect 1 "refused${tab}1${tab}0${tab}0" "cut has $size bytes, a register 35858" "$work/cut" stage 3 a
     same "a register cut short stays as it is" "$size" "$(wc -c < "$work/cut" | tr -d ' ')"
 done
 { cat r && echo; } > "$work/cut"
-expect 1 "refused${tab}1${tab}0" "cut has 35859 bytes, a register 35858" "$work/cut" check
+expect 1 "refused${tab}1${tab}0${tab}0" "cut has 35859 bytes, a register 35858" "$work/cut" check
 { head -c 35857 r && printf x; } > "$work/cut"
-expect 1 "refused${tab}1${tab}0" "cut has 35858 bytes, a register 35858, but not these" "$work/cut" show 3
+expect 1 "refused${tab}1${tab}0${tab}0" "cut has 35858 bytes, a register 35858, but not these" "$work/cut" show 3
 mkfifo "$work/fifo"
 expect 3 "" "not a plain file" "$work/fifo" check
 expect 3 "" "Is a directory" "$work" release 3

@@ -2,7 +2,7 @@
 
 # services FIRST LAST: a file for each
 services() {
-    for n in $(seq "$1" "$2"); do sk "f$n" "PRD+$n'$period'"; done
+    for n in $(seq "$1" "$2"); do sk "f$n" "PRD+$n'$period+1234567'"; done
 }
 
 # both WAYS agree: two writers by commands, then three by runs, each on an account of its own

@@ -1,13 +1,14 @@
-//! Reads an interchange and lists its services: number, put or del, and the days over 512 days from a first date.
+//! Reads an interchange and lists its services: number, put or del, and the days over 512 days from a first date. A POP that gives no
+//! days is refused: this program does not ask for the old reading.
 //!   services FILE 2000-08-01
 
-use drumcallisto::{read, Change, Date, Refusal};
+use drumcallisto::{read, Change, Date, NeitherForm, Refusal};
 use std::io::{self, Read};
 use std::process::ExitCode;
 use std::{env, fs};
 
 fn list(file: &[u8], first: Date) -> Result<(), Refusal> {
-    for service in read(file)?.services() {
+    for service in read(file, NeitherForm::Refused)?.services() {
         match service.change() {
             Change::Put => println!("{}\tput\t{}", service.number(), service.days(first)?),
             Change::Removal => println!("{}\tdel\t", service.number()),
@@ -40,7 +41,7 @@ fn main() -> ExitCode {
         }
     };
     if let Err(refusal) = list(&file, first) {
-        println!("refused\t{}\t{}", refusal.number as u8, refusal.position);
+        println!("refused\t{}\t{}\t{}", refusal.number as u8, refusal.position, refusal.part.map_or(0, |part| part as u8));
         eprintln!("{path}: {refusal}");
         return ExitCode::from(1);
     }

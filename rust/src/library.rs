@@ -5,12 +5,13 @@
 //! what is lent with `&mut` overlaps nothing else. This is the reason of each `unsafe` below. It is the only module that has any.
 #![allow(unsafe_code)]
 
-use crate::{Date, Number, Refusal};
+use crate::{Date, Number, Part, Refusal};
 
 #[repr(C)]
 struct Reply {
     number: u8,
     position: usize,
+    part: u8,
     value: usize,
 }
 
@@ -27,9 +28,17 @@ pub struct Found {
     pub to: usize,
 }
 
+/// Some of the rows: from one up to and without another.
+#[derive(Clone, Copy, Debug)]
+#[repr(C)]
+pub struct Rows {
+    pub from: usize,
+    pub to: usize,
+}
+
 extern "C" {
-    fn drumcallisto_read(interchange: *const u8, length: usize, rows: *mut u32, room: usize) -> Reply;
-    fn drumcallisto_begin(store: *mut u8, length: usize) -> Reply;
+    fn drumcallisto_read(interchange: *const u8, length: usize, old_reading: bool, rows: *mut u32, room: usize) -> Reply;
+    fn drumcallisto_begin(store: *mut u8, length: usize, old_reading: bool) -> Reply;
     fn drumcallisto_take(store: *mut u8, length: usize, parcel: *const u8, parcel_length: usize, rows: *mut u32, room: usize) -> Reply;
     fn drumcallisto_finish(store: *mut u8, length: usize) -> Reply;
     fn drumcallisto_next_service(interchange: *const u8, length: usize, rows: *const u32, room: usize, n: usize, i: usize) -> Found;
@@ -39,17 +48,32 @@ extern "C" {
         length: usize,
         rows: *const u32,
         room: usize,
-        from: usize,
-        to: usize,
+        among: Rows,
         first: Date,
+        old_reading: bool,
         days: *mut u8,
         days_length: usize,
     ) -> Reply;
-    fn drumcallisto_write_day_string(days: *const u8, length: usize, first: Date, last: Date, short_form: bool, out: *mut u8, room: usize) -> Reply;
+    fn drumcallisto_write_day_string(
+        days: *const u8,
+        length: usize,
+        first: Date,
+        last: Date,
+        short_form: bool,
+        out: *mut u8,
+        room: usize,
+    ) -> Reply;
     fn drumcallisto_write_weekdays(days: *const u8, length: usize, first: Date, last: Date, out: *mut u8, room: usize) -> Reply;
     fn drumcallisto_is_register(register: *const u8, length: usize) -> bool;
     fn drumcallisto_open(register: *mut u8, length: usize, first: Date, quotas: *const u32) -> Reply;
-    fn drumcallisto_stage(register: *mut u8, length: usize, account: usize, interchange: *const u8, interchange_length: usize) -> Reply;
+    fn drumcallisto_stage(
+        register: *mut u8,
+        length: usize,
+        account: usize,
+        interchange: *const u8,
+        interchange_length: usize,
+        old_reading: bool,
+    ) -> Reply;
     fn drumcallisto_release(register: *mut u8, length: usize, account: usize) -> Reply;
     fn drumcallisto_withdraw(register: *mut u8, length: usize, account: usize, number: *const u8, number_length: usize) -> Reply;
     fn drumcallisto_show(register: *const u8, length: usize, account: usize, k: usize, out: *mut u8, room: usize) -> Reply;
@@ -61,7 +85,11 @@ fn told(reply: Reply) -> Result<usize, Refusal> {
         return Ok(reply.value);
     }
     let number = Number::of(reply.number).expect("the library's numbers are 0 to 21");
-    Err(Refusal { number, position: reply.position })
+    let part = match reply.part {
+        0 => None,
+        part => Some(Part::of(part).expect("the library's parts are 0 to 6")),
+    };
+    Err(Refusal { number, position: reply.position, part })
 }
 
 /// What a call writes to the front of an output of `room` bytes. All that the library writes is ASCII.
@@ -73,15 +101,15 @@ pub fn written(room: usize, call: impl FnOnce(&mut [u8]) -> Result<usize, Refusa
 }
 
 /// How many rows it wrote.
-pub fn read(interchange: &[u8], rows: &mut [u32]) -> Result<usize, Refusal> {
+pub fn read(interchange: &[u8], old_reading: bool, rows: &mut [u32]) -> Result<usize, Refusal> {
     // SAFETY: two slices, and the one written is lent with `&mut`.
-    told(unsafe { drumcallisto_read(interchange.as_ptr(), interchange.len(), rows.as_mut_ptr(), rows.len()) })
+    told(unsafe { drumcallisto_read(interchange.as_ptr(), interchange.len(), old_reading, rows.as_mut_ptr(), rows.len()) })
 }
 
 /// A reading before its first byte.
-pub fn begin(store: &mut [u8]) -> Result<usize, Refusal> {
+pub fn begin(store: &mut [u8], old_reading: bool) -> Result<usize, Refusal> {
     // SAFETY: one slice, lent with `&mut`.
-    told(unsafe { drumcallisto_begin(store.as_mut_ptr(), store.len()) })
+    told(unsafe { drumcallisto_begin(store.as_mut_ptr(), store.len(), old_reading) })
 }
 
 /// How many rows it wrote, beside a refusal too.
@@ -110,11 +138,11 @@ pub fn number(interchange: &[u8], from: usize, to: usize, out: &mut [u8]) -> Res
     told(unsafe { drumcallisto_number(interchange.as_ptr(), interchange.len(), from, to, out.as_mut_ptr(), out.len()) })
 }
 
-/// The days of the POPs among the rows.
-pub fn days(interchange: &[u8], rows: &[u32], from: usize, to: usize, first: Date, days: &mut [u8]) -> Result<usize, Refusal> {
+/// The days of the POPs among some rows.
+pub fn days(interchange: &[u8], rows: &[u32], among: Rows, first: Date, old_reading: bool, days: &mut [u8]) -> Result<usize, Refusal> {
     let (s, n, r, room) = (interchange.as_ptr(), interchange.len(), rows.as_ptr(), rows.len());
     // SAFETY: three slices, and the one written is lent with `&mut`; any rows and any first date do no harm.
-    told(unsafe { drumcallisto_days(s, n, r, room, from, to, first, days.as_mut_ptr(), days.len()) })
+    told(unsafe { drumcallisto_days(s, n, r, room, among, first, old_reading, days.as_mut_ptr(), days.len()) })
 }
 
 /// How many bytes it wrote.
@@ -140,10 +168,10 @@ pub fn open(register: &mut [u8], first: Date, quotas: &[u32; 8]) -> Result<usize
 }
 
 /// How many services became pending.
-pub fn stage(register: &mut [u8], account: usize, interchange: &[u8]) -> Result<usize, Refusal> {
+pub fn stage(register: &mut [u8], account: usize, interchange: &[u8], old_reading: bool) -> Result<usize, Refusal> {
     let (r, n) = (register.as_mut_ptr(), register.len());
     // SAFETY: two slices, and the one written is lent with `&mut`.
-    told(unsafe { drumcallisto_stage(r, n, account, interchange.as_ptr(), interchange.len()) })
+    told(unsafe { drumcallisto_stage(r, n, account, interchange.as_ptr(), interchange.len(), old_reading) })
 }
 
 /// How many entries were pending.

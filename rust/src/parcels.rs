@@ -2,11 +2,11 @@
 
 use crate::library;
 use crate::reading::{rows_of, Row};
-use crate::Refusal;
+use crate::{NeitherForm, Refusal};
 use std::fmt;
 
 /// Bytes of the store that a reading in parcels is kept in.
-pub const STORE_LENGTH: usize = 12_324;
+pub const STORE_LENGTH: usize = 12_328;
 
 /// Numbers that hold the rows of any parcel of so many bytes, three each: a segment has at least four bytes.
 pub const fn room_for(parcel: usize) -> usize {
@@ -18,7 +18,7 @@ pub const fn room_for(parcel: usize) -> usize {
 ///
 /// ```no_run
 /// use std::io::Read;
-/// let mut reading = drumcallisto::Parcels::new();
+/// let mut reading = drumcallisto::Parcels::new(drumcallisto::NeitherForm::Refused);
 /// let (mut parcel, mut room) = ([0; 1_460], [0; drumcallisto::room_for(1_460)]);
 /// loop {
 ///     let length = std::io::stdin().read(&mut parcel)?;
@@ -38,10 +38,10 @@ pub struct Parcels {
 }
 
 impl Parcels {
-    /// A reading before its first byte.
-    pub fn new() -> Parcels {
+    /// A reading before its first byte, which keeps what a POP with neither form means for all that follows.
+    pub fn new(neither: NeitherForm) -> Parcels {
         let mut store = Box::new([0; STORE_LENGTH]);
-        library::begin(&mut store[..]).expect("a store of this length is good");
+        library::begin(&mut store[..], neither.is_old_reading()).expect("a store of this length is good");
         Parcels { store }
     }
 
@@ -67,12 +67,6 @@ impl Parcels {
     /// calls repeat the answer.
     pub fn finish(&mut self) -> Result<usize, Refusal> {
         library::finish(&mut self.store[..])
-    }
-}
-
-impl Default for Parcels {
-    fn default() -> Parcels {
-        Parcels::new()
     }
 }
 

@@ -8,19 +8,36 @@ pub const INTERCHANGE_LENGTH: usize = 60_000;
 /// Numbers that hold the rows of any interchange, three each.
 const ROW_NUMBERS: usize = 45_000;
 
-/// An interchange that was accepted, with its rows.
+/// What a POP with neither form means: it is refused, 10 part 5; or, in the old reading, every day runs.
+#[derive(Clone, Copy, PartialEq, Eq, Debug)]
+pub enum NeitherForm {
+    /// A POP with no day string and no weekdays is refused.
+    Refused,
+    /// Every day of its period runs.
+    EveryDay,
+}
+
+impl NeitherForm {
+    /// Whether the old reading is asked for.
+    pub(crate) fn is_old_reading(self) -> bool {
+        self == NeitherForm::EveryDay
+    }
+}
+
+/// An interchange that was accepted, with its rows. It keeps what a POP with neither form means.
 #[derive(Clone, Debug)]
 pub struct Reading<'a> {
     interchange: &'a [u8],
     rows: Vec<u32>,
+    neither: NeitherForm,
 }
 
 /// Reads an interchange. 3 to 10.
-pub fn read(interchange: &[u8]) -> Result<Reading<'_>, Refusal> {
+pub fn read(interchange: &[u8], neither: NeitherForm) -> Result<Reading<'_>, Refusal> {
     let mut rows = vec![0; ROW_NUMBERS];
-    let count = library::read(interchange, &mut rows)?;
+    let count = library::read(interchange, neither.is_old_reading(), &mut rows)?;
     rows.truncate(3 * count);
-    Ok(Reading { interchange, rows })
+    Ok(Reading { interchange, rows, neither })
 }
 
 /// A segment, as the reader placed it.
@@ -117,11 +134,13 @@ impl Service<'_> {
             .expect("a number after release is no longer than as it is written")
     }
 
-    /// Its days over the 512 days from `first` on. 19 for a first date that is none, 13 at the POP.
+    /// Its days over the 512 days from `first` on; a POP with neither form means what it did in the reading. 19 for a first date that is
+    /// none, 13 at the POP.
     pub fn days(&self, first: Date) -> Result<Calendar, Refusal> {
         let mut days = Calendar::new();
-        let Reading { interchange, rows } = self.reading;
-        library::days(interchange, rows, self.found.from, self.found.to, first, days.bytes_mut())?;
+        let Reading { interchange, rows, neither } = self.reading;
+        let among = library::Rows { from: self.found.from, to: self.found.to };
+        library::days(interchange, rows, among, first, neither.is_old_reading(), days.bytes_mut())?;
         Ok(days)
     }
 }

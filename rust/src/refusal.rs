@@ -1,32 +1,46 @@
-//! Refusals: the paper's numbers by name.
+//! Refusals: the paper's numbers by name, and the parts of a POP.
 
 use std::error::Error;
 use std::fmt;
 
-macro_rules! numbers {
-    ($($name:ident = $number:literal, $words:literal;)*) => {
-        /// A number of the paper's table other than 0; `as u8` is the number itself. docs/NUMBERS.md has an example of each.
+// A table: what stands in it, from 1 on and in order, by name and in words.
+macro_rules! table {
+    ($about:literal $table:ident: $($name:ident = $number:literal, $words:literal;)*) => {
+        #[doc = $about]
         #[derive(Clone, Copy, Debug, PartialEq, Eq, Hash, PartialOrd, Ord)]
         #[repr(u8)]
-        pub enum Number {
+        pub enum $table {
             $(#[doc = $words] $name = $number,)*
         }
 
-        impl Number {
-            /// Every number, in order.
-            pub const ALL: &'static [Number] = &[$(Number::$name),*];
+        impl $table {
+            /// All of them, in order.
+            pub const ALL: &'static [$table] = &[$($table::$name),*];
 
-            /// What the number means, in words.
+            /// The one of this value, if there is one.
+            pub fn of(number: u8) -> Option<$table> {
+                $table::ALL.get(usize::from(number).checked_sub(1)?).copied()
+            }
+
+            /// What it means, in words.
             pub fn words(self) -> &'static str {
                 match self {
-                    $(Number::$name => $words,)*
+                    $($table::$name => $words,)*
                 }
+            }
+        }
+
+        impl fmt::Display for $table {
+            fn fmt(&self, f: &mut fmt::Formatter<'_>) -> fmt::Result {
+                f.write_str(self.words())
             }
         }
     };
 }
 
-numbers! {
+table! {
+    "A number of the paper's table other than 0; `as u8` is the number itself. docs/NUMBERS.md has an example of each."
+    Number:
     NotARegister = 1, "the buffer is not a register";
     BadAccount = 2, "the account is not 1 to 8";
     BadSize = 3, "the interchange is empty or over 60,000 bytes";
@@ -50,17 +64,15 @@ numbers! {
     SegmentTooLong = 21, "the segment is over 4,096 bytes, which is too long in parcels";
 }
 
-impl Number {
-    /// The number by its value, if it is 1 to 21.
-    pub fn of(number: u8) -> Option<Number> {
-        Number::ALL.get(usize::from(number).checked_sub(1)?).copied()
-    }
-}
-
-impl fmt::Display for Number {
-    fn fmt(&self, f: &mut fmt::Formatter<'_>) -> fmt::Result {
-        f.write_str(self.words())
-    }
+table! {
+    "Which part of a POP is wrong, beside 10; the lowest that applies. `as u8` is its number."
+    Part:
+    Dates = 1, "the dates are wrong";
+    DayString = 2, "the day string is wrong";
+    Weekdays = 3, "the weekdays are wrong";
+    BothForms = 4, "both a day string and weekdays are given";
+    NeitherForm = 5, "neither a day string nor weekdays are given";
+    Otherwise = 6, "the qualifier is wrong, or an element is repeated";
 }
 
 /// What the library refused, and where: an offset in the interchange, or 0.
@@ -70,11 +82,14 @@ pub struct Refusal {
     pub number: Number,
     /// Where.
     pub position: usize,
+    /// Which part of the POP is wrong; none beside every number but 10.
+    pub part: Option<Part>,
 }
 
 impl fmt::Display for Refusal {
     fn fmt(&self, f: &mut fmt::Formatter<'_>) -> fmt::Result {
-        write!(f, "refused, number {} at {}: {}", self.number as u8, self.position, self.number)
+        write!(f, "refused, number {} at {}: {}", self.number as u8, self.position, self.number)?;
+        self.part.map_or(Ok(()), |part| write!(f, ": {part}"))
     }
 }
 

@@ -1,7 +1,7 @@
 //! The register.
 
 use crate::library;
-use crate::{Date, Number, Refusal};
+use crate::{Date, NeitherForm, Number, Refusal};
 
 /// Bytes of a register.
 pub const REGISTER_LENGTH: usize = 35_858;
@@ -35,7 +35,7 @@ impl Register {
 
     /// The register that these bytes are. 1.
     pub fn from_bytes(bytes: &[u8]) -> Result<Register, Refusal> {
-        let refusal = Refusal { number: Number::NotARegister, position: 0 };
+        let refusal = Refusal { number: Number::NotARegister, position: 0, part: None };
         if !library::is_register(bytes) {
             return Err(refusal);
         }
@@ -49,8 +49,8 @@ impl Register {
     }
 
     /// The interchange's services become pending, all of them or none. Says how many. 2, 3 to 10, 11 to 14, 15.
-    pub fn stage(&mut self, account: usize, interchange: &[u8]) -> Result<usize, Refusal> {
-        library::stage(&mut self.bytes[..], account, interchange)
+    pub fn stage(&mut self, account: usize, interchange: &[u8], neither: NeitherForm) -> Result<usize, Refusal> {
+        library::stage(&mut self.bytes[..], account, interchange, neither.is_old_reading())
     }
 
     /// Every pending entry becomes live or removes its record. Says how many. 2.

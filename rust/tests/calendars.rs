@@ -4,7 +4,7 @@ mod common;
 
 use common::*;
 use drumcallisto::DayString::{Full, Short};
-use drumcallisto::{read, Calendar, Date, Refusal};
+use drumcallisto::{read, Calendar, Date, NeitherForm, Refusal};
 
 fn selected(days: &[usize]) -> Calendar {
     let mut calendar = Calendar::new();
@@ -81,7 +81,7 @@ fn bad_calendars() {
 /// The days of a service with this one period.
 fn read_back(period: &str) -> Calendar {
     let bytes = skdupd(&[format!("PRD+1'{period}")]);
-    let reading = read(&bytes).expect("accepted");
+    let reading = read(&bytes, NeitherForm::Refused).expect("accepted");
     let service = reading.services().next().expect("a service");
     service.days(FIRST).expect("in the window")
 }

@@ -1,6 +1,6 @@
 //! The names, numbers and limits are those of include/drumcallisto.h.
 
-use drumcallisto::Number;
+use drumcallisto::{Number, Part};
 
 /// The name and value of each constant that the header defines, in its order.
 fn constants() -> Vec<(String, usize)> {
@@ -37,6 +37,18 @@ fn numbers_by_name() {
     }
 }
 
+/// The header says `WRONG_DATES` where the part is the dates.
+#[test]
+fn parts_by_name() {
+    let ours: Vec<_> = Part::ALL.iter().map(|&p| (as_in_c(&format!("{p:?}")), p as usize)).collect();
+    assert_eq!(ours.len(), 6);
+    let plain = |(name, value): &(String, usize)| (name.strip_prefix("WRONG_").unwrap_or(name).to_string(), *value);
+    assert_eq!(constants()[22..28].iter().map(plain).collect::<Vec<_>>(), ours);
+    for n in 0..=255 {
+        assert_eq!(Part::of(n).map(|part| part as u8), if (1..=6).contains(&n) { Some(n) } else { None });
+    }
+}
+
 #[test]
 fn limits() {
     let named = |name: &str| constants().iter().find(|c| c.0 == name).map(|c| c.1);
@@ -52,8 +64,10 @@ fn limits() {
 
 #[test]
 fn a_refusal_in_words() {
-    let refusal = drumcallisto::read(b"ABC'").unwrap_err();
+    let refusal = drumcallisto::read(b"ABC'", drumcallisto::NeitherForm::Refused).unwrap_err();
     assert_eq!(refusal.to_string(), "refused, number 7 at 0: the envelope is wrong: its order, contents or counts, or bytes after UIZ");
+    let period = drumcallisto::Refusal { number: Number::WrongPeriod, position: 62, part: Some(Part::Dates) };
+    assert_eq!(period.to_string(), "refused, number 10 at 62: the contents of this POP are wrong: the dates are wrong");
     let error: Box<dyn std::error::Error> = refusal.into();
     assert!(error.downcast_ref::<drumcallisto::Refusal>().is_some());
 }

@@ -4,7 +4,7 @@
 mod common;
 
 use common::*;
-use drumcallisto::{is_register, Refusal, Register};
+use drumcallisto::{is_register, NeitherForm, Refusal, Register};
 use std::collections::BTreeMap;
 
 /// A pending entry: a put with its days, or a removal.
@@ -117,10 +117,10 @@ fn stage(chance: &mut Chance, register: &mut Register, account: usize, model: &m
     let answer = model.stage(&services, quota, bytes.len());
     // A message has at least one service.
     if texts.is_empty() {
-        assert_eq!(register.stage(account, &bytes), Err(refused(9, HEAD.len())));
+        assert_eq!(register.stage(account, &bytes, NeitherForm::Refused), Err(refused(9, HEAD.len())));
         return None;
     }
-    assert_eq!(register.stage(account, &bytes), answer);
+    assert_eq!(register.stage(account, &bytes, NeitherForm::Refused), answer);
     answer.err().map(|refusal| refusal.number as u8)
 }
 

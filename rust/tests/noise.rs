@@ -3,15 +3,20 @@
 mod common;
 
 use common::*;
-use drumcallisto::{is_register, read, Calendar, Date, DayString, Refusal, Register, REGISTER_LENGTH};
+use drumcallisto::NeitherForm::{EveryDay, Refused};
+use drumcallisto::{is_register, read, Calendar, Date, DayString, Part, Reading, Refusal, Register, REGISTER_LENGTH};
 
 /// What must hold of any bytes; says whether they were accepted.
 fn answers(register: &Register, bytes: &[u8]) -> bool {
     let mut after = register.clone();
-    let staged = after.stage(3, bytes);
-    match read(bytes) {
+    let staged = after.stage(3, bytes, EveryDay);
+    let answer = read(bytes, EveryDay);
+    differs_in_neither_form(bytes, &answer);
+    match answer {
         Err(refusal) => {
             assert!((3..=10).contains(&(refusal.number as u8)), "{refusal}");
+            assert_eq!(refusal.part.is_some(), refusal.number as u8 == 10, "{refusal}");
+            assert!(refusal.part != Some(Part::NeitherForm), "{refusal}");
             assert!(refusal.position <= bytes.len(), "{refusal}");
             assert_eq!(staged, Err(refusal));
             assert!(after == *register);
@@ -34,6 +39,18 @@ fn answers(register: &Register, bytes: &[u8]) -> bool {
     }
 }
 
+/// Without the old reading a POP with neither form is refused; all else is the same.
+fn differs_in_neither_form(bytes: &[u8], old: &Result<Reading<'_>, Refusal>) {
+    let rows = |reading: &Reading<'_>| reading.rows().collect::<Vec<_>>();
+    match read(bytes, Refused) {
+        Err(refusal) if refusal.part == Some(Part::NeitherForm) => {
+            assert!(bytes[refusal.position..].starts_with(b"POP"), "{refusal}");
+            assert!(old.as_ref().map_or_else(|other| other.position >= refusal.position, |_| true), "{refusal}");
+        }
+        answer => assert_eq!(answer.as_ref().map(rows), old.as_ref().map(rows)),
+    }
+}
+
 fn same_or_staged(before: &Register, after: &Register, staged: Result<usize, Refusal>, services: usize, length: usize) {
     match staged {
         Ok(count) => {
@@ -41,7 +58,7 @@ fn same_or_staged(before: &Register, after: &Register, staged: Result<usize, Ref
             assert!(is_register(after.as_bytes()));
         }
         Err(refusal) => {
-            assert!((11..=15).contains(&(refusal.number as u8)), "{refusal}");
+            assert!((11..=15).contains(&(refusal.number as u8)) && refusal.part.is_none(), "{refusal}");
             assert!(refusal.position <= length, "{refusal}");
             assert!(after == before);
         }
@@ -50,7 +67,7 @@ fn same_or_staged(before: &Register, after: &Register, staged: Result<usize, Ref
 
 fn opened() -> Register {
     let mut register = Register::open(FIRST, [32; 8]).unwrap();
-    assert_eq!(register.stage(3, &skdupd(&[put("4713", "2000-08-01/2000-08-13")])), Ok(1));
+    assert_eq!(register.stage(3, &skdupd(&[put("4713", "2000-08-01/2000-08-13")]), EveryDay), Ok(1));
     assert_eq!(register.release(3), Ok(1));
     register
 }
@@ -74,8 +91,9 @@ fn damaged_samples() {
     let register = opened();
     let mut chance = Chance(2);
     let mut accepted = 0;
-    for name in ["paper.edi", "skdupd.edi", "tsdupd.edi", "both.edi"] {
-        let whole = sample(name);
+    let samples = ["paper.edi", "skdupd.edi", "tsdupd.edi", "both.edi"].map(|name| (name, sample(name)));
+    let neither = skdupd(&[put("17", "2000-08-01/2000-08-13")]);
+    for (name, whole) in samples.into_iter().chain([("a POP with neither form", neither)]) {
         assert!(answers(&register, &whole), "{name}");
         for at in 0..whole.len() {
             assert!(!answers(&register, &whole[..at]), "{name} cut at {at}");

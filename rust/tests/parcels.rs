@@ -3,6 +3,7 @@
 mod common;
 
 use common::*;
+use drumcallisto::NeitherForm::{EveryDay, Refused};
 use drumcallisto::{read, room_for, Parcels, Refusal, Row, STORE_LENGTH};
 
 const PAPER: &[u8] = b"UIB+UNOB:4+7'UIH+TSDUPD:D:04A::UN+1'MSD+AAR:61'UIT+1+3'UIZ+7+1'";
@@ -11,7 +12,7 @@ type Outcome = (Vec<Row>, Result<usize, Refusal>);
 
 /// What comes of these parcels, with room for each: all rows, and the answer at the end. A final answer is repeated on the way.
 fn outcome<'a>(parcels: impl Iterator<Item = &'a [u8]>) -> Outcome {
-    let (mut reading, mut rows, mut fault) = (Parcels::new(), Vec::new(), None);
+    let (mut reading, mut rows, mut fault) = (Parcels::new(EveryDay), Vec::new(), None);
     for parcel in parcels {
         let mut room = vec![0; room_for(parcel.len())];
         let taken = reading.take(parcel, &mut room);
@@ -56,7 +57,7 @@ fn any_cut(bytes: &[u8]) -> Outcome {
 /// The same answer as the whole reader; its rows, or where it refuses those of the segments that end before the fault.
 fn agrees(bytes: &[u8]) {
     let (rows, answer) = any_cut(bytes);
-    match read(bytes) {
+    match read(bytes, EveryDay) {
         Ok(reading) => {
             assert_eq!(rows, reading.rows().collect::<Vec<_>>());
             assert_eq!(answer, Ok(rows.len()));
@@ -94,22 +95,22 @@ fn samples() {
 
 #[test]
 fn each_refusal() {
-    let cases: [(&str, u8, usize); 12] = [
-        ("", 3, 0),
-        ("#", 4, 0),
-        ("UIB+UNOB:4+7'zz\n", 4, 15),
-        ("A", 5, 0),
-        ("UIB+UNOB:4+7?", 5, 0),
-        ("'", 6, 0),
-        ("ABC'", 7, 0),
-        ("UIB+UNOB:4+7'", 7, 13),
-        ("UIB+UNOB:4+7'UIH+A:A:A::A+1'", 8, 13),
-        ("UIB+UNOB:4+7'UIH+SKDUPD:D:04A::UN+1'ABC'", 9, 36),
-        ("UIB+UNOB:4+7'UIH+SKDUPD:D:04A::UN+1'MSD'ORG'HDR'PRD'POP'", 10, 52),
-        ("UIB+UNOB:4+7'UIH+TSDUPD:D:04A::UN+1'MSD'UIT+1+3'UIZ+7+1'\n", 7, 56),
+    let cases: [(&str, Refusal); 12] = [
+        ("", refused(3, 0)),
+        ("#", refused(4, 0)),
+        ("UIB+UNOB:4+7'zz\n", refused(4, 15)),
+        ("A", refused(5, 0)),
+        ("UIB+UNOB:4+7?", refused(5, 0)),
+        ("'", refused(6, 0)),
+        ("ABC'", refused(7, 0)),
+        ("UIB+UNOB:4+7'", refused(7, 13)),
+        ("UIB+UNOB:4+7'UIH+A:A:A::A+1'", refused(8, 13)),
+        ("UIB+UNOB:4+7'UIH+SKDUPD:D:04A::UN+1'ABC'", refused(9, 36)),
+        ("UIB+UNOB:4+7'UIH+SKDUPD:D:04A::UN+1'MSD'ORG'HDR'PRD'POP'", refused_part(1, 52)),
+        ("UIB+UNOB:4+7'UIH+TSDUPD:D:04A::UN+1'MSD'UIT+1+3'UIZ+7+1'\n", refused(7, 56)),
     ];
-    for (text, number, position) in cases {
-        assert_eq!(any_cut(text.as_bytes()).1, Err(refused(number, position)), "{text}");
+    for (text, refusal) in cases {
+        assert_eq!(any_cut(text.as_bytes()).1, Err(refusal), "{text}");
         agrees(text.as_bytes());
     }
 }
@@ -137,10 +138,10 @@ fn long_segments() {
     agrees(&with_segment(4_095));
     agrees(&with_segment(4_096));
     let over = with_segment(4_097);
-    assert_eq!(read(&over).unwrap().rows().count(), 5);
+    assert_eq!(read(&over, Refused).unwrap().rows().count(), 5);
     assert_eq!(any_cut(&over).1, Err(refused(21, 36)));
     // It is named when byte 4,097 arrives, and not before.
-    let (mut reading, mut room) = (Parcels::new(), vec![0; room_for(5_000)]);
+    let (mut reading, mut room) = (Parcels::new(Refused), vec![0; room_for(5_000)]);
     assert_eq!(reading.take(&over[..36 + 4_096], &mut room).answer(), Ok(()));
     assert_eq!(reading.take(&over[36 + 4_096..36 + 4_097], &mut room).answer(), Err(refused(21, 36)));
     // At the end 4,096 bytes are 4 or 5.
@@ -181,7 +182,7 @@ fn long_interchanges() {
 fn no_room_and_again() {
     let fault: Vec<u8> = String::from_utf8(PAPER.to_vec()).unwrap().replace("UIT+1+3", "UIT+1+4").into_bytes();
     for (bytes, rows, answer) in [(PAPER, 5, Ok(())), (fault.as_slice(), 3, Err(refused(7, 47)))] {
-        let mut reading = Parcels::new();
+        let mut reading = Parcels::new(Refused);
         assert_eq!(reading.take(&bytes[..10], &mut []).answer(), Ok(()));
         for short in 0..3 * rows {
             let mut room = vec![9; short];
@@ -200,14 +201,14 @@ fn no_room_and_again() {
 #[test]
 fn kept_as_bytes() {
     let bytes = sample("skdupd.edi");
-    let (mut reading, mut rows, mut room) = (Parcels::default(), Vec::new(), [0; room_for(7)]);
+    let (mut reading, mut rows, mut room) = (Parcels::new(Refused), Vec::new(), [0; room_for(7)]);
     for parcel in bytes.chunks(7) {
         let mut other = Parcels::from_bytes(reading.as_bytes());
         rows.extend(other.take(parcel, &mut room).rows());
         let _ = reading.clone().take(b"#'", &mut room); // of no account
         reading = other;
     }
-    assert_eq!(rows, read(&bytes).unwrap().rows().collect::<Vec<_>>());
+    assert_eq!(rows, read(&bytes, Refused).unwrap().rows().collect::<Vec<_>>());
     assert_eq!(reading.finish(), Ok(rows.len()));
 }
 
@@ -219,11 +220,11 @@ fn any_store() {
     let bytes = sample("skdupd.edi");
     let mut accepted = 0;
     for round in 0..3_000 {
-        let mut store = *Parcels::new().as_bytes();
+        let mut store = *Parcels::new(Refused).as_bytes();
         if round % 3 == 0 {
             store.copy_from_slice(&chance.bytes(STORE_LENGTH, &any));
         } else {
-            let mut reading = Parcels::new();
+            let mut reading = Parcels::new(Refused);
             let _ = reading.take(&bytes[..chance.below(bytes.len())], &mut [0; 400]);
             store = *reading.as_bytes();
             for _ in 0..1 + chance.below(4) {
@@ -237,6 +238,7 @@ fn any_store() {
             let taken = reading.take(parcel, &mut room);
             assert!(taken.rows().count() <= parcel.len() / 4 + 1);
             if let Err(refusal) = taken.answer() {
+                assert_eq!(refusal.part.is_some(), refusal.number as u8 == 10, "{refusal}");
                 assert_eq!(reading.finish(), Err(refusal));
                 break;
             }

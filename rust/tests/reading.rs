@@ -3,12 +3,13 @@
 mod common;
 
 use common::*;
-use drumcallisto::{read, Change, Date};
+use drumcallisto::NeitherForm::{EveryDay, Refused};
+use drumcallisto::{read, Change, Date, Refusal};
 
 const PAPER: &str = "UIB+UNOB:4+7'UIH+TSDUPD:D:04A::UN+1'MSD+AAR:61'UIT+1+3'UIZ+7+1'";
 
 fn rows(interchange: &[u8]) -> Vec<(usize, u32, String)> {
-    let reading = read(interchange).expect("accepted");
+    let reading = read(interchange, Refused).expect("accepted");
     assert_eq!(reading.interchange(), interchange);
     reading.rows().map(|row| (row.offset, row.group, String::from_utf8(row.tag.to_vec()).unwrap())).collect()
 }
@@ -19,52 +20,54 @@ fn the_paper_printed_whole() {
     assert_eq!(sample("paper.edi"), PAPER.as_bytes());
     let expected = [(0, "UIB"), (13, "UIH"), (36, "MSD"), (47, "UIT"), (55, "UIZ")];
     assert_eq!(rows(PAPER.as_bytes()), expected.map(|(offset, tag)| (offset, 0, tag.to_string())));
-    assert_eq!(read(PAPER.replace("UIT+1+3", "UIT+1+4").as_bytes()).unwrap_err(), refused(7, 47));
-    assert_eq!(read(format!("{PAPER}\n").as_bytes()).unwrap_err(), refused(7, 63));
-    assert_eq!(read(PAPER.as_bytes()).unwrap().services().count(), 0);
+    assert_eq!(read(PAPER.replace("UIT+1+3", "UIT+1+4").as_bytes(), Refused).unwrap_err(), refused(7, 47));
+    assert_eq!(read(format!("{PAPER}\n").as_bytes(), Refused).unwrap_err(), refused(7, 63));
+    assert_eq!(read(PAPER.as_bytes(), Refused).unwrap().services().count(), 0);
 }
 
 #[test]
 fn each_refusal() {
-    let cases: [(&str, u8, usize); 10] = [
-        ("", 3, 0),
-        ("#", 4, 0),
-        ("UIB+UNOB:4+7'zz\n", 4, 15),
-        ("A", 5, 0),
-        ("'", 6, 0),
-        ("ABC'", 7, 0),
-        ("UIB+UNOB:4+7'", 7, 13),
-        ("UIB+UNOB:4+7'UIH+A:A:A::A+1'", 8, 13),
-        ("UIB+UNOB:4+7'UIH+SKDUPD:D:04A::UN+1'ABC'", 9, 36),
-        ("UIB+UNOB:4+7'UIH+SKDUPD:D:04A::UN+1'MSD'ORG'HDR'PRD'POP'", 10, 52),
+    let cases: [(&str, Refusal); 10] = [
+        ("", refused(3, 0)),
+        ("#", refused(4, 0)),
+        ("UIB+UNOB:4+7'zz\n", refused(4, 15)),
+        ("A", refused(5, 0)),
+        ("'", refused(6, 0)),
+        ("ABC'", refused(7, 0)),
+        ("UIB+UNOB:4+7'", refused(7, 13)),
+        ("UIB+UNOB:4+7'UIH+A:A:A::A+1'", refused(8, 13)),
+        ("UIB+UNOB:4+7'UIH+SKDUPD:D:04A::UN+1'ABC'", refused(9, 36)),
+        ("UIB+UNOB:4+7'UIH+SKDUPD:D:04A::UN+1'MSD'ORG'HDR'PRD'POP'", refused_part(1, 52)),
     ];
-    for (text, number, position) in cases {
-        assert_eq!(read(text.as_bytes()).unwrap_err(), refused(number, position), "{text}");
+    for (text, refusal) in cases {
+        assert_eq!(read(text.as_bytes(), Refused).unwrap_err(), refusal, "{text}");
+        assert_eq!(read(text.as_bytes(), EveryDay).unwrap_err(), refusal, "{text}");
     }
 }
 
 #[test]
 fn lengths() {
     let full = |fill: usize| format!("UIB+UNOB:4+7'UIH+TSDUPD:D:04A::UN+1'MSD+AAR:61{}'UIT+1+3'UIZ+7+1'", "+".repeat(fill));
-    assert!(read(full(63).as_bytes()).is_ok());
-    assert_eq!(read(full(64).as_bytes()).unwrap_err(), refused(6, 36));
-    assert_eq!(read(&[b'A'; 60_000]).unwrap_err(), refused(5, 0));
-    assert_eq!(read(&[b'A'; 60_001]).unwrap_err(), refused(3, 0));
+    assert!(read(full(63).as_bytes(), Refused).is_ok());
+    assert_eq!(read(full(64).as_bytes(), Refused).unwrap_err(), refused(6, 36));
+    assert_eq!(read(&[b'A'; 60_000], Refused).unwrap_err(), refused(5, 0));
+    assert_eq!(read(&[b'A'; 60_001], Refused).unwrap_err(), refused(3, 0));
 }
 
 #[test]
 fn samples() {
-    for (name, number, position) in [
-        ("refused-3.edi", 3, 0),
-        ("refused-4.edi", 4, 45),
-        ("refused-5.edi", 5, 47),
-        ("refused-6.edi", 6, 0),
-        ("refused-7.edi", 7, 47),
-        ("refused-8.edi", 8, 13),
-        ("refused-9.edi", 9, 47),
-        ("refused-10.edi", 10, 150),
+    for (name, refusal) in [
+        ("refused-3.edi", refused(3, 0)),
+        ("refused-4.edi", refused(4, 45)),
+        ("refused-5.edi", refused(5, 47)),
+        ("refused-6.edi", refused(6, 0)),
+        ("refused-7.edi", refused(7, 47)),
+        ("refused-8.edi", refused(8, 13)),
+        ("refused-9.edi", refused(9, 47)),
+        ("refused-10.edi", refused_part(2, 150)), // a character more than there are days
     ] {
-        assert_eq!(read(&sample(name)).unwrap_err(), refused(number, position), "{name}");
+        assert_eq!(read(&sample(name), Refused).unwrap_err(), refusal, "{name}");
+        assert_eq!(read(&sample(name), EveryDay).unwrap_err(), refusal, "{name}");
     }
     for (name, count) in [("paper.edi", 5), ("skdupd.edi", 34), ("tsdupd.edi", 16), ("both.edi", 19)] {
         let bytes = sample(name);
@@ -86,7 +89,7 @@ fn weekday(k: usize, days: &[usize]) -> bool {
 #[test]
 fn services_of_a_sample() {
     let bytes = sample("skdupd.edi");
-    let reading = read(&bytes).unwrap();
+    let reading = read(&bytes, Refused).unwrap();
     let services: Vec<_> = reading.services().collect();
     let list: Vec<_> = services.iter().map(|s| (s.number(), s.change())).collect();
     let expected = [("4711", Change::Put), ("4712", Change::Put), ("4713", Change::Removal)];
@@ -109,7 +112,7 @@ fn services_of_a_sample() {
 #[test]
 fn days_over_another_window() {
     let bytes = skdupd(&[put("1", "2000-08-01/2000-08-13+67")]);
-    let reading = read(&bytes).unwrap();
+    let reading = read(&bytes, Refused).unwrap();
     let service = reading.services().next().unwrap();
     let pop = HEAD.len() + "PRD+1'".len();
     assert_eq!(service.days(Date::new(2000, 7, 31)).unwrap().days().collect::<Vec<_>>(), [5, 6, 12, 13]);
@@ -125,7 +128,7 @@ fn days_over_another_window() {
 fn numbers_after_release() {
     let long = "L".repeat(512);
     let bytes = skdupd(&[put("a?+b?:??", "2000-08-01/2000-08-01"), removal("4 5"), removal(&long), removal("")]);
-    let reading = read(&bytes).unwrap();
+    let reading = read(&bytes, EveryDay).unwrap();
     let numbers: Vec<_> = reading.services().map(|s| (s.number(), s.change() == Change::Removal)).collect();
     assert_eq!(numbers, [("a+b:?".to_string(), false), ("4 5".to_string(), true), (long, true), (String::new(), true)]);
 }

@@ -3,7 +3,8 @@
 mod common;
 
 use common::*;
-use drumcallisto::{is_register, read, Date, Number, Register, REGISTER_LENGTH};
+use drumcallisto::NeitherForm::{EveryDay, Refused};
+use drumcallisto::{is_register, read, Date, Number, Refusal, Register, REGISTER_LENGTH};
 
 const QUOTAS: [u32; 8] = [1, 2, 32, 0, 0, 0, 0, 221];
 const AUGUST: &str = "2000-08-01/2000-08-13";
@@ -15,20 +16,15 @@ fn open() -> Register {
 /// A register in which account 3 has these puts staged and released.
 fn released(puts: &[String]) -> Register {
     let mut register = open();
-    assert_eq!(register.stage(3, &skdupd(puts)), Ok(puts.len()));
+    assert_eq!(register.stage(3, &skdupd(puts), EveryDay), Ok(puts.len()));
     assert_eq!(register.release(3), Ok(puts.len()));
     register
 }
 
 /// Sees that a call is refused so and has changed no byte.
-fn refuses<T: std::fmt::Debug>(
-    register: &mut Register,
-    number: u8,
-    position: usize,
-    call: impl FnOnce(&mut Register) -> Result<T, drumcallisto::Refusal>,
-) {
+fn refuses<T: std::fmt::Debug>(register: &mut Register, refusal: Refusal, call: impl FnOnce(&mut Register) -> Result<T, Refusal>) {
     let before = register.clone();
-    assert_eq!(call(register).unwrap_err(), refused(number, position));
+    assert_eq!(call(register).unwrap_err(), refusal);
     assert!(*register == before, "a refusal has changed the register");
 }
 
@@ -49,7 +45,7 @@ fn a_life() {
 
     // The second service comes before the first in the order of numbers, a shorter number before its extensions.
     let first = [put("18", &format!("{AUGUST}+67")), put("1", &format!("{AUGUST}::1001111000001"))];
-    assert_eq!(register.stage(3, &skdupd(&first)), Ok(2));
+    assert_eq!(register.stage(3, &skdupd(&first), Refused), Ok(2));
     assert_eq!(shown(&register, 3), [format!("1\tput\t{string}\n"), format!("18\tput\t{weekend}\n")]);
     assert_eq!(register.release(3), Ok(2));
     assert_eq!(register.release(3), Ok(0));
@@ -57,7 +53,7 @@ fn a_life() {
 
     // A put and a removal beside what is live, and the put withdrawn.
     let second = [put("1", &format!("{AUGUST}+67")), removal("18")];
-    assert_eq!(register.stage(3, &skdupd(&second)), Ok(2));
+    assert_eq!(register.stage(3, &skdupd(&second), Refused), Ok(2));
     let one = format!("1\tlive\t{string}\n1\tput\t{weekend}\n");
     let other = format!("18\tlive\t{weekend}\n18\tdel\t\n");
     assert_eq!(shown(&register, 3), [one, other.clone()]);
@@ -80,10 +76,10 @@ fn a_life() {
 #[test]
 fn a_removal_of_what_is_only_pending_drops_the_record() {
     let mut register = open();
-    assert_eq!(register.stage(3, &skdupd(&[put("17", AUGUST)])), Ok(1));
-    assert_eq!(register.stage(3, &skdupd(&[removal("17")])), Ok(1));
+    assert_eq!(register.stage(3, &skdupd(&[put("17", AUGUST)]), EveryDay), Ok(1));
+    assert_eq!(register.stage(3, &skdupd(&[removal("17")]), EveryDay), Ok(1));
     assert!(register == open());
-    assert_eq!(register.stage(3, &sample("paper.edi")), Ok(0)); // no service
+    assert_eq!(register.stage(3, &sample("paper.edi"), Refused), Ok(0)); // no service
     assert!(register == open());
 }
 
@@ -91,29 +87,30 @@ fn a_removal_of_what_is_only_pending_drops_the_record() {
 fn samples_staged() {
     let mut register = open();
     let bytes = sample("skdupd.edi");
-    let reading = read(&bytes).unwrap();
+    let reading = read(&bytes, Refused).unwrap();
     let unknown = reading.services().last().unwrap().position();
-    refuses(&mut register, 14, unknown, |r| r.stage(3, &bytes));
-    assert_eq!(register.stage(3, &skdupd(&[put("4713", AUGUST)])), Ok(1));
+    refuses(&mut register, refused(14, unknown), |r| r.stage(3, &bytes, Refused));
+    assert_eq!(register.stage(3, &skdupd(&[put("4713", AUGUST)]), EveryDay), Ok(1));
     assert_eq!(register.release(3), Ok(1));
-    assert_eq!(register.stage(3, &bytes), Ok(3));
+    assert_eq!(register.stage(3, &bytes, Refused), Ok(3));
     for (k, service) in reading.services().take(2).enumerate() {
         let line = format!("{}\tput\t{}\n", service.number(), service.days(FIRST).unwrap());
         assert_eq!(register.show(3, k), Ok(line));
     }
     for number in 3..=10 {
         let bytes = sample(&format!("refused-{number}.edi"));
-        let refusal = read(&bytes).unwrap_err();
-        refuses(&mut register, number, refusal.position, |r| r.stage(3, &bytes));
+        let refusal = read(&bytes, Refused).unwrap_err();
+        assert_eq!(refusal.number as u8, number);
+        refuses(&mut register, refusal, |r| r.stage(3, &bytes, Refused));
     }
 }
 
 #[test]
 fn p9_another_account_has_it() {
     let mut register = open();
-    assert_eq!(register.stage(1, &skdupd(&[put("17", AUGUST)])), Ok(1));
-    refuses(&mut register, 16, 0, |r| r.withdraw(2, b"17"));
-    refuses(&mut register, 14, HEAD.len(), |r| r.stage(2, &skdupd(&[removal("17")])));
+    assert_eq!(register.stage(1, &skdupd(&[put("17", AUGUST)]), EveryDay), Ok(1));
+    refuses(&mut register, refused(16, 0), |r| r.withdraw(2, b"17"));
+    refuses(&mut register, refused(14, HEAD.len()), |r| r.stage(2, &skdupd(&[removal("17")]), EveryDay));
     assert_eq!(register.withdraw(1, b"17"), Ok(()));
     assert!(register == open());
 }
@@ -121,19 +118,20 @@ fn p9_another_account_has_it() {
 #[test]
 fn p10_a_quota_of_one() {
     let mut register = open();
-    assert_eq!(register.stage(1, &skdupd(&[put("17", AUGUST)])), Ok(1));
+    assert_eq!(register.stage(1, &skdupd(&[put("17", AUGUST)]), EveryDay), Ok(1));
     assert_eq!(register.release(1), Ok(1));
     let another = skdupd(&[put("18", AUGUST)]);
-    refuses(&mut register, 15, another.len(), |r| r.stage(1, &another));
-    assert_eq!(register.stage(1, &skdupd(&[put("17", &format!("{AUGUST}+67"))])), Ok(1));
-    refuses(&mut register, 15, another.len(), |r| r.stage(4, &another)); // a quota of 0
+    refuses(&mut register, refused(15, another.len()), |r| r.stage(1, &another, EveryDay));
+    assert_eq!(register.stage(1, &skdupd(&[put("17", &format!("{AUGUST}+67"))]), EveryDay), Ok(1));
+    // A quota of 0.
+    refuses(&mut register, refused(15, another.len()), |r| r.stage(4, &another, EveryDay));
 }
 
 #[test]
 fn the_quota_is_tested_at_the_end() {
     let mut register = open();
-    assert_eq!(register.stage(1, &skdupd(&[put("17", AUGUST)])), Ok(1));
-    assert_eq!(register.stage(1, &skdupd(&[put("18", AUGUST), removal("17")])), Ok(2));
+    assert_eq!(register.stage(1, &skdupd(&[put("17", AUGUST)]), EveryDay), Ok(1));
+    assert_eq!(register.stage(1, &skdupd(&[put("18", AUGUST), removal("17")]), EveryDay), Ok(2));
     assert_eq!(shown(&register, 1).len(), 1);
 }
 
@@ -145,7 +143,7 @@ fn refused_services() {
     let second = at + good.len();
     let mut stage = |service: &str, number: u8, position: usize| {
         let bytes = skdupd(&[good.clone(), service.to_string()]);
-        refuses(&mut register, number, position, |r| r.stage(3, &bytes));
+        refuses(&mut register, refused(number, position), |r| r.stage(3, &bytes, EveryDay));
     };
     stage("PRD+2'", 11, second); // no POP
     stage(&put("", AUGUST), 11, second);
@@ -156,18 +154,19 @@ fn refused_services() {
     stage(&put("2", &format!("{LAST}/2001-12-26")), 13, second + "PRD+2'".len());
     stage(&removal("2"), 14, second);
     let last = skdupd(&[good, put("1234567890", &format!("{LAST}/{LAST}")), removal("17")]);
-    assert_eq!(register.stage(3, &last), Ok(3));
+    assert_eq!(register.stage(3, &last, EveryDay), Ok(3));
     assert_eq!(register.show(3, 1), Ok(format!("1234567890\tput\t{}\n", characters(&[511]))));
-    refuses(&mut register, 14, at, |r| r.stage(3, &skdupd(&[removal("17")]))); // already a pending removal
+    // Already a pending removal.
+    refuses(&mut register, refused(14, at), |r| r.stage(3, &skdupd(&[removal("17")]), EveryDay));
 }
 
 #[test]
 fn withdrawals() {
     let mut register = released(&[put("17", AUGUST)]);
     let live = register.clone();
-    assert_eq!(register.stage(3, &skdupd(&[put("a?+b", AUGUST), put("1234567890", AUGUST)])), Ok(2));
+    assert_eq!(register.stage(3, &skdupd(&[put("a?+b", AUGUST), put("1234567890", AUGUST)]), EveryDay), Ok(2));
     for number in ["17", "18", "", "a?+b", "a", "a+b\0", "12345678901", "1234567890\0", "a+b "] {
-        refuses(&mut register, 16, 0, |r| r.withdraw(3, number.as_bytes()));
+        refuses(&mut register, refused(16, 0), |r| r.withdraw(3, number.as_bytes()));
     }
     assert_eq!(register.withdraw(3, b"a+b"), Ok(()));
     assert_eq!(register.withdraw(3, b"1234567890"), Ok(()));
@@ -178,13 +177,13 @@ fn withdrawals() {
 fn accounts() {
     let mut register = released(&[put("17", AUGUST)]);
     for account in [0, 9, 256 + 3, usize::MAX] {
-        refuses(&mut register, 2, 0, |r| r.stage(account, b""));
-        refuses(&mut register, 2, 0, |r| r.release(account));
-        refuses(&mut register, 2, 0, |r| r.withdraw(account, b"17"));
-        refuses(&mut register, 2, 0, |r| r.show(account, 0));
+        refuses(&mut register, refused(2, 0), |r| r.stage(account, b"", Refused));
+        refuses(&mut register, refused(2, 0), |r| r.release(account));
+        refuses(&mut register, refused(2, 0), |r| r.withdraw(account, b"17"));
+        refuses(&mut register, refused(2, 0), |r| r.show(account, 0));
     }
     for account in 1..=8 {
-        refuses(&mut register, 3, 0, |r| r.stage(account, b""));
+        refuses(&mut register, refused(3, 0), |r| r.stage(account, b"", Refused));
     }
 }
 

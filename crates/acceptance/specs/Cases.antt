@@ -19,7 +19,7 @@ use Rattle.placing.specs.Tables.{tables, tableIn}
 use Rattle.laws.specs.Decimal.{decimalOn}
 use Rattle.laws.specs.Text.{bytes}
 use Rattle.envelope.specs.Envelope.{uibOf, uihOf, trailerOf}
-use Rattle.answers.specs.Answers.{refused}
+use Rattle.answers.specs.Answers.{refused, naming}
 use Rattle.steps.specs.Step.{opening, betweenMessages, closing, trailing, placed, insideMessage, stepBy}
 use Rattle.interchange.specs.Reader.{turnAt, readOn, readingOf, numbers}
 use Rattle.acceptance.specs.Interchange.{segmentsWritten, unbroken, isSegment, Interchange, segmentsOf, placesFrom, isMessage, rulesHold, rowsFrom, rowsOf}
@@ -46,7 +46,7 @@ uit-four = bytes "UIT+1+4"
 abbrev one : List ℕ → Interchange
 one trailer = record { opening = uib; messages = record { heading = tsdupd; within = msd ∷ []; trailer = trailer } ∷ []; closing = uiz }
 
-pub printed : rulesHold (one uit) ≡ true
+pub printed : rulesHold false (one uit) ≡ true
 unfolding rulesHold isMessage isSegment unbroken placesFrom permittedOf plainOn firstPiece laterPieces partOf tagged componentFits occurrenceFits elementFits withinLimits wellFormed spanOf countedAt elementAt sameText entryOf afterOf endOf placesOn reachable firstFit inGroup again laterOnes choicesFrom firstOf stepOf skdupdTable tsdupdTable tables tableIn decimalOn uibOf uihOf trailerOf
 printed = refl
 
@@ -61,16 +61,16 @@ unfolding rulesHold isMessage isSegment unbroken placesFrom permittedOf plainOn 
 printed-rows = refl
 
 -- "With `UIT+1+4'` it is 7"
-pub printed-four : rulesHold (one uit-four) ≡ false
+pub printed-four : rulesHold false (one uit-four) ≡ false
 unfolding rulesHold isMessage isSegment unbroken placesFrom permittedOf plainOn firstPiece laterPieces partOf tagged componentFits occurrenceFits elementFits withinLimits wellFormed spanOf countedAt elementAt sameText entryOf afterOf endOf placesOn reachable firstFit inGroup again laterOnes choicesFrom firstOf stepOf skdupdTable tsdupdTable tables tableIn decimalOn uibOf uihOf trailerOf
 printed-four = refl
 
 -- "With `UIT+1+4'` it is 7 at 47."
-pub refused-four : readingOf (segmentsWritten (segmentsOf (one uit-four))) .verdict ≡ refused 7 47
+pub refused-four : readingOf false (segmentsWritten (segmentsOf (one uit-four))) .verdict ≡ refused (naming 7 47)
 unfolding segmentsWritten permittedOf plainOn firstPiece laterPieces partOf tagged componentFits occurrenceFits elementFits withinLimits wellFormed scanOf permittedRun spanOf countedAt elementAt sameText entryOf afterOf endOf placesOn reachable firstFit inGroup again laterOnes choicesFrom firstOf stepOf skdupdTable tsdupdTable tables tableIn decimalOn uibOf uihOf trailerOf opening betweenMessages closing trailing placed insideMessage stepBy turnAt readOn readingOf
 refused-four = refl
 
 -- "A newline added at the end is 7 at 63."
-pub refused-newline : readingOf (segmentsWritten (segmentsOf (one uit)) ++ (10 ∷ [])) .verdict ≡ refused 7 63
+pub refused-newline : readingOf false (segmentsWritten (segmentsOf (one uit)) ++ (10 ∷ [])) .verdict ≡ refused (naming 7 63)
 unfolding segmentsWritten permittedOf plainOn firstPiece laterPieces partOf tagged componentFits occurrenceFits elementFits withinLimits wellFormed scanOf permittedRun spanOf countedAt elementAt sameText entryOf afterOf endOf placesOn reachable firstFit inGroup again laterOnes choicesFrom firstOf stepOf skdupdTable tsdupdTable tables tableIn decimalOn uibOf uihOf trailerOf opening betweenMessages closing trailing placed insideMessage stepBy turnAt readOn readingOf
 refused-newline = refl

@@ -1,4 +1,5 @@
--- What an interchange is, apart from how it is read: document 01, "Bytes and segments", "The placing rule" and "Calendars".
+-- What an interchange is, apart from how it is read: document 01, "Bytes and segments", "The placing rule" and "Calendars". Document 02, A2: "The wish is part
+-- of the input in demand 2"; it is true where the caller asks for the old reading, in which a POP with neither form means every day.
 -- A segment is given by its bytes without the terminator. Assumes nothing; there is no proof here.
 use mathlib.Core.Path.{_≡_}
 use mathlib.Core.Bool.{Bool, true, false, not}
@@ -103,8 +104,8 @@ groupIn t (Placed p) = groupOf t p
 groupIn t OutOfPlace = 0
 
 -- "POP in group 4 of SKDUPD: ..": its contents are those of a period. "POP in other places is placed and not read."
-abbrev pub goodContents : MessageType → List ℕ × Stepped → Bool
-goodContents message e = pick (isPeriod message (tagNumber (e .0)) (groupIn (tableOf message) (e .1))) (isGood (periodOf (e .0))) true
+abbrev pub goodContents : Bool → MessageType → List ℕ × Stepped → Bool
+goodContents wish message e = pick (isPeriod message (tagNumber (e .0)) (groupIn (tableOf message) (e .1))) (isGood (periodOf wish (e .0))) true
 
 -- "UIH is the first place of a message and UIT the last."
 abbrev pub isTrailer : List ℕ → Bool
@@ -122,15 +123,15 @@ goodHeading m = both (eqb (tagNumber (m .heading)) UIH) (known (uihOf (m .headin
 abbrev pub goodPlaces : Message → Bool
 goodPlaces m = both (all goesBefore (m .within)) (all hasPlace (placedSegments m))
 
-abbrev pub goodPeriods : Message → Bool
-goodPeriods m = all (goodContents (messageTypeOf m)) (placesFrom (tableOf (messageTypeOf m)) (Placed startPlace) (m .within))
+abbrev pub goodPeriods : Bool → Message → Bool
+goodPeriods wish m = all (goodContents wish (messageTypeOf m)) (placesFrom (tableOf (messageTypeOf m)) (Placed startPlace) (m .within))
 
 -- "UIT repeats 0340 and gives the number of segments, UIH and UIT included."
 abbrev pub goodTrailer : Message → Bool
 goodTrailer m = both (isTrailer (m .trailer)) (uitOf (m .trailer) (referenceIn (m .heading)) (length (m .within) + 2))
 
-unfoldable pub isMessage : Message → Bool
-isMessage m = both (all isSegment (segmentsIn m)) (both (goodHeading m) (both (goodPlaces m) (both (goodPeriods m) (goodTrailer m))))
+unfoldable pub isMessage : Bool → Message → Bool
+isMessage wish m = both (all isSegment (segmentsIn m)) (both (goodHeading m) (both (goodPlaces m) (both (goodPeriods wish m) (goodTrailer m))))
 
 abbrev pub goodOpening : List ℕ → Bool
 goodOpening g = both (isSegment g) (both (eqb (tagNumber g) UIB) (names (uibOf g)))
@@ -140,18 +141,18 @@ abbrev pub goodClosing : List ℕ → List ℕ → ℕ → Bool
 goodClosing g dialogue messages = both (isSegment g) (both (eqb (tagNumber g) UIZ) (uizOf g dialogue messages))
 
 -- the rules of document 01
-unfoldable pub rulesHold : Interchange → Bool
-rulesHold x =
+unfoldable pub rulesHold : Bool → Interchange → Bool
+rulesHold wish x =
     both (goodOpening (x .opening))
     (both (ltb 0 (length (x .messages)))
-    (both (all isMessage (x .messages))
+    (both (all (isMessage wish) (x .messages))
     (goodClosing (x .closing) (referenceIn (x .opening)) (length (x .messages)))))
 
--- a text is an interchange
-pub record IsInterchange (s : List ℕ) : Type 0 where
+-- a text is an interchange to a caller with a wish
+pub record IsInterchange (wish : Bool) (s : List ℕ) : Type 0 where
   pub parts : Interchange
   pub text : s ≡ segmentsWritten (segmentsOf parts)
-  pub rules : rulesHold parts ≡ true
+  pub rules : rulesHold wish parts ≡ true
   pub some : 1 ≤ length s
   pub fits : length s ≤ 60000
 

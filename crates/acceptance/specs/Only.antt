@@ -1,7 +1,7 @@
 -- What is accepted is an interchange: the segments read, put together from the last to the first.
 -- Assumes nothing.
 use mathlib.Core.Path.{_≡_, refl, sym, ap, subst, _∙_}
-use mathlib.Core.Bool.{true, false}
+use mathlib.Core.Bool.{Bool, true, false}
 use mathlib.Core.List.{List, [], _∷_, _++_}
 use Prim.Native.Nat.{ℕ, zero, suc, _+_, _≤_, _<_}
 use native.Mathlib.Omega.{arith}
@@ -58,7 +58,7 @@ module _ (f : ℕ) (s : List ℕ) (st : State) (at : ℕ) where
       → afterTurn (readOn f s) (turnStep (e + 1) y) .verdict ≡ accepted → Further
   by-step (done (taken next r)) h e n c q =
       record { body = bodyAt s at; next = next; row = r; cut = c; step = h; rest = ap (λ (x : ℕ). readOn f s next (x + 1) .verdict) (sym n) ∙ q }
-  by-step (refused number position) h e n c q = absurd (refused≢done q)
+  by-step (refused refusal) h e n c q = absurd (refused≢done q)
 
   by-scan : (x : Scanned) → segmentAt s at ≡ x → afterTurn (readOn f s) (turnScan tables s st at x) .verdict ≡ accepted → Further
   by-scan (End e) h q = let c = cut-at s at e h in by-step (stepAt s st at (bodyAt s at)) refl e (c .0) (c .1) q
@@ -80,21 +80,21 @@ module _ (f : ℕ) (s : List ℕ) (st : State) (at : ℕ) where
       (λ l. ltb-false at (length s) l)
 
 -- what stands from an offset on: between messages, n having come, in a dialogue d
-pub record Ending (s : List ℕ) (at : ℕ) (d : List ℕ) (n : ℕ) : Type 0 where
+pub record Ending (wish : Bool) (s : List ℕ) (at : ℕ) (d : List ℕ) (n : ℕ) : Type 0 where
   pub messages : List Message
   pub closing : List ℕ
   pub text : drop at s ≡ segmentsWritten (eachOf segmentsIn messages ++ (closing ∷ []))
-  pub good : all isMessage messages ≡ true
+  pub good : all (isMessage wish) messages ≡ true
   pub some : 0 < n + length messages
   pub closes : goodClosing closing d (n + length messages) ≡ true
 
 -- in a message of type k after the place p, c of its segments having come; r is its reference
-pub record Going (s : List ℕ) (at : ℕ) (d : List ℕ) (n : ℕ) (k : MessageType) (p : Place) (c : ℕ) (r : List ℕ) : Type 0 where
+pub record Going (wish : Bool) (s : List ℕ) (at : ℕ) (d : List ℕ) (n : ℕ) (k : MessageType) (p : Place) (c : ℕ) (r : List ℕ) : Type 0 where
   pub within : List (List ℕ)
   pub trailer : List ℕ
-  pub held : Within k p c r within trailer
+  pub held : Within wish k p c r within trailer
   pub then : ℕ
-  pub ending : Ending s then d (n + 1)
+  pub ending : Ending wish s then d (n + 1)
   pub text : drop at s ≡ segmentsWritten (within ++ (trailer ∷ (eachOf segmentsIn (ending .messages) ++ (ending .closing ∷ []))))
 
 -- a segment and its terminator before the others; a message before the others
@@ -111,8 +111,8 @@ message-text g gs t ms c e q =
 
 abbrev Stands : Phase → List ℕ → State → ℕ → Type 0
 Stands Opening s st at = Unit {0}
-Stands Between s st at = Ending s at (dialogueOf s st) (st .messages)
-Stands Inside s st at = Going s at (dialogueOf s st) (st .messages) (st .message) (st .place) (st .segments) (headedReference s st)
+Stands Between s st at = Ending (st .wish) s at (dialogueOf s st) (st .messages)
+Stands Inside s st at = Going (st .wish) s at (dialogueOf s st) (st .messages) (st .message) (st .place) (st .segments) (headedReference s st)
 Stands Closed s st at = length s ≤ at
 
 module _ (s : List ℕ) (small : length s ≤ 60000) where
@@ -126,21 +126,21 @@ module _ (s : List ℕ) (small : length s ≤ 60000) where
 
     -- a UIH before what follows it
     heads-ending : (x : Further f s st at) (k : MessageType) (p : Part) → eqb (tagNumber (x .body)) UIH ≡ true → uihOf (x .body) ≡ headed.Message k p
-        → Going s (at + length (x .body) + 1) (dialogueOf s st) (st .messages) k startPlace 1 (headedReference s (headedState st at k p)) → Ending s at (dialogueOf s st) (st .messages)
+        → Going (st .wish) s (at + length (x .body) + 1) (dialogueOf s st) (st .messages) k startPlace 1 (headedReference s (headedState st at k p)) → Ending (st .wish) s at (dialogueOf s st) (st .messages)
     heads-ending x k p t e w =
         let c = x .cut in
         let r = reference-is s st at (x .body) (drop (at + length (x .body) + 1) s) k p (c .text) e in
         let m : Message = record { heading = x .body; within = w .within; trailer = w .trailer } in
         let n : st .messages + length (m ∷ w .ending .messages) ≡ st .messages + 1 + length (w .ending .messages) = omega arith in
         let i = w .ending .some in
-        let good : isMessage m ≡ true =
-        from-parts m
+        let good : isMessage (st .wish) m ≡ true =
+        from-parts (st .wish) m
         (record {
           segment = c .segment;
           tag = t;
           named = ap known e;
-          rest = subst (λ (y : MessageType). Within y startPlace 1 (referenceIn (x .body)) (w .within) (w .trailer)) (sym (ap typeIn e))
-              (subst (λ (y : List ℕ). Within k startPlace 1 y (w .within) (w .trailer)) r (w .held));
+          rest = subst (λ (y : MessageType). Within (st .wish) y startPlace 1 (referenceIn (x .body)) (w .within) (w .trailer)) (sym (ap typeIn e))
+              (subst (λ (y : List ℕ). Within (st .wish) k startPlace 1 y (w .within) (w .trailer)) r (w .held));
         }) in
         record {
           messages = m ∷ w .ending .messages;
@@ -153,7 +153,7 @@ module _ (s : List ℕ) (small : length s ≤ 60000) where
 
     -- the UIZ with nothing after
     closes-ending : (x : Further f s st at) → eqb (tagNumber (x .body)) UIZ ≡ true → ltb 0 (st .messages) ≡ true → uizOf (x .body) (dialogueOf s st) (st .messages) ≡ true
-        → length s ≤ at + length (x .body) + 1 → Ending s at (dialogueOf s st) (st .messages)
+        → length s ≤ at + length (x .body) + 1 → Ending (st .wish) s at (dialogueOf s st) (st .messages)
     unfolding segmentsWritten
     closes-ending x t z u w =
         let c = x .cut in
@@ -168,22 +168,22 @@ module _ (s : List ℕ) (small : length s ≤ 60000) where
           closes = rw (c .segment, t) (ap (uizOf (x .body) (dialogueOf s st)) n ∙ u);
         }
 
-    found-between : (x : Further f s st at) → Follows s st at (x .body) (x .next) (x .row) → Ending s at (dialogueOf s st) (st .messages)
+    found-between : (x : Further f s st at) → Follows s st at (x .body) (x .next) (x .row) → Ending (st .wish) s at (dialogueOf s st) (st .messages)
     found-between x (heads k p t e q) =
         heads-ending x k p t e (found (headedState st at k p) (at + length (x .body) + 1) (omega arith) (omega arith) (after x (headedState st at k p) q))
     found-between x (closes t z u q) = closes-ending x t z u (found (closedState st) (at + length (x .body) + 1) (omega arith) (omega arith) (after x (closedState st) q))
 
     -- a segment of the message before the others
     abbrev GoingAt : ℕ → Place → ℕ → Type 0
-    GoingAt then p c = Going s then (dialogueOf s st) (st .messages) (st .message) p c (headedReference s st)
+    GoingAt then p c = Going (st .wish) s then (dialogueOf s st) (st .messages) (st .message) p c (headedReference s st)
 
     onward-going : (x : Further f s st at) (p : Place) → stepOf (tableOf (st .message)) (st .place) (tagNumber (x .body)) ≡ Placed p → isTrailer (x .body) ≡ false
-        → goodContents (st .message) (x .body, Placed p) ≡ true → GoingAt (at + length (x .body) + 1) p (st .segments + 1) → GoingAt at (st .place) (st .segments)
+        → goodContents (st .wish) (st .message) (x .body, Placed p) ≡ true → GoingAt (at + length (x .body) + 1) p (st .segments + 1) → GoingAt at (st .place) (st .segments)
     onward-going x p e t u w =
         record {
           within = x .body ∷ w .within;
           trailer = w .trailer;
-          held = from-front (st .message) (st .place) (st .segments) (headedReference s st) (w .trailer) (x .body) (w .within)
+          held = from-front (st .wish) (st .message) (st .place) (st .segments) (headedReference s st) (w .trailer) (x .body) (w .within)
               (record { segment = x .cut .segment; place = p; fits = e; inner = t; contents = u; rest = w .held });
           then = w .then;
           ending = w .ending;
@@ -192,12 +192,12 @@ module _ (s : List ℕ) (small : length s ≤ 60000) where
 
     -- the UIT before what follows the message
     ends-going : (x : Further f s st at) (p : Place) → stepOf (tableOf (st .message)) (st .place) (tagNumber (x .body)) ≡ Placed p → isTrailer (x .body) ≡ true
-        → uitOf (x .body) (headedReference s st) (st .segments + 1) ≡ true → Ending s (at + length (x .body) + 1) (dialogueOf s st) (st .messages + 1) → GoingAt at (st .place) (st .segments)
+        → uitOf (x .body) (headedReference s st) (st .segments + 1) ≡ true → Ending (st .wish) s (at + length (x .body) + 1) (dialogueOf s st) (st .messages + 1) → GoingAt at (st .place) (st .segments)
     ends-going x p e t u w =
         record {
           within = [];
           trailer = x .body;
-          held = from-last (st .message) (st .place) (st .segments) (headedReference s st) (x .body)
+          held = from-last (st .wish) (st .message) (st .place) (st .segments) (headedReference s st) (x .body)
               (record { segment = x .cut .segment; place = p; fits = e; trailer = t; counted = u });
           then = at + length (x .body) + 1;
           ending = w;
@@ -216,7 +216,7 @@ module _ (s : List ℕ) (small : length s ≤ 60000) where
         let o = one-more (st .segments) (omega arith) in
         let m = one-more (st .messages) (omega arith) in
         ends-going x p e t (ap (uitOf (x .body) (headedReference s st)) (sym o) ∙ u)
-        (subst (λ (y : ℕ). Ending s (at + length (x .body) + 1) (dialogueOf s st) y) m
+        (subst (λ (y : ℕ). Ending (st .wish) s (at + length (x .body) + 1) (dialogueOf s st) y) m
         (found (endedState st p) (at + length (x .body) + 1) (subst (λ (y : ℕ). y ≤ at + length (x .body) + 1) (sym m) (omega arith)) (subst (λ (y : ℕ). y ≤ at + length (x .body) + 1) (sym o) (omega arith)) (after x (endedState st p) q)))
 
     found-by : (ph : Phase) → st .phase ≡ ph → Accepts (suc f) s st at → Stands ph s st at
@@ -231,21 +231,21 @@ module _ (s : List ℕ) (small : length s ≤ 60000) where
   find (suc f) st at a b q = found-by f (find f) st at a b (st .phase) refl q
 
   -- from the first byte on
-  found-whole : 1 ≤ length s → (x : Further (length s) s openingState 0) → Opens s openingState 0 (x .body) (x .next) (x .row) → IsInterchange s
+  found-whole : (wish : Bool) → 1 ≤ length s → (x : Further (length s) s (openingState wish) 0) → Opens s (openingState wish) 0 (x .body) (x .next) (x .row) → IsInterchange wish s
   unfolding segmentsWritten
-  found-whole some x o =
+  found-whole wish some x o =
       let c = x .cut in
       let q = subst (λ (y : State). Accepts (length s) s y (0 + length (x .body) + 1)) (o .state) (x .rest) in
-      let w : Ending s (0 + length (x .body) + 1) (dialogueOf s (openedState openingState 0 (o .dialogue))) 0 =
-      find (length s) (openedState openingState 0 (o .dialogue)) (0 + length (x .body) + 1) (omega arith) (omega arith) q in
-      let d = dialogue-is s openingState 0 (x .body) (drop (0 + length (x .body) + 1) s) (o .dialogue) (c .text) (o .named) in
+      let w : Ending wish s (0 + length (x .body) + 1) (dialogueOf s (openedState (openingState wish) 0 (o .dialogue))) 0 =
+      find (length s) (openedState (openingState wish) 0 (o .dialogue)) (0 + length (x .body) + 1) (omega arith) (omega arith) q in
+      let d = dialogue-is s (openingState wish) 0 (x .body) (drop (0 + length (x .body) + 1) s) (o .dialogue) (c .text) (o .named) in
       let n : length (w .messages) ≡ 0 + length (w .messages) = omega arith in
       let i = w .some in
       let z : Interchange = record { opening = x .body; messages = w .messages; closing = w .closing } in
       record {
         parts = z;
         text = c .text ∙ ap (λ (y : List ℕ). x .body ++ (39 ∷ y)) (w .text);
-        rules = from-rules z
+        rules = from-rules wish z
             (record {
               segment = c .segment;
               tag = o .tag;
@@ -258,17 +258,17 @@ module _ (s : List ℕ) (small : length s ≤ 60000) where
         fits = small;
       }
 
-  found-all : 1 ≤ length s → Accepts (length s + 1) s openingState 0 → IsInterchange s
-  found-all some q =
-      let x = further (length s) s openingState 0 refl (rw add-one at q) in
-      found-whole some x (opens s openingState 0 (x .body) (x .next) (x .row) refl (x .step))
+  found-all : (wish : Bool) → 1 ≤ length s → Accepts (length s + 1) s (openingState wish) 0 → IsInterchange wish s
+  found-all wish some q =
+      let x = further (length s) s (openingState wish) 0 refl (rw add-one at q) in
+      found-whole wish some x (opens s (openingState wish) 0 (x .body) (x .next) (x .row) refl (x .step))
 
-pub accepted-is : (s : List ℕ) → readingOf s .verdict ≡ accepted → IsInterchange s
+pub accepted-is : (wish : Bool) (s : List ℕ) → readingOf wish s .verdict ≡ accepted → IsInterchange wish s
 unfolding readingOf
-accepted-is s q =
+accepted-is wish s q =
     choose (wrongSize s) (λ z. absurd (refused≢done (rw z at q)))
     (λ z.
     let u = either-parts (eqb (length s) 0) (ltb 60000 (length s)) z in
     let a = eqb-false (length s) 0 (u .0) in
     let b = ltb-false 60000 (length s) (u .1) in
-    found-all s b (omega arith) (rw z at q))
+    found-all s b wish (omega arith) (rw z at q))

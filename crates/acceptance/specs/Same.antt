@@ -1,7 +1,7 @@
 -- A text is an interchange in one way at most: its segments, and what they are in it, are determined.
 -- Assumes nothing.
 use mathlib.Core.Path.{_≡_, refl, sym, ap, _∙_}
-use mathlib.Core.Bool.{true, false, not}
+use mathlib.Core.Bool.{Bool, true, false, not}
 use mathlib.Core.List.{List, [], _∷_, _++_}
 use Prim.Native.Nat.{ℕ, _+_}
 use native.Mathlib.Omega.{arith}
@@ -101,24 +101,24 @@ module _ (c d : List ℕ) (tc : eqb (tagNumber c) UIZ ≡ true) (td : eqb (tagNu
   unfolding tail-of
   all-first m ms g = ap (λ (x : List (List ℕ)). m .heading ∷ x) (regroup (m .within) (m .trailer) (eachOf segmentsIn ms) (g ∷ []))
 
-  same-messages : (ms ks : List Message) → all isMessage ms ≡ true → all isMessage ks ≡ true → all-of ms c ≡ all-of ks d → (ms ≡ ks) × (c ≡ d)
+  same-messages : (wish : Bool) (ms ks : List Message) → all (isMessage wish) ms ≡ true → all (isMessage wish) ks ≡ true → all-of ms c ≡ all-of ks d → (ms ≡ ks) × (c ≡ d)
   unfolding tail-of
-  same-messages [] [] p q e = (refl, first-same c d [] [] e)
-  same-messages [] (k ∷ ks) p q e =
-      let v = both-parts (isMessage k) (all isMessage ks) q in
-      absurd (uiz≢uih c (k .heading) (first-same c (k .heading) [] (tail-of k ks d) (e ∙ all-first k ks d)) tc (to-parts k (v .0) .tag))
-  same-messages (m ∷ ms) [] p q e =
-      let v = both-parts (isMessage m) (all isMessage ms) p in
-      absurd (uiz≢uih d (m .heading) (first-same d (m .heading) [] (tail-of m ms c) (sym e ∙ all-first m ms c)) td (to-parts m (v .0) .tag))
-  same-messages (m ∷ ms) (k ∷ ks) p q e =
-      let v = both-parts (isMessage m) (all isMessage ms) p in
-      let w = both-parts (isMessage k) (all isMessage ks) q in
-      let a = to-parts m (v .0) in
-      let b = to-parts k (w .0) in
+  same-messages wish [] [] p q e = (refl, first-same c d [] [] e)
+  same-messages wish [] (k ∷ ks) p q e =
+      let v = both-parts (isMessage wish k) (all (isMessage wish) ks) q in
+      absurd (uiz≢uih c (k .heading) (first-same c (k .heading) [] (tail-of k ks d) (e ∙ all-first k ks d)) tc (to-parts wish k (v .0) .tag))
+  same-messages wish (m ∷ ms) [] p q e =
+      let v = both-parts (isMessage wish m) (all (isMessage wish) ms) p in
+      absurd (uiz≢uih d (m .heading) (first-same d (m .heading) [] (tail-of m ms c) (sym e ∙ all-first m ms c)) td (to-parts wish m (v .0) .tag))
+  same-messages wish (m ∷ ms) (k ∷ ks) p q e =
+      let v = both-parts (isMessage wish m) (all (isMessage wish) ms) p in
+      let w = both-parts (isMessage wish k) (all (isMessage wish) ks) q in
+      let a = to-parts wish m (v .0) in
+      let b = to-parts wish k (w .0) in
       let s = sym (all-first m ms c) ∙ e ∙ all-first k ks d in
       let x = same-within (m .within) (k .within) (m .trailer) (k .trailer) (all-of ms c) (all-of ks d) (a .rest .inner) (b .rest .inner) (a .rest .trailer) (b .rest .trailer)
       (rest-same (m .heading) (k .heading) (tail-of m ms c) (tail-of k ks d) s) in
-      let y = same-messages ms ks (v .1) (w .1) (x .2) in
+      let y = same-messages wish ms ks (v .1) (w .1) (x .2) in
       let z = message-same m k (first-same (m .heading) (k .heading) (tail-of m ms c) (tail-of k ks d) s) (x .0) (x .1) in
       (ap (λ (l : Message). l ∷ ms) z ∙ ap (λ (l : List Message). k ∷ l) (y .0), y .1)
 
@@ -129,35 +129,35 @@ all-append (g ∷ gs) hs p q =
     let u = both-parts (isSegment g) (all isSegment gs) p in
     rw (u .0) (all-append gs hs (u .1) q)
 
-messages-segments : (ms : List Message) → all isMessage ms ≡ true → all isSegment (eachOf segmentsIn ms) ≡ true
-messages-segments [] p = refl
-messages-segments (m ∷ ms) p =
-    let u = both-parts (isMessage m) (all isMessage ms) p in
-    let a = to-parts m (u .0) in
-    all-append (segmentsIn m) (eachOf segmentsIn ms) (rw (a .segment) (a .rest .segments)) (messages-segments ms (u .1))
+messages-segments : (wish : Bool) (ms : List Message) → all (isMessage wish) ms ≡ true → all isSegment (eachOf segmentsIn ms) ≡ true
+messages-segments wish [] p = refl
+messages-segments wish (m ∷ ms) p =
+    let u = both-parts (isMessage wish m) (all (isMessage wish) ms) p in
+    let a = to-parts wish m (u .0) in
+    all-append (segmentsIn m) (eachOf segmentsIn ms) (rw (a .segment) (a .rest .segments)) (messages-segments wish ms (u .1))
 
-module _ (x : Interchange) (h : rulesHold x ≡ true) where
+module _ (wish : Bool) (x : Interchange) (h : rulesHold wish x ≡ true) where
   abbrev n : ℕ
   n = length (x .messages)
 
   closing-parts : (isSegment (x .closing) ≡ true) × (eqb (tagNumber (x .closing)) UIZ ≡ true)
   closing-parts =
-      let r = to-rules x h in
+      let r = to-rules wish x h in
       let u = both-parts (isSegment (x .closing)) (both (eqb (tagNumber (x .closing)) UIZ) (uizOf (x .closing) (referenceIn (x .opening)) n)) (r .closing) in
       let v = both-parts (eqb (tagNumber (x .closing)) UIZ) (uizOf (x .closing) (referenceIn (x .opening)) n) (u .1) in
       (u .0, v .0)
 
   all-segments : all isSegment (segmentsOf x) ≡ true
   all-segments =
-      let r = to-rules x h in
-      rw (r .segment) (all-append (eachOf segmentsIn (x .messages)) (x .closing ∷ []) (messages-segments (x .messages) (r .messages)) (rw (closing-parts .0)))
+      let r = to-rules wish x h in
+      rw (r .segment) (all-append (eachOf segmentsIn (x .messages)) (x .closing ∷ []) (messages-segments wish (x .messages) (r .messages)) (rw (closing-parts .0)))
 
-pub same-parts : (x y : Interchange) → rulesHold x ≡ true → rulesHold y ≡ true → segmentsWritten (segmentsOf x) ≡ segmentsWritten (segmentsOf y) → x ≡ y
-same-parts x y h k e =
-    let s = same-segments (segmentsOf x) (segmentsOf y) (all-segments x h) (all-segments y k) e in
+pub same-parts : (wish : Bool) (x y : Interchange) → rulesHold wish x ≡ true → rulesHold wish y ≡ true → segmentsWritten (segmentsOf x) ≡ segmentsWritten (segmentsOf y) → x ≡ y
+same-parts wish x y h k e =
+    let s = same-segments (segmentsOf x) (segmentsOf y) (all-segments wish x h) (all-segments wish y k) e in
     let o = first-same (x .opening) (y .opening) (eachOf segmentsIn (x .messages) ++ (x .closing ∷ [])) (eachOf segmentsIn (y .messages) ++ (y .closing ∷ [])) s in
     let t = rest-same (x .opening) (y .opening) (eachOf segmentsIn (x .messages) ++ (x .closing ∷ [])) (eachOf segmentsIn (y .messages) ++ (y .closing ∷ [])) s in
-    let m = same-messages (x .closing) (y .closing) (closing-parts x h .1) (closing-parts y k .1) (x .messages) (y .messages) (to-rules x h .messages) (to-rules y k .messages) t in
+    let m = same-messages (x .closing) (y .closing) (closing-parts wish x h .1) (closing-parts wish y k .1) wish (x .messages) (y .messages) (to-rules wish x h .messages) (to-rules wish y k .messages) t in
     ap (λ (z : List ℕ). record { opening = z; messages = x .messages; closing = x .closing }) o
     ∙ ap (λ (z : List Message). record { opening = y .opening; messages = z; closing = x .closing }) (m .0)
     ∙ ap (λ (z : List ℕ). record { opening = y .opening; messages = y .messages; closing = z }) (m .1)

@@ -69,14 +69,14 @@ module _ (s : List ℕ) (st : State) (at : ℕ) (g : List ℕ) where
   judged-good q group (period.Good a n form) e = refl
   judged-good q group (period.Wrong x) e = absurd (false≢true e)
 
-  pub within-goes : st .phase ≡ Inside → (q : Place) → fits q → isTrailer g ≡ false → goodContents (st .message) (g, Placed q) ≡ true
+  pub within-goes : st .phase ≡ Inside → (q : Place) → fits q → isTrailer g ≡ false → goodContents (st .wish) (st .message) (g, Placed q) ≡ true
       → stepAt s st at g ≡ done (taken (onwardState st q) (rowOf at g (groupOf (tableOf (st .message)) q)))
   unfolding stepBy insideMessage placed
   within-goes f q e t c =
       ap by f
       ∙ ap (settledStep (tableOf (st .message)) st at g (headedReference s st)) e
       ∙ choose (isPeriod (st .message) (tagNumber g) (groupOf (tableOf (st .message)) q))
-      (λ p. rw (t, p) (judged-good q (groupOf (tableOf (st .message)) q) (periodOf g) (rw p at c)))
+      (λ p. rw (t, p) (judged-good q (groupOf (tableOf (st .message)) q) (periodOf (st .wish) g) (rw p at c)))
       (λ p. rw (t, p))
 
   pub trailer-goes : st .phase ≡ Inside → (q : Place) → fits q → isTrailer g ≡ true → uitOf g (headedReference s st) (oneMore (st .segments)) ≡ true
@@ -131,7 +131,7 @@ module _ (s : List ℕ) (st : State) (at : ℕ) (g : List ℕ) where
         (λ t. absurd (refused≢done (rw (n, t) at w))))
 
     pub data Moves : Type 0 where
-      onward : (q : Place) → fits q → isTrailer g ≡ false → goodContents (st .message) (g, Placed q) ≡ true → next ≡ onwardState st q → Moves
+      onward : (q : Place) → fits q → isTrailer g ≡ false → goodContents (st .wish) (st .message) (g, Placed q) ≡ true → next ≡ onwardState st q → Moves
       ends : (q : Place) → fits q → isTrailer g ≡ true → uitOf g (headedReference s st) (oneMore (st .segments)) ≡ true → next ≡ endedState st q → Moves
 
     judged-is : (q : Place) (group : ℕ) (x : Period) → judged st at g q group x ≡ done (taken next r) → (isGood x ≡ true) × (next ≡ onwardState st q)
@@ -150,7 +150,7 @@ module _ (s : List ℕ) (st : State) (at : ℕ) (g : List ℕ) where
         (λ u. absurd (refused≢done (rw (t, u) at q))))
         (λ t.
         choose (isPeriod (st .message) (tagNumber g) (groupOf (tableOf (st .message)) p))
-        (λ c. let j = judged-is p (groupOf (tableOf (st .message)) p) (periodOf g) (rw (t, c) at q) in onward p e t (rw c (j .0)) (j .1))
+        (λ c. let j = judged-is p (groupOf (tableOf (st .message)) p) (periodOf (st .wish) g) (rw (t, c) at q) in onward p e t (rw c (j .0)) (j .1))
         (λ c. onward p e t (rw c) (next-is (onwardState st p) next (rowOf at g (groupOf (tableOf (st .message)) p)) r (rw (t, c) at q))))
 
     pub moves : st .phase ≡ Inside → stepAt s st at g ≡ done (taken next r) → Moves

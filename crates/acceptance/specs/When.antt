@@ -1,7 +1,7 @@
 -- An interchange is read to its end, and its rows are those of its segments.
 -- Assumes nothing.
 use mathlib.Core.Path.{_≡_, refl, sym, ap, subst, _∙_}
-use mathlib.Core.Bool.{true}
+use mathlib.Core.Bool.{Bool, true}
 use mathlib.Core.List.{List, [], _∷_, _++_, map, append-assoc}
 use Prim.Native.Nat.{ℕ, _+_, _-_, _≤_, _<_}
 use native.Mathlib.Omega.{arith}
@@ -72,8 +72,9 @@ dialogue-is s st at g rest p e q =
 pub regroup : {A : Type 0} (a : List A) (b : A) (c d : List A) → a ++ (b ∷ []) ++ c ++ d ≡ a ++ (b ∷ (c ++ d))
 regroup a b c d = append-assoc (a ++ (b ∷ [])) c d ∙ append-assoc a (b ∷ []) (c ++ d)
 
--- between messages, n having come, in a dialogue d
-pub record After (s : List ℕ) (st : State) (at : ℕ) (d : List ℕ) (n : ℕ) : Type 0 where
+-- between messages, n having come, in a dialogue d, for a caller with a wish
+pub record After (wish : Bool) (s : List ℕ) (st : State) (at : ℕ) (d : List ℕ) (n : ℕ) : Type 0 where
+  pub wished : st .wish ≡ wish
   pub phase-is : st .phase ≡ Between
   pub dialogue : dialogueOf s st ≡ d
   pub count : st .messages ≡ n
@@ -90,26 +91,26 @@ known-is headed.Unknown e = absurd (false≢true e)
 
 module _ (s : List ℕ) (small : length s ≤ 60000) where
   -- what follows a message is read from wherever the message ends
-  abbrev Follows : List ℕ → ℕ → List (List ℕ) → List (List ℕ × ℕ) → Type 0
-  Follows d n rest l = (st : State) (at : ℕ) → After s st at d n → drop at s ≡ segmentsWritten rest → Reads s st at l
+  abbrev Follows : Bool → List ℕ → ℕ → List (List ℕ) → List (List ℕ × ℕ) → Type 0
+  Follows wish d n rest l = (st : State) (at : ℕ) → After wish s st at d n → drop at s ≡ segmentsWritten rest → Reads s st at l
 
   module _ (rest : List (List ℕ)) (l : List (List ℕ × ℕ)) (last : List ℕ) where
-    within-reads : (gs : List (List ℕ)) (st : State) (at : ℕ) → st .phase ≡ Inside → Within (st .message) (st .place) (st .segments) (headedReference s st) gs last
-        → st .messages ≤ at → st .segments ≤ at → drop at s ≡ segmentsWritten (gs ++ (last ∷ rest)) → Follows (dialogueOf s st) (st .messages + 1) rest l
+    within-reads : (gs : List (List ℕ)) (st : State) (at : ℕ) → st .phase ≡ Inside → Within (st .wish) (st .message) (st .place) (st .segments) (headedReference s st) gs last
+        → st .messages ≤ at → st .segments ≤ at → drop at s ≡ segmentsWritten (gs ++ (last ∷ rest)) → Follows (st .wish) (dialogueOf s st) (st .messages + 1) rest l
         → Reads s st at (map (withGroup (tableOf (st .message))) (placesFrom (tableOf (st .message)) (Placed (st .place)) (gs ++ (last ∷ []))) ++ l)
     unfolding segmentsWritten placesFrom
     within-reads [] st at f w a b e follows =
-        let x = to-last (st .message) (st .place) (st .segments) (headedReference s st) last w in
+        let x = to-last (st .wish) (st .message) (st .place) (st .segments) (headedReference s st) last w in
         let n = segment-fits s at last (segmentsWritten rest) e in
         let o = one-more (st .segments) (omega arith) in
         let q = trailer-goes s st at last f (x .place) (x .fits) (x .trailer) (ap (uitOf last (headedReference s st)) o ∙ x .counted) in
         rw (x .fits)
         (reads-one s st at last (segmentsWritten rest) e (x .segment) (endedState st (x .place)) (groupOf (tableOf (st .message)) (x .place)) q l
         (follows (endedState st (x .place)) (at + length last + 1)
-        (record { phase-is = refl; dialogue = refl; count = one-more (st .messages) (omega arith); few = omega arith })
+        (record { wished = refl; phase-is = refl; dialogue = refl; count = one-more (st .messages) (omega arith); few = omega arith })
         (after-segment s at last (segmentsWritten rest) e)))
     within-reads (g ∷ gs) st at f w a b e follows =
-        let x = to-front (st .message) (st .place) (st .segments) (headedReference s st) last g gs w in
+        let x = to-front (st .wish) (st .message) (st .place) (st .segments) (headedReference s st) last g gs w in
         let n = segment-fits s at g (segmentsWritten (gs ++ (last ∷ rest))) e in
         let o = one-more (st .segments) (omega arith) in
         let q = within-goes s st at g f (x .place) (x .fits) (x .inner) (x .contents) in
@@ -117,19 +118,19 @@ module _ (s : List ℕ) (small : length s ≤ 60000) where
         (reads-one s st at g (segmentsWritten (gs ++ (last ∷ rest))) e (x .segment) (onwardState st (x .place)) (groupOf (tableOf (st .message)) (x .place)) q
         (map (withGroup (tableOf (st .message))) (placesFrom (tableOf (st .message)) (Placed (x .place)) (gs ++ (last ∷ []))) ++ l)
         (within-reads gs (onwardState st (x .place)) (at + length g + 1) refl
-        (subst (λ (c : ℕ). Within (st .message) (x .place) c (headedReference s st) gs last) (sym o) (x .rest))
+        (subst (λ (c : ℕ). Within (st .wish) (st .message) (x .place) c (headedReference s st) gs last) (sym o) (x .rest))
         (omega arith) (subst (λ (c : ℕ). c ≤ at + length g + 1) (sym o) (omega arith))
         (after-segment s at g (segmentsWritten (gs ++ (last ∷ rest))) e) follows))
 
   -- one message before what follows it
-  module _ (d : List ℕ) (rest : List (List ℕ)) (l : List (List ℕ × ℕ)) (m : Message) (n : ℕ) (st : State) (at : ℕ) (a : After s st at d n) where
+  module _ (wish : Bool) (d : List ℕ) (rest : List (List ℕ)) (l : List (List ℕ × ℕ)) (m : Message) (n : ℕ) (st : State) (at : ℕ) (a : After wish s st at d n) where
     abbrev after : List ℕ
     after = segmentsWritten (m .within ++ (m .trailer ∷ rest))
 
     abbrev groupsBy : MessageType → List (List ℕ × ℕ)
     groupsBy message = map (withGroup (tableOf message)) (placesFrom (tableOf message) (Placed startPlace) (m .within ++ (m .trailer ∷ [])))
 
-    heading-reads : (k : MessageType) (p : Part) → uihOf (m .heading) ≡ headed.Message k p → Parts m → drop at s ≡ m .heading ++ (39 ∷ after) → Follows d (n + 1) rest l
+    heading-reads : (k : MessageType) (p : Part) → uihOf (m .heading) ≡ headed.Message k p → Parts wish m → drop at s ≡ m .heading ++ (39 ∷ after) → Follows wish d (n + 1) rest l
         → Reads s (headedState st at k p) (at + length (m .heading) + 1) (groupsBy k ++ l)
     heading-reads k p q w e follows =
         let i = segment-fits s at (m .heading) after e in
@@ -137,17 +138,18 @@ module _ (s : List ℕ) (small : length s ≤ 60000) where
         let o = a .count in
         let r = sym (reference-is s st at (m .heading) after k p e q) in
         within-reads rest l (m .trailer) (m .within) (headedState st at k p) (at + length (m .heading) + 1) refl
-        (subst (λ (y : List ℕ). Within k startPlace 1 y (m .within) (m .trailer)) r
-        (subst (λ (y : MessageType). Within y startPlace 1 (referenceIn (m .heading)) (m .within) (m .trailer)) (ap typeIn q) (w .rest)))
+        (subst (λ (y : Bool). Within y k startPlace 1 (headedReference s (headedState st at k p)) (m .within) (m .trailer)) (sym (a .wished))
+        (subst (λ (y : List ℕ). Within wish k startPlace 1 y (m .within) (m .trailer)) r
+        (subst (λ (y : MessageType). Within wish y startPlace 1 (referenceIn (m .heading)) (m .within) (m .trailer)) (ap typeIn q) (w .rest))))
         (omega arith) (omega arith) (after-segment s at (m .heading) after e)
         (λ st₁ at₁ t y.
         follows st₁ at₁
-        (record { phase-is = t .phase-is; dialogue = t .dialogue ∙ a .dialogue; count = t .count ∙ ap (λ (x : ℕ). x + 1) o; few = subst (λ (x : ℕ). x + 1 ≤ at₁) o (t .few) })
+        (record { wished = t .wished ∙ a .wished; phase-is = t .phase-is; dialogue = t .dialogue ∙ a .dialogue; count = t .count ∙ ap (λ (x : ℕ). x + 1) o; few = subst (λ (x : ℕ). x + 1 ≤ at₁) o (t .few) })
         y)
 
-    message-reads : isMessage m ≡ true → drop at s ≡ m .heading ++ (39 ∷ after) → Follows d (n + 1) rest l → Reads s st at ((m .heading, 0) ∷ (groupsBy (messageTypeOf m) ++ l))
+    message-reads : isMessage wish m ≡ true → drop at s ≡ m .heading ++ (39 ∷ after) → Follows wish d (n + 1) rest l → Reads s st at ((m .heading, 0) ∷ (groupsBy (messageTypeOf m) ++ l))
     message-reads h e follows =
-        let w = to-parts m h in
+        let w = to-parts wish m h in
         let x = known-is (uihOf (m .heading)) (w .named) in
         reads-one s st at (m .heading) after e (w .segment) (headedState st at (x .0) (x .1)) 0
         (heading-goes s st at (m .heading) (a .phase-is) (w .tag) (x .0) (x .1) (x .2))
@@ -155,8 +157,8 @@ module _ (s : List ℕ) (small : length s ≤ 60000) where
         (subst (λ (y : MessageType). Reads s (headedState st at (x .0) (x .1)) (at + length (m .heading) + 1) (groupsBy y ++ l)) (sym (ap typeIn (x .2)))
         (heading-reads (x .0) (x .1) (x .2) w e follows))
 
-  module _ (d closing : List ℕ) where
-    closing-reads : (n : ℕ) (st : State) (at : ℕ) → After s st at d n → 0 < n → goodClosing closing d n ≡ true → drop at s ≡ closing ++ (39 ∷ [])
+  module _ (wish : Bool) (d closing : List ℕ) where
+    closing-reads : (n : ℕ) (st : State) (at : ℕ) → After wish s st at d n → 0 < n → goodClosing closing d n ≡ true → drop at s ≡ closing ++ (39 ∷ [])
         → Reads s st at ((closing, 0) ∷ [])
     unfolding rowsFrom
     closing-reads n st at a z c e =
@@ -170,7 +172,7 @@ module _ (s : List ℕ) (small : length s ≤ 60000) where
         (closing-goes s st at closing (a .phase-is) (ap (λ (x : ℕ). eqb x UIH) t) (v .0) (lt-ltb 0 (st .messages) (omega arith)) y) []
         (λ f l. read-accepted f s (closedState st) (at + length closing + 1) (omega arith) (omega arith) l refl)
 
-    messages-read : (ms : List Message) (n : ℕ) (st : State) (at : ℕ) → After s st at d n → all isMessage ms ≡ true → 0 < n + length ms
+    messages-read : (ms : List Message) (n : ℕ) (st : State) (at : ℕ) → After wish s st at d n → all (isMessage wish) ms ≡ true → 0 < n + length ms
         → goodClosing closing d (n + length ms) ≡ true → drop at s ≡ segmentsWritten (eachOf segmentsIn ms ++ (closing ∷ []))
         → Reads s st at (eachOf groupsIn ms ++ ((closing, 0) ∷ []))
     unfolding segmentsWritten
@@ -178,55 +180,55 @@ module _ (s : List ℕ) (small : length s ≤ 60000) where
         let k : n + 0 ≡ n = omega arith in
         closing-reads n st at a (omega arith) (ap (goodClosing closing d) (sym k) ∙ c) e
     messages-read (m ∷ ms) n st at a h z c e =
-        let u = both-parts (isMessage m) (all isMessage ms) h in
+        let u = both-parts (isMessage wish m) (all (isMessage wish) ms) h in
         let rest = eachOf segmentsIn ms ++ (closing ∷ []) in
         let l = eachOf groupsIn ms ++ ((closing, 0) ∷ []) in
         let b : n + 1 + length ms ≡ n + length (m ∷ ms) = omega arith in
         rw (append-assoc (groupsIn m) (eachOf groupsIn ms) ((closing, 0) ∷ []))
-        (message-reads d rest l m n st at a (u .0)
+        (message-reads wish d rest l m n st at a (u .0)
         (e ∙ ap (λ (y : List (List ℕ)). m .heading ++ (39 ∷ segmentsWritten y)) (regroup (m .within) (m .trailer) (eachOf segmentsIn ms) (closing ∷ [])))
         (λ st₁ at₁ t q. messages-read ms (n + 1) st₁ at₁ t (u .1) (omega arith) (ap (goodClosing closing d) b ∙ c) q))
 
 -- the rules one by one
-pub record Rules (x : Interchange) : Type 0 where
+pub record Rules (wish : Bool) (x : Interchange) : Type 0 where
   pub segment : isSegment (x .opening) ≡ true
   pub tag : eqb (tagNumber (x .opening)) UIB ≡ true
   pub named : names (uibOf (x .opening)) ≡ true
   pub some : ltb 0 (length (x .messages)) ≡ true
-  pub messages : all isMessage (x .messages) ≡ true
+  pub messages : all (isMessage wish) (x .messages) ≡ true
   pub closing : goodClosing (x .closing) (referenceIn (x .opening)) (length (x .messages)) ≡ true
 
-pub to-rules : (x : Interchange) → rulesHold x ≡ true → Rules x
+pub to-rules : (wish : Bool) (x : Interchange) → rulesHold wish x ≡ true → Rules wish x
 unfolding rulesHold
-to-rules x h =
+to-rules wish x h =
     let g = x .opening in
     let n = length (x .messages) in
     let d = referenceIn (x .opening) in
-    let a = both-parts (goodOpening g) (both (ltb 0 n) (both (all isMessage (x .messages)) (goodClosing (x .closing) d n))) h in
-    let b = both-parts (ltb 0 n) (both (all isMessage (x .messages)) (goodClosing (x .closing) d n)) (a .1) in
-    let c = both-parts (all isMessage (x .messages)) (goodClosing (x .closing) d n) (b .1) in
+    let a = both-parts (goodOpening g) (both (ltb 0 n) (both (all (isMessage wish) (x .messages)) (goodClosing (x .closing) d n))) h in
+    let b = both-parts (ltb 0 n) (both (all (isMessage wish) (x .messages)) (goodClosing (x .closing) d n)) (a .1) in
+    let c = both-parts (all (isMessage wish) (x .messages)) (goodClosing (x .closing) d n) (b .1) in
     let o = both-parts (isSegment g) (both (eqb (tagNumber g) UIB) (names (uibOf g))) (a .0) in
     let t = both-parts (eqb (tagNumber g) UIB) (names (uibOf g)) (o .1) in
     record { segment = o .0; tag = t .0; named = t .1; some = b .0; messages = c .0; closing = c .1 }
 
-pub from-rules : (x : Interchange) → Rules x → rulesHold x ≡ true
+pub from-rules : (wish : Bool) (x : Interchange) → Rules wish x → rulesHold wish x ≡ true
 unfolding rulesHold
-from-rules x r = rw (r .segment, r .tag, r .named, r .some, r .messages) (r .closing)
+from-rules wish x r = rw (r .segment, r .tag, r .named, r .some, r .messages) (r .closing)
 
 -- the whole
-module _ (s : List ℕ) (x : Interchange) (e : s ≡ segmentsWritten (segmentsOf x)) where
-  opening-reads : length s ≤ 60000 → Rules x → Reads s openingState 0 ((x .opening, 0) ∷ (eachOf groupsIn (x .messages) ++ ((x .closing, 0) ∷ [])))
+module _ (wish : Bool) (s : List ℕ) (x : Interchange) (e : s ≡ segmentsWritten (segmentsOf x)) where
+  opening-reads : length s ≤ 60000 → Rules wish x → Reads s (openingState wish) 0 ((x .opening, 0) ∷ (eachOf groupsIn (x .messages) ++ ((x .closing, 0) ∷ [])))
   unfolding segmentsWritten
   opening-reads small r =
       let rest = segmentsWritten (eachOf segmentsIn (x .messages) ++ (x .closing ∷ [])) in
       let p = named-is (uibOf (x .opening)) (r .named) in
       let n : 0 + length (x .messages) ≡ length (x .messages) = omega arith in
       let z = ltb-true 0 (length (x .messages)) (r .some) in
-      reads-one s openingState 0 (x .opening) rest e (r .segment) (openedState openingState 0 (p .0)) 0
-      (opening-goes s openingState 0 (x .opening) refl (r .tag) (p .0) (p .1))
+      reads-one s (openingState wish) 0 (x .opening) rest e (r .segment) (openedState (openingState wish) 0 (p .0)) 0
+      (opening-goes s (openingState wish) 0 (x .opening) refl (r .tag) (p .0) (p .1))
       (eachOf groupsIn (x .messages) ++ ((x .closing, 0) ∷ []))
-      (messages-read s small (referenceIn (x .opening)) (x .closing) (x .messages) 0 (openedState openingState 0 (p .0)) (0 + length (x .opening) + 1)
-      (record { phase-is = refl; dialogue = dialogue-is s openingState 0 (x .opening) rest (p .0) e (p .1); count = refl; few = omega arith })
+      (messages-read s small wish (referenceIn (x .opening)) (x .closing) (x .messages) 0 (openedState (openingState wish) 0 (p .0)) (0 + length (x .opening) + 1)
+      (record { wished = refl; phase-is = refl; dialogue = dialogue-is s (openingState wish) 0 (x .opening) rest (p .0) e (p .1); count = refl; few = omega arith })
       (r .messages) (omega arith) (ap (goodClosing (x .closing) (referenceIn (x .opening))) n ∙ r .closing)
       (after-segment s 0 (x .opening) rest e))
 
@@ -236,7 +238,7 @@ module _ (s : List ℕ) (x : Interchange) (e : s ≡ segmentsWritten (segmentsOf
       let n = segment-fits s 0 (x .opening) (segmentsWritten (eachOf segmentsIn (x .messages) ++ (x .closing ∷ []))) e in
       omega arith
 
-  pub reads-all : rulesHold x ≡ true → length s ≤ 60000 → readingOf s ≡ record { rows = rowsOf x; verdict = accepted }
+  pub reads-all : rulesHold wish x ≡ true → length s ≤ 60000 → readingOf wish s ≡ record { rows = rowsOf x; verdict = accepted }
   reads-all h small =
       let b = some-bytes in
-      sym (sized-read s (λ z. omega arith) small) ∙ opening-reads small (to-rules x h) (length s + 1) (omega arith)
+      sym (sized-read wish s (λ z. omega arith) small) ∙ opening-reads small (to-rules wish x h) (length s + 1) (omega arith)

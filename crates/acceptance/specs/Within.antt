@@ -1,7 +1,7 @@
 -- The segments of a message after its UIH, one taken from the front or put there.
 -- Assumes nothing.
 use mathlib.Core.Path.{_≡_, refl, sym, ap, _∙_}
-use mathlib.Core.Bool.{true, false, not}
+use mathlib.Core.Bool.{Bool, true, false, not}
 use mathlib.Core.List.{List, [], _∷_, _++_}
 use Prim.Native.Nat.{ℕ, _+_}
 use native.Mathlib.Omega.{arith}
@@ -26,15 +26,15 @@ placed-is (Placed q) e = (q, refl)
 placed-is OutOfPlace e = absurd (false≢true e)
 
 -- segments of a message of type k that come after the place p, c segments having come; r is the reference of the UIH
-pub record Within (k : MessageType) (p : Place) (c : ℕ) (r : List ℕ) (gs : List (List ℕ)) (last : List ℕ) : Type 0 where
+pub record Within (wish : Bool) (k : MessageType) (p : Place) (c : ℕ) (r : List ℕ) (gs : List (List ℕ)) (last : List ℕ) : Type 0 where
   pub segments : all isSegment (gs ++ (last ∷ [])) ≡ true
   pub inner : all goesBefore gs ≡ true
   pub placed : all hasPlace (placesFrom (tableOf k) (Placed p) (gs ++ (last ∷ []))) ≡ true
-  pub contents : all (goodContents k) (placesFrom (tableOf k) (Placed p) gs) ≡ true
+  pub contents : all (goodContents wish k) (placesFrom (tableOf k) (Placed p) gs) ≡ true
   pub trailer : isTrailer last ≡ true
   pub counted : uitOf last r (c + length gs + 1) ≡ true
 
-module _ (k : MessageType) (p : Place) (c : ℕ) (r : List ℕ) (last : List ℕ) where
+module _ (wish : Bool) (k : MessageType) (p : Place) (c : ℕ) (r : List ℕ) (last : List ℕ) where
   -- the UIT alone
   pub record Last : Type 0 where
     pub segment : isSegment last ≡ true
@@ -43,7 +43,7 @@ module _ (k : MessageType) (p : Place) (c : ℕ) (r : List ℕ) (last : List ℕ
     pub trailer : isTrailer last ≡ true
     pub counted : uitOf last r (c + 1) ≡ true
 
-  pub to-last : Within k p c r [] last → Last
+  pub to-last : Within wish k p c r [] last → Last
   unfolding placesFrom
   to-last w =
       let q = placed-is (stepOf (tableOf k) p (tagNumber last)) (both-parts (isPlaced (stepOf (tableOf k) p (tagNumber last))) true (w .placed) .0) in
@@ -56,7 +56,7 @@ module _ (k : MessageType) (p : Place) (c : ℕ) (r : List ℕ) (last : List ℕ
         counted = ap (uitOf last r) (sym n) ∙ w .counted;
       }
 
-  pub from-last : Last → Within k p c r [] last
+  pub from-last : Last → Within wish k p c r [] last
   unfolding placesFrom
   from-last w =
       let n : c + 0 + 1 ≡ c + 1 = omega arith in
@@ -76,16 +76,16 @@ module _ (k : MessageType) (p : Place) (c : ℕ) (r : List ℕ) (last : List ℕ
       pub place : Place
       pub fits : stepOf (tableOf k) p (tagNumber g) ≡ Placed place
       pub inner : isTrailer g ≡ false
-      pub contents : goodContents k (g, Placed place) ≡ true
-      pub rest : Within k place (c + 1) r gs last
+      pub contents : goodContents wish k (g, Placed place) ≡ true
+      pub rest : Within wish k place (c + 1) r gs last
 
-    pub to-front : Within k p c r (g ∷ gs) last → Front
+    pub to-front : Within wish k p c r (g ∷ gs) last → Front
     unfolding placesFrom
     to-front w =
         let x = stepOf (tableOf k) p (tagNumber g) in
         let a = both-parts (isPlaced x) (all hasPlace (placesFrom (tableOf k) x (gs ++ (last ∷ [])))) (w .placed) in
         let q = placed-is x (a .0) in
-        let b = both-parts (goodContents k (g, x)) (all (goodContents k) (placesFrom (tableOf k) x gs)) (w .contents) in
+        let b = both-parts (goodContents wish k (g, x)) (all (goodContents wish k) (placesFrom (tableOf k) x gs)) (w .contents) in
         let d = both-parts (isSegment g) (all isSegment (gs ++ (last ∷ []))) (w .segments) in
         let e = both-parts (not (isTrailer g)) (all goesBefore gs) (w .inner) in
         let n : c + 1 + length gs + 1 ≡ c + length (g ∷ gs) + 1 = omega arith in
@@ -105,7 +105,7 @@ module _ (k : MessageType) (p : Place) (c : ℕ) (r : List ℕ) (last : List ℕ
           };
         }
 
-    pub from-front : Front → Within k p c r (g ∷ gs) last
+    pub from-front : Front → Within wish k p c r (g ∷ gs) last
     unfolding placesFrom
     from-front w =
         let n : c + length (g ∷ gs) + 1 ≡ c + 1 + length gs + 1 = omega arith in
@@ -119,20 +119,20 @@ module _ (k : MessageType) (p : Place) (c : ℕ) (r : List ℕ) (last : List ℕ
         }
 
 -- a message is its UIH and what is within
-pub record Parts (m : Message) : Type 0 where
+pub record Parts (wish : Bool) (m : Message) : Type 0 where
   pub segment : isSegment (m .heading) ≡ true
   pub tag : eqb (tagNumber (m .heading)) UIH ≡ true
   pub named : known (uihOf (m .heading)) ≡ true
-  pub rest : Within (messageTypeOf m) startPlace 1 (referenceIn (m .heading)) (m .within) (m .trailer)
+  pub rest : Within wish (messageTypeOf m) startPlace 1 (referenceIn (m .heading)) (m .within) (m .trailer)
 
-module _ (m : Message) where
-  pub to-parts : isMessage m ≡ true → Parts m
+module _ (wish : Bool) (m : Message) where
+  pub to-parts : isMessage wish m ≡ true → Parts wish m
   unfolding isMessage
   to-parts h =
-      let a = both-parts (all isSegment (segmentsIn m)) (both (goodHeading m) (both (goodPlaces m) (both (goodPeriods m) (goodTrailer m)))) h in
-      let b = both-parts (goodHeading m) (both (goodPlaces m) (both (goodPeriods m) (goodTrailer m))) (a .1) in
-      let c = both-parts (goodPlaces m) (both (goodPeriods m) (goodTrailer m)) (b .1) in
-      let d = both-parts (goodPeriods m) (goodTrailer m) (c .1) in
+      let a = both-parts (all isSegment (segmentsIn m)) (both (goodHeading m) (both (goodPlaces m) (both (goodPeriods wish m) (goodTrailer m)))) h in
+      let b = both-parts (goodHeading m) (both (goodPlaces m) (both (goodPeriods wish m) (goodTrailer m))) (a .1) in
+      let c = both-parts (goodPlaces m) (both (goodPeriods wish m) (goodTrailer m)) (b .1) in
+      let d = both-parts (goodPeriods wish m) (goodTrailer m) (c .1) in
       let s = both-parts (isSegment (m .heading)) (all isSegment (m .within ++ (m .trailer ∷ []))) (a .0) in
       let u = both-parts (eqb (tagNumber (m .heading)) UIH) (known (uihOf (m .heading))) (b .0) in
       let p = both-parts (all goesBefore (m .within)) (all hasPlace (placedSegments m)) (c .0) in
@@ -152,7 +152,7 @@ module _ (m : Message) where
         };
       }
 
-  pub from-parts : Parts m → isMessage m ≡ true
+  pub from-parts : Parts wish m → isMessage wish m ≡ true
   unfolding isMessage
   from-parts h =
       let w = h .rest in

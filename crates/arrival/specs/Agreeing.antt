@@ -11,7 +11,8 @@ use lib.Seq.{take-append-le, drop-append-le, drop-append-add, drop-drop}
 use borrow.Author.Tests.{lt-ltb, ne-eqb, lt-leb}
 use Rattle.laws.specs.Choice.{pick, choose}
 use Rattle.laws.specs.Lists.{drop-here, drop-past}
-use Rattle.answers.specs.Answers.{Answer, done, refused, wrongEnvelope}
+use Rattle.answers.specs.declared.Refusal.{Refusal}
+use Rattle.answers.specs.Answers.{Answer, done, refused, wrongEnvelope, naming, movedTo}
 use Rattle.syntax.specs.declared.segment.Scanned.{Scanned}
 use Rattle.syntax.specs.declared.segment.Scanned.the-variants.{End, NotPermitted, Unended, Malformed}
 use Rattle.syntax.specs.Bytes.{terminator}
@@ -63,9 +64,9 @@ agreed-by : (n : ℕ) {o p : Outcome} {b c : Brought} → p ≡ o → c ≡ b �
 agreed-by n {o} {p} {b} {c} e f w = subst (λ (x : Outcome). Agreed n x c) (sym e) (subst (Agreed n o) (sym f) w)
 
 -- a fault is final
-fault-agreed : (n k p : ℕ) (x : Stand) (rest : List ℕ)
-    → Agreed n (fault (refused k p)) (followed (only (answered x (refused k p))) (arrivedOn (answered x (refused k p)) rest))
-fault-agreed n k p x rest = agreed-by n refl (arrived-stays (answered x (refused k p)) (refused k p) refl rest) (record { rows = refl; end = refl })
+fault-agreed : (n : ℕ) (z : Refusal) (x : Stand) (rest : List ℕ)
+    → Agreed n (fault (refused z)) (followed (only (answered x (refused z))) (arrivedOn (answered x (refused z)) rest))
+fault-agreed n z x rest = agreed-by n refl (arrived-stays (answered x (refused z)) (refused z) refl rest) (record { rows = refl; end = refl })
 
 -- the references: a part that lies in a segment is the same part of the text from there on
 part-same : (g t : List ℕ) (p : Part) → Reference g p → bytesOf (g ++ t) p ≡ bytesOf g p
@@ -157,11 +158,11 @@ module _ (s : List ℕ) (f : ℕ)
           rows = ap (λ (l : List Row). row ∷ l) (j .rows);
           end = j .end ∙ ap (λ (k : ℕ). verdictOf k (readOn f s next (at + length g + 1) .verdict)) m;
         })
-    step-agreed (refused k p) z q r =
+    step-agreed (refused refusal) z q r =
         let x = lengthened (standing s st at n) g in
-        let a = alike-refused tables st (bare st) refl at at g (dialogueOf s st) (headedReference s st) k p q in
-        agreed-by n (ap (λ (v : ℕ). fault (refused k v)) (a .0)) (ap (λ (v : Answer Taken). followed (arrivedStep x g v) (arrivedOn (arrivedStep x g v .stand) rest)) (sym r ∙ a .1))
-        (fault-agreed n k at x rest)
+        let a = alike-refused tables st (bare st) refl at at g (dialogueOf s st) (headedReference s st) refusal q in
+        agreed-by n (ap (λ (v : ℕ). fault (refused (movedTo v refusal))) (a .0)) (ap (λ (v : Answer Taken). followed (arrivedStep x g v) (arrivedOn (arrivedStep x g v .stand) rest)) (sym r ∙ a .1))
+        (fault-agreed n (movedTo at refusal) x rest)
 
   -- by what the scan found
   scan-agreed : (rest : List ℕ) → drop at s ≡ bodyAt s at ++ (terminator ∷ rest) → fitsOn 0 false rest ≡ true → (x : Scanned) → segmentAt s at ≡ x
@@ -172,9 +173,9 @@ module _ (s : List ℕ) (f : ℕ)
       (ap (λ (i : ℕ). afterTurn (readOn f s) (turnStep (i + 1) (segmentStep tables st at (bodyAt s at) (dialogueOf s st) (headedReference s st)))) (ended s at k q .place))
       refl
       (step-agreed (bodyAt s at) rest e fits (segmentStep tables st at (bodyAt s at) (dialogueOf s st) (headedReference s st)) (segmentStep tables (bare st) at (bodyAt s at) (dialogueOf s st) (headedReference s st)) refl refl)
-  scan-agreed rest e fits (NotPermitted i) q = fault-agreed n 4 i (lengthened (standing s st at n) (bodyAt s at)) rest
-  scan-agreed rest e fits Unended q = fault-agreed n 5 at (lengthened (standing s st at n) (bodyAt s at)) rest
-  scan-agreed rest e fits Malformed q = fault-agreed n 6 at (lengthened (standing s st at n) (bodyAt s at)) rest
+  scan-agreed rest e fits (NotPermitted i) q = fault-agreed n (naming 4 i) (lengthened (standing s st at n) (bodyAt s at)) rest
+  scan-agreed rest e fits Unended q = fault-agreed n (naming 5 at) (lengthened (standing s st at n) (bodyAt s at)) rest
+  scan-agreed rest e fits Malformed q = fault-agreed n (naming 6 at) (lengthened (standing s st at n) (bodyAt s at)) rest
 
   module _ (unclosed : isClosed (st .phase) ≡ false) (here : at < length s) (fits : fitsOn 0 false (drop at s) ≡ true) where
     turn-taken : readOn (suc f) s st at ≡ afterTurn (readOn f s) (turnScan tables s st at (segmentAt s at))
@@ -240,7 +241,7 @@ past-agreed s st at n c h k =
     let b : byteOf x (getD s at 0) ≡ only (answered x (wrongEnvelope at)) = rw (lt-leb 60000 (at + 0) (omega arith), c) in
     agreed-by n refl
     (ap (arrivedOn x) (drop-here s at h) ∙ ap (λ (y : Brought). followed y (arrivedOn (y .stand) (drop (at + 1) s))) b)
-    (fault-agreed n 7 at x (drop (at + 1) s))
+    (fault-agreed n (naming 7 at) x (drop (at + 1) s))
 
 -- the text ends before a segment: it is whole after the UIZ, and 7 at its length else
 stop-agreed : (f : ℕ) (s : List ℕ) (st : State) (at n : ℕ) → 1 ≤ length s → length s < at + f → at ≤ length s → length s ≤ at

@@ -7,7 +7,8 @@ use Prim.Native.Nat.{ℕ, _≤_}
 use native.Mathlib.Omega.{arith}
 use lib.Dec.{eqb, ltb}
 use Rattle.laws.specs.Choice.{both, choose, false≢true}
-use Rattle.answers.specs.Answers.{Answer, done, refused}
+use Rattle.answers.specs.declared.Refusal.{Refusal}
+use Rattle.answers.specs.Answers.{Answer, done, refused, movedTo}
 use Rattle.syntax.specs.Segment.{tagNumber}
 use Rattle.messages.specs.Types.{isPeriod}
 use Rattle.messages.specs.Tags.{UIB, UIH, UIT, UIZ}
@@ -44,9 +45,9 @@ pub record SameTaken (f : Phase) (at at₂ : ℕ) (next : State) (row : Row) (ne
 -- two answers, from a phase on, at two offsets
 abbrev pub Alike : Phase → ℕ → ℕ → Answer Taken → Answer Taken → Type 0
 Alike f at at₂ (done (taken next row)) (done (taken next₂ row₂)) = SameTaken f at at₂ next row next₂ row₂
-Alike f at at₂ (done (taken next row)) (refused n p) = ⊥
-Alike f at at₂ (refused n p) (done (taken next row)) = ⊥
-Alike f at at₂ (refused n p) (refused n₂ p₂) = (n ≡ n₂) × (p ≡ at) × (p₂ ≡ at₂) × (7 ≤ n) × (n ≤ 10)
+Alike f at at₂ (done (taken next row)) (refused refusal) = ⊥
+Alike f at at₂ (refused refusal) (done (taken next row)) = ⊥
+Alike f at at₂ (refused x) (refused y) = (x .position ≡ at) × (y ≡ movedTo at₂ x) × (7 ≤ x .number) × (x .number ≤ 10)
 
 -- a state whose references stand where those of another do
 abbrev elsewhere : State → State → State
@@ -61,6 +62,7 @@ elsewhere st o =
       «headed_at» = o .«headed_at»;
       reference = o .reference;
       place = st .place;
+      wish = st .wish;
     }
 
 elsewhere-is : (st o : State) → bare st ≡ bare o → elsewhere st o ≡ o
@@ -75,41 +77,41 @@ module _ (st o : State) (at at₂ : ℕ) (g : List ℕ) where
 
   opened-alike : (x : Opened) → Alike Opening at at₂ (openedStep st at g x) (openedStep (elsewhere st o) at₂ g x)
   opened-alike (Dialogue p) = record { offset = refl; again = refl; states = refl; dialogues = λ _. refl; references = λ q. absurd (false≢true q) }
-  opened-alike Wrong = (refl, refl, refl, omega arith, omega arith)
+  opened-alike Wrong = (refl, refl, omega arith, omega arith)
 
   opening-alike : Alike Opening at at₂ (opening st at g) (opening (elsewhere st o) at₂ g)
   unfolding opening
-  opening-alike = choose (eqb (tagNumber g) UIB) (λ q. rw q (opened-alike (uibOf g))) (λ q. rw q (refl, refl, refl, omega arith, omega arith))
+  opening-alike = choose (eqb (tagNumber g) UIB) (λ q. rw q (opened-alike (uibOf g))) (λ q. rw q (refl, refl, omega arith, omega arith))
 
   headed-alike : (x : Headed) → Alike Between at at₂ (headed st at g x) (headed (elsewhere st o) at₂ g x)
   headed-alike (Message k p) = record { offset = refl; again = refl; states = refl; dialogues = λ q. absurd (false≢true q); references = λ _. refl }
-  headed-alike Missing = (refl, refl, refl, omega arith, omega arith)
-  headed-alike Unknown = (refl, refl, refl, omega arith, omega arith)
+  headed-alike Missing = (refl, refl, omega arith, omega arith)
+  headed-alike Unknown = (refl, refl, omega arith, omega arith)
 
   closing-alike : (d : List ℕ) → Alike Between at at₂ (closing st at g d) (closing (elsewhere st o) at₂ g d)
   unfolding closing
   closing-alike d =
       choose (both (ltb 0 (st .messages)) (uizOf g d (st .messages)))
       (λ q. rw q (other-alike Between Closed (st .messages) (st .segments) (st .place) 0 refl refl))
-      (λ q. rw q (refl, refl, refl, omega arith, omega arith))
+      (λ q. rw q (refl, refl, omega arith, omega arith))
 
   between-alike : (d : List ℕ) → Alike Between at at₂ (betweenMessages st at g d) (betweenMessages (elsewhere st o) at₂ g d)
   unfolding betweenMessages
   between-alike d =
       choose (eqb (tagNumber g) UIH) (λ q. rw q (headed-alike (uihOf g)))
-      (λ q. rw q (choose (eqb (tagNumber g) UIZ) (λ p. rw p (closing-alike d)) (λ p. rw p (refl, refl, refl, omega arith, omega arith))))
+      (λ q. rw q (choose (eqb (tagNumber g) UIZ) (λ p. rw p (closing-alike d)) (λ p. rw p (refl, refl, omega arith, omega arith))))
 
   judged-alike : (p : Place) (group : ℕ) (x : Period) → Alike Inside at at₂ (judged st at g p group x) (judged (elsewhere st o) at₂ g p group x)
   judged-alike p group (period.Good f n form) =
       other-alike Inside Inside (st .messages) (oneMore (st .segments)) p group refl refl
-  judged-alike p group (period.Wrong x) = (refl, refl, refl, omega arith, omega arith)
+  judged-alike p group (period.Wrong x) = (refl, refl, omega arith, omega arith)
 
   trailing-alike : (r : List ℕ) (p : Place) (group : ℕ) → Alike Inside at at₂ (trailing st at g r p group) (trailing (elsewhere st o) at₂ g r p group)
   unfolding trailing
   trailing-alike r p group =
       choose (uitOf g r (oneMore (st .segments)))
       (λ q. rw q (other-alike Inside Between (oneMore (st .messages)) (oneMore (st .segments)) p group refl refl))
-      (λ q. rw q (refl, refl, refl, omega arith, omega arith))
+      (λ q. rw q (refl, refl, omega arith, omega arith))
 
   placed-alike : (r : List ℕ) (group : ℕ) (p : Place) → Alike Inside at at₂ (placed st at g r group p) (placed (elsewhere st o) at₂ g r group p)
   unfolding placed
@@ -117,19 +119,19 @@ module _ (st o : State) (at at₂ : ℕ) (g : List ℕ) where
       choose (eqb (tagNumber g) UIT) (λ q. rw q (trailing-alike r p group))
       (λ q.
       rw q
-      (choose (isPeriod (st .message) (tagNumber g) group) (λ e. rw e (judged-alike p group (periodOf g)))
+      (choose (isPeriod (st .message) (tagNumber g) group) (λ e. rw e (judged-alike p group (periodOf (st .wish) g)))
       (λ e. rw e (other-alike Inside Inside (st .messages) (oneMore (st .segments)) p group refl refl))))
 
   settled-alike : (t : Table) (r : List ℕ) (x : Stepped) → Alike Inside at at₂ (settledStep t st at g r x) (settledStep t (elsewhere st o) at₂ g r x)
   settled-alike t r (Placed p) = placed-alike r (groupOf t p) p
-  settled-alike t r OutOfPlace = (refl, refl, refl, omega arith, omega arith)
+  settled-alike t r OutOfPlace = (refl, refl, omega arith, omega arith)
 
   phase-alike : (t : Table) (f : Phase) (d r : List ℕ) → Alike f at at₂ (stepBy t f st at g d r) (stepBy t f (elsewhere st o) at₂ g d r)
   unfolding stepBy insideMessage
   phase-alike t Opening d r = opening-alike
   phase-alike t Between d r = between-alike d
   phase-alike t Inside d r = settled-alike (tableIn t (st .message)) r (stepOf (tableIn t (st .message)) (st .place) (tagNumber g))
-  phase-alike t Closed d r = (refl, refl, refl, omega arith, omega arith)
+  phase-alike t Closed d r = (refl, refl, omega arith, omega arith)
 
 -- what is known of the second answer, where the first is known
 pub record Also (f : Phase) (at at₂ : ℕ) (next : State) (row : Row) (answer : Answer Taken) : Type 0 where
@@ -151,12 +153,11 @@ module _ (f : Phase) (at at₂ : ℕ) where
         dialogues = w .dialogues;
         references = w .references;
       }
-  also-done next row (refused n p) w = absurd w
+  also-done next row (refused refusal) w = absurd w
 
-  also-refused : (n p : ℕ) (y : Answer Taken) → Alike f at at₂ (refused n p) y → (p ≡ at) × (y ≡ refused n at₂) × (7 ≤ n) × (n ≤ 10)
-  also-refused n p (done (taken next row)) w = absurd w
-  also-refused n p (refused n₂ p₂) w =
-      (w .1, ap (λ (x : ℕ). refused x p₂) (sym (w .0)) ∙ ap (refused n) (w .2), w .3, w .4)
+  also-refused : (x : Refusal) (y : Answer Taken) → Alike f at at₂ (refused x) y → (x .position ≡ at) × (y ≡ refused (movedTo at₂ x)) × (7 ≤ x .number) × (x .number ≤ 10)
+  also-refused x (done (taken next row)) w = absurd w
+  also-refused x (refused y) w = (w .0, ap refused (w .1), w .2, w .3)
 
 -- the two steps, by any tables
 module _ (t : Table) (st st₂ : State) (same : bare st ≡ bare st₂) (at at₂ : ℕ) (g d r : List ℕ) where
@@ -170,16 +171,16 @@ module _ (t : Table) (st st₂ : State) (same : bare st ≡ bare st₂) (at at�
       also-done (st .phase) at at₂ next row (segmentStep t st₂ at₂ g d r)
       (subst (λ (x : Answer Taken). Alike (st .phase) at at₂ x (segmentStep t st₂ at₂ g d r)) e step-alike)
 
-  pub alike-refused : (n p : ℕ) → segmentStep t st at g d r ≡ refused n p → (p ≡ at) × (segmentStep t st₂ at₂ g d r ≡ refused n at₂)
-  alike-refused n p e =
-      let w = also-refused (st .phase) at at₂ n p (segmentStep t st₂ at₂ g d r)
+  pub alike-refused : (x : Refusal) → segmentStep t st at g d r ≡ refused x → (x .position ≡ at) × (segmentStep t st₂ at₂ g d r ≡ refused (movedTo at₂ x))
+  alike-refused x e =
+      let w = also-refused (st .phase) at at₂ x (segmentStep t st₂ at₂ g d r)
       (subst (λ (x : Answer Taken). Alike (st .phase) at at₂ x (segmentStep t st₂ at₂ g d r)) e step-alike) in
       (w .0, w .1)
 
 -- a refusal of a step is 7 to 10
-pub step-number : (t : Table) (st : State) (at : ℕ) (g d r : List ℕ) (n p : ℕ) → segmentStep t st at g d r ≡ refused n p → (7 ≤ n) × (n ≤ 10)
-step-number t st at g d r n p e =
-    let w = also-refused (st .phase) at at n p (segmentStep t st at g d r)
+pub step-number : (t : Table) (st : State) (at : ℕ) (g d r : List ℕ) (x : Refusal) → segmentStep t st at g d r ≡ refused x → (7 ≤ x .number) × (x .number ≤ 10)
+step-number t st at g d r x e =
+    let w = also-refused (st .phase) at at x (segmentStep t st at g d r)
     (subst (λ (x : Answer Taken). Alike (st .phase) at at x (segmentStep t st at g d r)) e (step-alike t st st refl at at g d r)) in
     (w .2, w .3)
 
@@ -192,7 +193,7 @@ pub record Kept (f : Phase) (st : State) (at : ℕ) (g : List ℕ) (next : State
 
 abbrev Keeps : Phase → State → ℕ → List ℕ → Answer Taken → Type 0
 Keeps f st at g (done (taken next row)) = Kept f st at g next
-Keeps f st at g (refused n p) = Unit {0}
+Keeps f st at g (refused refusal) = Unit {0}
 
 true≢false : true ≡ false → ⊥
 true≢false q = false≢true (sym q)
@@ -253,7 +254,7 @@ module _ (st : State) (at : ℕ) (g : List ℕ) where
       choose (eqb (tagNumber g) UIT) (λ q. rw q (trailing-keeps r p group))
       (λ q.
       rw q
-      (choose (isPeriod (st .message) (tagNumber g) group) (λ e. rw e (judged-keeps p group (periodOf g)))
+      (choose (isPeriod (st .message) (tagNumber g) group) (λ e. rw e (judged-keeps p group (periodOf (st .wish) g)))
       (λ e. rw e (other-keeps Inside Inside (st .messages) (oneMore (st .segments)) p refl refl))))
 
   settled-keeps : (t : Table) (r : List ℕ) (x : Stepped) → Keeps Inside st at g (settledStep t st at g r x)

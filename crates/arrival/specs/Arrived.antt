@@ -20,7 +20,7 @@ use Rattle.steps.specs.State.{openingState, oneMore}
 use Rattle.steps.specs.Step.{Taken, taken, segmentStep}
 use Rattle.interchange.specs.Reader.{isClosed}
 
--- the final answer, which later calls repeat: how many rows there were, or number and position
+-- the final answer, which later calls repeat: how many rows there were, or the refusal
 pub data Final : Type 0 where
   awaited : Final
   given : Answer ℕ → Final
@@ -40,11 +40,11 @@ pub record Stand : Type 0 where
   pub count : ℕ
   pub final : Final
 
--- before the first byte
-abbrev pub beginning : Stand
-beginning =
+-- before the first byte, for a caller with a wish
+abbrev pub beginning : Bool → Stand
+beginning wish =
     record {
-      state = openingState;
+      state = openingState wish;
       offset = 0;
       body = [];
       released = false;
@@ -109,6 +109,7 @@ bare st =
       «headed_at» = 0;
       reference = absent;
       place = st .place;
+      wish = st .wish;
     }
 
 -- whether a step from one phase to another read the UIB, or a UIH
@@ -149,12 +150,12 @@ arrivedStep x g (done (taken st r)) =
       opened = opens (x .state .phase);
       headed = heads (x .state .phase) (st .phase);
     }
-arrivedStep x g (refused number position) = only (answered x (refused number position))
+arrivedStep x g (refused refusal) = only (answered x (refused refusal))
 
 -- "a segment's other faults are named at its terminator": 4 and 6, then those of its step
 abbrev pub arrivedScan : Stand → List ℕ → Answer ℕ → Brought
 arrivedScan x g (done end) = arrivedStep x g (segmentStep tables (x .state) (x .offset) g (x .dialogue) (x .reference))
-arrivedScan x g (refused number position) = only (answered x (refused number position))
+arrivedScan x g (refused refusal) = only (answered x (refused refusal))
 
 abbrev pub arrivedSegment : Stand → List ℕ → Brought
 arrivedSegment x g = arrivedScan x g (bodyAnswer (arrivedBytes x + 1) (x .offset) g)
@@ -196,8 +197,8 @@ arrivedOn x [] = only x
 arrivedOn x (b ∷ l) = followed (byteOf x b) (arrivedOn (byteOf x b .stand) l)
 
 -- all that has arrived
-abbrev pub arrived : List ℕ → Brought
-arrived s = arrivedOn beginning s
+abbrev pub arrived : Bool → List ℕ → Brought
+arrived wish s = arrivedOn (beginning wish) s
 
 -- the input is over. "3 .. at the end of no bytes"; inside a segment 4, then 5; "Input that stops between segments before UIZ is 7 at its length."
 unfoldable pub awaitedEnd : Stand → Answer ℕ

@@ -9,9 +9,10 @@ use lib.Dec.{ltb, leb}
 use lib.ListN.{length, length-append}
 use borrow.Author.Tests.{lt-ltb, ltb-true}
 use Rattle.laws.specs.Choice.{pick, all, choose}
+use Rattle.answers.specs.Laws.{refused≢done}
 use Rattle.answers.specs.Answers.{Answer, done, refused, badSize, wrongEnvelope, segmentTooLong}
 use Rattle.syntax.specs.Bytes.{terminator, permittedOf, stands}
-use Rattle.syntax.specs.Segment.{wellFormed, permittedRun, bodyAnswer}
+use Rattle.syntax.specs.Segment.{wellFormed, bodyAnswer}
 use Rattle.syntax.specs.Ends.{end-within}
 use Rattle.steps.specs.Step.{Taken, taken, segmentStep}
 use Rattle.placing.specs.Tables.{tables}
@@ -29,14 +30,11 @@ picked n false a b t f = f refl
 
 step-room : (x : Stand) (g : List ℕ) (n : ℕ) → 4 ≤ n → (a : Answer Taken) → Room n (arrivedStep x g a)
 step-room x g n h (done (taken st r)) = omega arith
-step-room x g n h (refused number position) = omega arith
+step-room x g n h (refused refusal) = omega arith
 
 scan-room : (x : Stand) (g : List ℕ) (n : ℕ) (a : Answer ℕ) → ((e : ℕ) → a ≡ done e → 4 ≤ n) → Room n (arrivedScan x g a)
 scan-room x g n (done e) h = step-room x g n (h e refl) (segmentStep tables (x .state) (x .offset) g (x .dialogue) (x .reference))
-scan-room x g n (refused number position) h = omega arith
-
-refused≢done : (number position e : ℕ) → refused number position ≡ done e → ⊥
-refused≢done number position e q = let z : _≡_ {A = ℕ} 0 1 = cc in omega arith
+scan-room x g n (refused refusal) h = omega arith
 
 -- what an answer without a fault tells
 answer-told : (n at : ℕ) (g : List ℕ) (e : ℕ) → bodyAnswer n at g ≡ done e → (all permittedOf g ≡ true) × (ltb (at + length g) n ≡ true) × (wellFormed g ≡ true)
@@ -45,9 +43,9 @@ answer-told n at g e q =
     choose (all permittedOf g)
     (λ p.
     choose (ltb (at + length g) n)
-    (λ i. choose (wellFormed g) (λ w. (p, i, w)) (λ w. absurd (refused≢done 6 at e (rw (p, i, w) at q))))
-    (λ i. absurd (refused≢done 5 at e (rw (p, i) at q))))
-    (λ p. absurd (refused≢done 4 (at + permittedRun g) e (rw p at q)))
+    (λ i. choose (wellFormed g) (λ w. (p, i, w)) (λ w. absurd (refused≢done (rw (p, i, w) at q))))
+    (λ i. absurd (refused≢done (rw (p, i) at q))))
+    (λ p. absurd (refused≢done (rw p at q)))
 
 -- "a tag of three capital letters" before the terminator
 segment-long : (x : Stand) (e : ℕ) → bodyAnswer (arrivedBytes x + 1) (x .offset) (ending x) ≡ done e → 4 ≤ length (x .body) + 1

@@ -19,10 +19,10 @@ fitsOn n r (b ∷ l) = both (ltb n 4096) (pick (stands terminator r b) (fitsOn 0
 abbrev pub segmentsFit : List ℕ → Bool
 segmentsFit s = fitsOn 0 false s
 
--- what a whole reading answers, given room for the rows: how many there are, or number and position
+-- what a whole reading answers, given room for the rows: how many there are, or the refusal
 abbrev pub verdictOf : ℕ → Verdict → Answer ℕ
 verdictOf n (done _) = done n
-verdictOf n (refused number position) = refused number position
+verdictOf n (refused refusal) = refused refusal
 
 abbrev pub wholeAnswer : Outcome → Answer ℕ
 wholeAnswer o = verdictOf (length (o .rows)) (o .verdict)

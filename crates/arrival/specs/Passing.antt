@@ -9,14 +9,14 @@ use lib.Dec.{ltb}
 use lib.ListN.{length, take, length-append}
 use borrow.Author.Tests.{lt-ltb, le-ltb, ltb-true, ltb-false}
 use Rattle.laws.specs.Choice.{pick, all, choose}
-use Rattle.answers.specs.Answers.{Answer, done, refused, byteNotPermitted, inputEnds, wrongSegment}
+use Rattle.answers.specs.Answers.{Answer, done, refused, byteNotPermitted, inputEnds, wrongSegment, naming, movedTo}
 use Rattle.syntax.specs.Bytes.{terminator, permittedOf}
 use Rattle.syntax.specs.Pieces.{firstPiece}
 use Rattle.syntax.specs.Firsts.{first-take, first-length}
 use Rattle.syntax.specs.Ends.{end-within}
 use Rattle.syntax.specs.declared.segment.Scanned.{Scanned}
 use Rattle.syntax.specs.declared.segment.Scanned.the-variants.{End, NotPermitted, Unended, Malformed}
-use Rattle.syntax.specs.declared.segment.Refusal.{Refusal}
+use Rattle.answers.specs.declared.Refusal.{Refusal}
 use Rattle.syntax.specs.Segment.{bodyAt, segmentAt, scanOf, wellFormed, permittedRun, bodyAnswer}
 use Rattle.cuts.specs.Cuts.{releasedAfter}
 use Rattle.parts.specs.declared.Part.{Part}
@@ -65,7 +65,7 @@ taking base z g next r =
 -- what a turn says of the segment g at an offset, and what the same segment brings where its first byte is `base` further on
 abbrev pub Same : ℕ → Stand → ℕ → List ℕ → ℕ → Turn → Brought → Type 0
 Same base z at g n (On next r then) y = (y ≡ taking base z g next r) × (r .offset ≡ at) × (then ≡ at + length g + 1) × (3 ≤ length g) × (at + length g < n)
-Same base z at g n (Stop x) y = (y ≡ only (answered z (refused (x .number) (base + x .position)))) × (x .position ≤ at + length g)
+Same base z at g n (Stop x) y = (y ≡ only (answered z (refused (movedTo (base + x .position) x)))) × (x .position ≤ at + length g)
 
 pick-same : (b : Bool) (g d : List ℕ) (p o : Part) → (b ≡ true → p ≡ o) → pick b (bytesOf g o) d ≡ pick b (bytesOf g p) d
 pick-same true g d p o e = ap (bytesOf g) (sym (e refl))
@@ -119,12 +119,12 @@ module _ (base : ℕ) (z : Stand) (at : ℕ) (g : List ℕ) (n : ℕ) (place : b
         q,
         i,
       )
-  step-same (done (taken next r)) (refused k p) q i w = absurd w
-  step-same (refused k p) (done (taken other r₂)) q i w = absurd w
-  step-same (refused k p) (refused k₂ p₂) q i w = (
-    ap (λ (j : ℕ). only (answered z (refused j p₂))) (sym (w .0))
-        ∙ ap (λ (j : ℕ). only (answered z (refused k j))) (w .2 ∙ sym place ∙ ap (λ (j : ℕ). base + j) (sym (w .1))),
-    let l = w .1 in omega arith,
+  step-same (done (taken next r)) (refused refusal) q i w = absurd w
+  step-same (refused refusal) (done (taken other r₂)) q i w = absurd w
+  step-same (refused refusal) (refused other) q i w = (
+    ap (λ (j : Refusal). only (answered z (refused j))) (w .1)
+        ∙ ap (λ (j : ℕ). only (answered z (refused (movedTo j refusal)))) (sym place ∙ ap (λ (j : ℕ). base + j) (sym (w .0))),
+    let l = w .0 in omega arith,
   )
 
 run-length : (g : List ℕ) → permittedRun g ≤ length g
@@ -176,8 +176,9 @@ module _ (base : ℕ) (z : Stand) (at : ℕ) (place : base + at ≡ z .offset) (
   told : (x y : Scanned) (a b : Answer ℕ) → x ≡ y → a ≡ b → Told y b → Told x a
   told x y a b e f t = subst (λ (v : Scanned). Told v a) (sym e) (subst (λ (v : Answer ℕ). Told y v) (sym f) t)
 
-  refusing : (number offset position : ℕ) → offset ≡ base + position → only (answered z (refused number offset)) ≡ only (answered z (refused number (base + position)))
-  refusing number offset position e = ap (λ (k : ℕ). only (answered z (refused number k))) e
+  refusing : (number offset position : ℕ) → offset ≡ base + position
+      → only (answered z (refused (naming number offset))) ≡ only (answered z (refused (naming number (base + position))))
+  refusing number offset position e = ap (λ (k : ℕ). only (answered z (refused (naming number k)))) e
 
   told-end : (i : ℕ) → 3 ≤ length (bodyAt s at) → at + length (bodyAt s at) < length s → Told (End (at + length (bodyAt s at))) (done i)
   told-end i w l =
@@ -286,7 +287,7 @@ module _ (x : Stand) (q s : List ℕ) (st : State) (f : x .final ≡ awaited) (c
         let l = first-length terminator false s in
         omega arith
 
-    pub one-stop : (rest : List ℕ) → arrivedOn x (q ++ (terminator ∷ rest)) ≡ only (answered x (refused (z .number) (x .offset + z .position)))
+    pub one-stop : (rest : List ℕ) → arrivedOn x (q ++ (terminator ∷ rest)) ≡ only (answered x (refused (movedTo (x .offset + z .position) z)))
     one-stop rest =
-        let a = refused (z .number) (x .offset + z .position) in
+        let a = refused (movedTo (x .offset + z .position) z) in
         came rest (only (answered x a)) (judged (Stop z) o .0) ∙ ap (followed (only (answered x a))) (arrived-stays (answered x a) a refl rest)

@@ -11,7 +11,9 @@ use lib.ListN.{length, drop, length-drop}
 use lib.Seq.{drop-drop}
 use borrow.Author.Tests.{eqb-true, lt-ltb, ltb-true}
 use Rattle.laws.specs.Choice.{pick, both, all, choose, false≢true}
-use Rattle.answers.specs.Answers.{Answer, done, refused}
+use Rattle.answers.specs.declared.Refusal.{Refusal}
+use Rattle.answers.specs.Answers.{Answer, done, refused, movedTo}
+use Rattle.answers.specs.Laws.{done≢refused, refused-is}
 use Rattle.syntax.specs.Bytes.{terminator, stands, releases}
 use Rattle.syntax.specs.Pieces.{firstPiece}
 use Rattle.syntax.specs.declared.segment.Scanned.{Scanned}
@@ -65,14 +67,14 @@ stopped b a = record { stand = answered (b .stand) a; rows = b .rows; opened = b
 -- and what the bytes behind it bring
 abbrev continued : ℕ → Brought → List ℕ → Verdict → Brought
 continued base b l (done u) = followed b (arrivedOn (b .stand) l)
-continued base b l (refused number position) = stopped b (refused number (base + position))
+continued base b l (refused refusal) = stopped b (refused (movedTo (base + refusal .position) refusal))
 
 -- a row before
 joined : (base : ℕ) (x : Stand) (r : Row) (b : Brought) (l : List ℕ) (v : Verdict)
     → followed (record { stand = x; rows = r ∷ []; opened = false; headed = false }) (continued base b l v)
     ≡ continued base (record { stand = b .stand; rows = r ∷ b .rows; opened = b .opened; headed = b .headed }) l v
 joined base x r b l (done u) = refl
-joined base x r b l (refused number position) = refl
+joined base x r b l (refused refusal) = refl
 
 -- what holds of both that a test chooses from
 picked : (b : Bool) (a c : Stretched) (P : Stretched → Type 0) → (b ≡ true → P a) → (b ≡ false → P c) → P (pick b a c)
@@ -139,13 +141,7 @@ record Went (x : Stand) (w : List ℕ) (st : State) (at k : ℕ) (y : Stretched)
   pub inside : y .at ≤ length w
   pub few : at + 4 * length (y .rows) ≤ y .at
   pub near : all (λ (r : Row). ltb (r .offset) 4096) (y .rows) ≡ true
-  pub position : (number place : ℕ) → y .verdict ≡ refused number place → place ≤ length w
-
-done≢refused : (u : Unit {0}) (number place : ℕ) → _≡_ {A = Verdict} (done u) (refused number place) → ⊥
-done≢refused u number place q = let z : _≡_ {A = ℕ} 0 1 = cc in omega arith
-
-refused-place : (a b c d : ℕ) → _≡_ {A = Verdict} (refused a b) (refused c d) → b ≡ d
-refused-place a b c d q = cc
+  pub position : (z : Refusal) → y .verdict ≡ refused z → z .position ≤ length w
 
 module _ (x : Stand) (w : List ℕ) (l : length w ≤ 4096) (h : x .offset + length w ≤ 60000) where
   -- no segment more
@@ -157,7 +153,7 @@ module _ (x : Stand) (w : List ℕ) (l : length w ≤ 4096) (h : x .offset + len
         inside = i;
         few = omega arith;
         near = refl;
-        position = λ number place q. absurd (done≢refused tt number place q);
+        position = λ z q. absurd (done≢refused q);
       }
 
   -- one row more before what follows
@@ -264,7 +260,7 @@ module _ (x : Stand) (w : List ℕ) (l : length w ≤ 4096) (h : x .offset + len
         (λ q. m next then (same-inside (next .phase) (sym (ap (λ (p : Phase). samePhase p (next .phase)) f) ∙ q)) n)
         (λ q. still next then (k + 1) n))
     turned (Stop z) (o, a) more m =
-        let e : Answer ℕ = refused (z .number) (x .offset + z .position) in
+        let e : Answer ℕ = refused (movedTo (x .offset + z .position) z) in
         let n : k ≡ k + 0 = omega arith in
         record {
           comes = λ rest.
@@ -274,7 +270,7 @@ module _ (x : Stand) (w : List ℕ) (l : length w ≤ 4096) (h : x .offset + len
           inside = omega arith;
           few = omega arith;
           near = refl;
-          position = λ number place q. let j = refused-place (z .number) (z .position) number place q in omega arith;
+          position = λ u q. let j : z .position ≡ u .position = ap (λ (n : Refusal). n .position) (refused-is q) in omega arith;
         }
 
   -- all of it
@@ -293,7 +289,7 @@ module _ (x : Stand) (w : List ℕ) (l : length w ≤ 4096) (h : x .offset + len
 -- a segment that is ended has a row, or a fault
 turn-some : (more : State → ℕ → Stretched) (st : State) (at : ℕ) (turn : Turn) → stretchTurn more st at turn .verdict ≡ accepted → 0 < length (stretchTurn more st at turn .rows)
 turn-some more st at (On next r then) v = omega arith
-turn-some more st at (Stop z) v = absurd (done≢refused tt (z .number) (z .position) (sym v))
+turn-some more st at (Stop z) v = absurd (done≢refused (sym v))
 
 stretch-some : (n : ℕ) (w reference : List ℕ) (st : State) (at : ℕ) → 1 ≤ n → isEnded w at ≡ true → stretchOn n w reference st at .verdict ≡ accepted → 0 < length (stretchOn n w reference st at .rows)
 unfolding stretchOn
@@ -345,12 +341,12 @@ module _ (x : Stand) (w : List ℕ) (st : State) (f : x .final ≡ awaited) (b :
   gone-on v rest = comes rest ∙ ap (continued (x .offset) (reached x y) (drop (y .at) w ++ rest)) v
 
   -- or with one
-  pub gone-stop : (number position : ℕ) → y .verdict ≡ refused number position → (rest : List ℕ)
-      → arrivedOn x (w ++ rest) ≡ stopped (reached x y) (refused number (x .offset + position))
-  gone-stop number position v rest = comes rest ∙ ap (continued (x .offset) (reached x y) (drop (y .at) w ++ rest)) v
+  pub gone-stop : (z : Refusal) → y .verdict ≡ refused z → (rest : List ℕ)
+      → arrivedOn x (w ++ rest) ≡ stopped (reached x y) (refused (movedTo (x .offset + z .position) z))
+  gone-stop z v rest = comes rest ∙ ap (continued (x .offset) (reached x y) (drop (y .at) w ++ rest)) v
 
-  pub gone-position : (number position : ℕ) → y .verdict ≡ refused number position → position ≤ length w
-  gone-position number position v = went .position number position v
+  pub gone-position : (z : Refusal) → y .verdict ≡ refused z → z .position ≤ length w
+  gone-position z v = went .position z v
 
   pub gone-within : y .at ≤ length w
   gone-within = went .inside

@@ -10,7 +10,7 @@ use native.Mathlib.Decide.{ℕ-discrete}
 use lib.Dec.{leb}
 use lib.ListN.{length}
 use Rattle.laws.specs.Choice.{choose}
-use Rattle.answers.specs.Answers.{noWeekdayForm}
+use Rattle.answers.specs.Answers.{number, noWeekdayForm}
 use Rattle.dates.specs.declared.Date.{Date}
 use Rattle.calendar.specs.Days.{day}
 use Rattle.calendar.specs.Written.{dayCount, goodCalendar, shortCount, characterCount, dayStringText, stringText, textAnswer, dayStringAnswer}
@@ -101,5 +101,5 @@ string-exists short c first last o e =
     let q = rw p at e in
     choose (leb (length (stringText short c first last)) (length o))
     (λ r. let s = rw r at q in let z : _≡_ {A = ℕ} 0 1 = cc in absurd (omega arith))
-    (λ r. let s = rw r at q in let z : _≡_ {A = ℕ} 17 20 = cc in absurd (omega arith)))
-    (λ p. let q = rw p at e in let z : _≡_ {A = ℕ} 19 20 = cc in absurd (omega arith))
+    (λ r. let s = rw r at q in let z : _≡_ {A = ℕ} 17 20 = ap number s in absurd (omega arith)))
+    (λ p. let q = rw p at e in let z : _≡_ {A = ℕ} 19 20 = ap number q in absurd (omega arith))

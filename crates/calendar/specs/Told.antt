@@ -12,7 +12,7 @@ use Rattle.calendar.specs.Written.{writtenAnswer}
 
 abbrev case : Answer ℕ → Written
 case (done n) = Bytes n
-case (refused number position) = pick (eqb number 19) BadCalendar (pick (eqb number 20) NoWeekdayForm NoRoom)
+case (refused refusal) = pick (eqb (refusal .number) 19) BadCalendar (pick (eqb (refusal .number) 20) NoWeekdayForm NoRoom)
 
 back : (x : Written) → case (writtenAnswer x) ≡ x
 back (Bytes n) = refl

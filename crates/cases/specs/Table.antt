@@ -30,14 +30,14 @@ pub data Days : Type 0 where
   every : Days
   only : List Date → Days
 
--- what is to come of a case: a refusal with the paper's number; or a period from a first date to a last, with so many days, and those of them that run
+-- what is to come of a case: a refusal with the paper's number and, as document 02, A2, has it, the part; or a period from a first date to a last, with so many days, and those of them that run
 pub data Outcome : Type 0 where
-  refused : ℕ → Outcome
+  refused : ℕ → ℕ → Outcome
   period : Date → Date → ℕ → Days → Outcome
 
--- a POP as it is written, with its terminator, and what is to come of it; or a register's contents, a call of an account, and its answer
+-- the caller's wish, true where he asks for the old reading, a POP as it is written, with its terminator, and what is to come of it; or a register's contents, a call of an account, and its answer
 pub data Case : Type 0 where
-  pop : String → Outcome → Case
+  pop : Bool → String → Outcome → Case
   call : Contents → ℕ × Ask → Answer ℕ → Case
 
 abbrev numbers : List Date → List ℕ
@@ -57,30 +57,30 @@ whole n Unended = false
 whole n Malformed = false
 
 unfoldable pub comesOf : List ℕ → Period → Outcome → Bool
-comesOf g p (refused x) = eqb (answers.number (periodAnswer 0 p)) x
+comesOf g p (refused x part) = both (eqb (answers.number (periodAnswer 0 p)) x) (eqb (answers.part (periodAnswer 0 p)) part)
 comesOf g (Wrong x) (period first last n days) = false
 comesOf g (Good f m form) (period first last n days) =
     both (eqb f (number first))
     (both (eqb (f + m) (suc (number last)))
     (both (eqb m n) (below (λ k. same (runsIn g (Good f m form) k) (expected days (f + k))) m)))
 
--- the same number, position and value
+-- the same number, position and part, or the same value
 unfoldable pub sameAnswer : Answer ℕ → Answer ℕ → Bool
 sameAnswer (answers.done x) (answers.done y) = eqb x y
-sameAnswer (answers.done x) (answers.refused m j) = false
-sameAnswer (answers.refused n i) (answers.done y) = false
-sameAnswer (answers.refused n i) (answers.refused m j) = both (eqb n m) (eqb i j)
+sameAnswer (answers.done x) (answers.refused y) = false
+sameAnswer (answers.refused x) (answers.done y) = false
+sameAnswer (answers.refused x) (answers.refused y) = both (eqb (x .number) (y .number)) (both (eqb (x .position) (y .position)) (eqb (x .part) (y .part)))
 
 -- a call that is refused leaves the bytes of all rooms as they were
 unfoldable pub keeps : Contents → Contents → Answer ℕ → Bool
 keeps c d (answers.done x) = true
-keeps c d (answers.refused n i) = sameText (roomsBytes (c .quotas) (c .accounts)) (roomsBytes (d .quotas) (d .accounts))
+keeps c d (answers.refused refusal) = sameText (roomsBytes (c .quotas) (c .accounts)) (roomsBytes (d .quotas) (d .accounts))
 
 unfoldable pub callHolds : Contents → Contents × Reply → Answer ℕ → Bool
 callHolds c w a = both (good c) (both (sameAnswer (w .1 .answer) a) (keeps c (w .0) a))
 
 unfoldable pub caseHolds : Case → Bool
 caseHolds (call c d a) = callHolds c (inContents c d) a
-caseHolds (pop text outcome) =
+caseHolds (pop wish text outcome) =
     both (whole (length (bytes text)) (segmentAt (bytes text) 0))
-    (comesOf (bodyAt (bytes text) 0) (periodOf (bodyAt (bytes text) 0)) outcome)
+    (comesOf (bodyAt (bytes text) 0) (periodOf wish (bodyAt (bytes text) 0)) outcome)

@@ -32,12 +32,12 @@ insideDays (some at) days lent = lent
 abbrev pub mayWrite : Date → List ℕ → Bool
 mayWrite first lent = both (eqb (length lent) 64) (valid first)
 
--- pops are the offsets of the POPs
-unfoldable pub daysAnswer : List ℕ → List ℕ → Date → List ℕ → Answer ℕ
-daysAnswer s pops first lent = pick (mayWrite first lent) (insideAnswer (firstOutside (number first) s pops)) badCalendar
+-- pops are the offsets of the POPs, the wish is true where the caller asks for the old reading of one with neither form
+unfoldable pub daysAnswer : Bool → List ℕ → List ℕ → Date → List ℕ → Answer ℕ
+daysAnswer wish s pops first lent = pick (mayWrite first lent) (insideAnswer (firstOutside wish (number first) s pops)) badCalendar
 
-unfoldable pub daysBytes : List ℕ → List ℕ → Date → List ℕ → List ℕ
-daysBytes s pops first lent = pick (mayWrite first lent) (insideDays (firstOutside (number first) s pops) (daysOf (number first) s pops) lent) lent
+unfoldable pub daysBytes : Bool → List ℕ → List ℕ → Date → List ℕ → List ℕ
+daysBytes wish s pops first lent = pick (mayWrite first lent) (insideDays (firstOutside wish (number first) s pops) (daysOf wish (number first) s pops) lent) lent
 
 -- ---- for the code
 
@@ -45,18 +45,18 @@ daysBytes s pops first lent = pick (mayWrite first lent) (insideDays (firstOutsi
 pub put-whole : (o s : List ℕ) → length s ≡ length o → putAt o 0 s ≡ s
 put-whole o s e = put-front o s (omega arith) ∙ rw (drop-of-length-le o {i = length s} (omega arith)) (append-nil s)
 
-module _ (s pops : List ℕ) (first : Date) (lent : List ℕ) where
-  pub not-64 : (length lent ≡ 64 → ⊥) → (badCalendar ≡ daysAnswer s pops first lent) × (lent ≡ daysBytes s pops first lent)
+module _ (wish : Bool) (s pops : List ℕ) (first : Date) (lent : List ℕ) where
+  pub not-64 : (length lent ≡ 64 → ⊥) → (badCalendar ≡ daysAnswer wish s pops first lent) × (lent ≡ daysBytes wish s pops first lent)
   unfolding daysAnswer daysBytes
   not-64 h = (rw (ne-eqb (length lent) 64 h), rw (ne-eqb (length lent) 64 h))
 
   module _ (h : length lent ≡ 64) where
-    pub no-first : numberOf first ≡ NoDay → (badCalendar ≡ daysAnswer s pops first lent) × (lent ≡ daysBytes s pops first lent)
+    pub no-first : numberOf first ≡ NoDay → (badCalendar ≡ daysAnswer wish s pops first lent) × (lent ≡ daysBytes wish s pops first lent)
     unfolding daysAnswer daysBytes
     no-first q = let v = number-unknown first q in (rw (eq-eqb (length lent) 64 h, v), rw (eq-eqb (length lent) 64 h, v))
 
     pub from-first : (n : ℕ) → numberOf first ≡ Day n
-        → (insideAnswer (firstOutside n s pops) ≡ daysAnswer s pops first lent) × (insideDays (firstOutside n s pops) (daysOf n s pops) lent ≡ daysBytes s pops first lent)
+        → (insideAnswer (firstOutside wish n s pops) ≡ daysAnswer wish s pops first lent) × (insideDays (firstOutside wish n s pops) (daysOf wish n s pops) lent ≡ daysBytes wish s pops first lent)
     unfolding daysAnswer daysBytes
     from-first n q = let v = number-known first q in (rw (eq-eqb (length lent) 64 h, v .0, v .1), rw (eq-eqb (length lent) 64 h, v .0, v .1))
 

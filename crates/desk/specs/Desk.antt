@@ -1,4 +1,4 @@
--- An answer as C takes it: three numbers.
+-- An answer as C takes it: four numbers.
 -- Assumes nothing.
 use Prim.Native.Nat.{ℕ}
 use Rattle.answers.specs.Answers.{Answer, done, refused}
@@ -11,15 +11,15 @@ use Rattle.parcels.specs.Calls.{Told}
 use Rattle.desk.specs.declared.Reply.{Reply}
 use Rattle.desk.specs.declared.calendars.Day.{Day}
 
--- "0 done", with a value; else the refusal's number and position
+-- "0 done", with a value; else the refusal's number, position and part
 abbrev pub replyOf : Answer ℕ → Reply
-replyOf (done n) = record { number = 0; position = 0; value = n }
-replyOf (refused number position) = record { number = number; position = position; value = 0 }
+replyOf (done n) = record { number = 0; position = 0; part = 0; value = n }
+replyOf (refused x) = record { number = x .number; position = x .position; part = x .part; value = 0 }
 
 -- a parcel: how many rows it brought, beside a refusal too
 abbrev pub parcelReply : ℕ → Verdict → Reply
-parcelReply n (done _) = record { number = 0; position = 0; value = n }
-parcelReply n (refused number position) = record { number = number; position = position; value = n }
+parcelReply n (done _) = record { number = 0; position = 0; part = 0; value = n }
+parcelReply n (refused x) = record { number = x .number; position = x .position; part = x .part; value = n }
 
 abbrev pub toldReply : Told → Reply
 toldReply t = parcelReply (t .rows) (t .verdict)

@@ -18,18 +18,19 @@ fn taken(parcel: Parcel) -> Reply
         Parcel::Refused(n, refusal) => Reply {
             number: refusal.number,
             position: refusal.position,
+            part: refusal.part,
             value: n,
         },
     }
 }
 
-/// The store holds a reading before its first byte.
+/// The store holds a reading before its first byte; the wish is whether the caller asks for the old reading of a POP with neither form in what follows.
 #[no_mangle]
-pub extern "C" fn drumcallisto_begin(store: &mut [u8]) -> Reply
+pub extern "C" fn drumcallisto_begin(store: &mut [u8], wish: bool) -> Reply
     ensures told { λ r. ⌜ r ≡ toldReply (beginTold (now (store .entry))) ⌝ }
-    ensures left { λ _. ⌜ now (store .exit) ≡ beginStore (now (store .entry)) ⌝ }
+    ensures left { λ _. ⌜ now (store .exit) ≡ beginStore wish (now (store .entry)) ⌝ }
 {
-    taken(parcels::begin(store))
+    taken(parcels::begin(store, wish))
 }
 
 /// Reads the next parcel and writes the rows of the segments that end in it to the front of a lent buffer; a fault is named after the rows before it.

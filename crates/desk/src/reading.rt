@@ -87,15 +87,29 @@ pub extern "C" fn drumcallisto_number(s: &[u8], from: usize, to: usize, out: &mu
     told(values::copy_plain(bytes_of(s, part), out))
 }
 
+/// Some of the rows: from one up to and without another.
+#[repr(C)]
+pub struct Among {
+    pub from: usize,
+    pub to: usize,
+}
+
 // The days of the POPs among rows into a calendar of 64 bytes.
-fn write_days(s: &[u8], rows: &[u32], from: usize, to: usize, day: usize, days: &mut [u8]) -> Reply
+fn write_days(
+    s: &[u8],
+    rows: &[u32],
+    among: Among,
+    day: usize,
+    wish: bool,
+    days: &mut [u8],
+) -> Reply
     requires { ⌜ length (now days) ≡ 64 ⌝ }
-    ensures told { λ r. ⌜ r ≡ replyOf (insideAnswer (firstOutside day (now (s .entry)) (periodsFrom (now (rows .entry)) from to))) ⌝ }
-    ensures left { λ _. ⌜ now (days .exit) ≡ insideDays (firstOutside day (now (s .entry)) (periodsFrom (now (rows .entry)) from to)) (daysOf day (now (s .entry)) (periodsFrom (now (rows .entry)) from to)) (now (days .entry)) ⌝ }
+    ensures told { λ r. ⌜ r ≡ replyOf (insideAnswer (firstOutside wish day (now (s .entry)) (periodsFrom (now (rows .entry)) (among .from) (among .to)))) ⌝ }
+    ensures left { λ _. ⌜ now (days .exit) ≡ insideDays (firstOutside wish day (now (s .entry)) (periodsFrom (now (rows .entry)) (among .from) (among .to))) (daysOf wish day (now (s .entry)) (periodsFrom (now (rows .entry)) (among .from) (among .to))) (now (days .entry)) ⌝ }
 {
-    match test_window(day, s, rows, from, to) {
+    match test_window(day, s, rows, among.from, among.to, wish) {
         Window::Inside => {
-            let found = days_of(day, s, rows, from, to);
+            let found = days_of(day, s, rows, among.from, among.to, wish);
             bytes::put_bytes(days, 0, &found);
             done(0)
         }
@@ -103,18 +117,19 @@ fn write_days(s: &[u8], rows: &[u32], from: usize, to: usize, day: usize, days: 
     }
 }
 
-/// The days of the POPs among rows `from` to before `to`, over the window of 512 days from a first date on.
+/// The days of the POPs among some rows, over the window of 512 days from a first date on. The wish is whether the caller asks for the old reading of a
+/// POP with neither form; else such a POP has no days, as any that is wrong.
 #[no_mangle]
 pub extern "C" fn drumcallisto_days(
     s: &[u8],
     rows: &[u32],
-    from: usize,
-    to: usize,
+    among: Among,
     first: Day,
+    wish: bool,
     days: &mut [u8],
 ) -> Reply
-    ensures told { λ r. ⌜ r ≡ replyOf (daysAnswer (now (s .entry)) (periodsFrom (now (rows .entry)) from to) (dayDate first) (now (days .entry))) ⌝ }
-    ensures left { λ _. ⌜ now (days .exit) ≡ daysBytes (now (s .entry)) (periodsFrom (now (rows .entry)) from to) (dayDate first) (now (days .entry)) ⌝ }
+    ensures told { λ r. ⌜ r ≡ replyOf (daysAnswer wish (now (s .entry)) (periodsFrom (now (rows .entry)) (among .from) (among .to)) (dayDate first) (now (days .entry))) ⌝ }
+    ensures left { λ _. ⌜ now (days .exit) ≡ daysBytes wish (now (s .entry)) (periodsFrom (now (rows .entry)) (among .from) (among .to)) (dayDate first) (now (days .entry)) ⌝ }
 {
     if days.len() != 64 {
         return refused(19, 0);
@@ -122,5 +137,5 @@ pub extern "C" fn drumcallisto_days(
     let Number::Day(day) = date_of(first).day_number() else {
         return refused(19, 0);
     };
-    write_days(s, rows, from, to, day, days)
+    write_days(s, rows, among, day, wish, days)
 }

@@ -5,6 +5,7 @@ use crate::calendars::Day;
 use crate::calendars::date_of;
 use crate::done;
 use crate::refused;
+use crate::replied;
 use register::Opened;
 use register::Released;
 use register::Shown;
@@ -52,17 +53,22 @@ fn staged(answer: Staged) -> Reply
         Staged::Done(n) => done(n),
         Staged::NotRegister => refused(1, 0),
         Staged::NoAccount => refused(2, 0),
-        Staged::Refused(refusal) => refused(refusal.number, refusal.position),
+        Staged::Refused(refusal) => replied(refusal),
     }
 }
 
-/// The services of an interchange become pending, all of them or none.
+/// The services of an interchange become pending, all of them or none. The wish is whether the caller asks for the old reading of a POP with neither form.
 #[no_mangle]
-pub extern "C" fn drumcallisto_stage(b: &mut [u8], account: usize, interchange: &[u8]) -> Reply
-    ensures told { λ r. ⌜ r ≡ replyOf (answerOn (now (b .entry)) account (λ v. stageOf (now (interchange .entry)) v .answer)) ⌝ }
-    ensures left { λ _. ⌜ now (b .exit) ≡ bytesAfter (now (b .entry)) account (λ v. stageOf (now (interchange .entry)) v .records) ⌝ }
+pub extern "C" fn drumcallisto_stage(
+    b: &mut [u8],
+    account: usize,
+    interchange: &[u8],
+    wish: bool,
+) -> Reply
+    ensures told { λ r. ⌜ r ≡ replyOf (answerOn (now (b .entry)) account (λ v. stageOf wish (now (interchange .entry)) v .answer)) ⌝ }
+    ensures left { λ _. ⌜ now (b .exit) ≡ bytesAfter (now (b .entry)) account (λ v. stageOf wish (now (interchange .entry)) v .records) ⌝ }
 {
-    staged(staging::stage(b, account, interchange))
+    staged(staging::stage(b, account, interchange, wish))
 }
 
 fn released(answer: Released) -> Reply

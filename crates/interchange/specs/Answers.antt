@@ -11,7 +11,7 @@ use lib.ListN.{length, take}
 use Rattle.laws.specs.Choice.{pick, either, either-true, choose}
 use lib.Seq.{length-take-le}
 use Rattle.laws.specs.Put.{putAt, length-put, put-no-room, put-before}
-use Rattle.syntax.specs.declared.segment.Refusal.{Refusal}
+use Rattle.answers.specs.declared.Refusal.{Refusal}
 use Rattle.steps.specs.declared.state.State.{State}
 use Rattle.steps.specs.declared.state.Row.{Row}
 use Rattle.answers.specs.Answers.{Answer, done, refused, badSize, outputTooShort}
@@ -19,7 +19,7 @@ use Rattle.answers.specs.Laws.{done≢refused, one-case}
 use Rattle.interchange.specs.declared.reader.Reading.{Reading}
 use Rattle.interchange.specs.declared.reader.Reading.the-variants.{Rows, Refused}
 use Rattle.steps.specs.State.{openingState}
-use Rattle.interchange.specs.Reader.{Verdict, accepted, faulty, Outcome, readOn, readingOf, numbers, readAnswer, outcomeAnswer, rowsAfter}
+use Rattle.interchange.specs.Reader.{Verdict, accepted, Outcome, readOn, readingOf, numbers, readAnswer, outcomeAnswer, rowsAfter}
 use Rattle.interchange.specs.Laws.{length-numbers}
 use Rattle.interchange.specs.Chunks.{wholeFrom, Filled}
 
@@ -28,19 +28,19 @@ abbrev pub Right : Outcome → List ℕ → Answer ℕ → List ℕ → Type 0
 Right o lent r after = (r ≡ outcomeAnswer o (length lent)) × (after ≡ rowsAfter o lent)
 
 -- 3
-pub none-read : (s lent : List ℕ) → length s ≡ 0 → Right (readingOf s) lent badSize lent
+pub none-read : (wish : Bool) (s lent : List ℕ) → length s ≡ 0 → Right (readingOf wish s) lent badSize lent
 unfolding readingOf outcomeAnswer rowsAfter
-none-read s lent h = let e = eq-eqb (length s) 0 h in (rw e, rw e)
+none-read wish s lent h = let e = eq-eqb (length s) 0 h in (rw e, rw e)
 
-pub long-read : (s lent : List ℕ) → 60000 < length s → Right (readingOf s) lent badSize lent
+pub long-read : (wish : Bool) (s lent : List ℕ) → 60000 < length s → Right (readingOf wish s) lent badSize lent
 unfolding readingOf outcomeAnswer rowsAfter
-long-read s lent h =
+long-read wish s lent h =
     let e : either (eqb (length s) 0) (ltb 60000 (length s)) ≡ true = rw (lt-ltb 60000 (length s) h) (either-true (eqb (length s) 0)) in
     (rw e, rw e)
 
-pub sized-read : (s : List ℕ) → (length s ≡ 0 → ⊥) → length s ≤ 60000 → wholeFrom s openingState 0 ≡ readingOf s
+pub sized-read : (wish : Bool) (s : List ℕ) → (length s ≡ 0 → ⊥) → length s ≤ 60000 → wholeFrom s (openingState wish) 0 ≡ readingOf wish s
 unfolding readingOf
-sized-read s h g = rw (ne-eqb (length s) 0 h, le-ltb 60000 (length s) g)
+sized-read wish s h g = rw (ne-eqb (length s) 0 h, le-ltb 60000 (length s) g)
 
 pub right-same : (o p : Outcome) (lent : List ℕ) (r : Answer ℕ) (after : List ℕ) → o ≡ p → Right o lent r after → Right p lent r after
 right-same o p lent r after e x = (x .0 ∙ ap (λ (y : Outcome). outcomeAnswer y (length lent)) e, x .1 ∙ ap (λ (y : Outcome). rowsAfter y lent) e)
@@ -48,11 +48,11 @@ right-same o p lent r after e x = (x .0 ∙ ap (λ (y : Outcome). outcomeAnswer 
 -- the answer for a reading before which n numbers are gathered already, and what the buffer holds then
 abbrev pub answerBehind : ℕ → List Row → ℕ → Verdict → Answer ℕ
 answerBehind n rows room (done _) = pick (ltb room (n + 3 * length rows)) outputTooShort (done ((n + 3 * length rows) / 3))
-answerBehind n rows room (refused number position) = refused number position
+answerBehind n rows room (refused refusal) = refused refusal
 
 abbrev pub rowsBehind : ℕ → List Row → List ℕ → Verdict → List ℕ
 rowsBehind n rows lent (done _) = putAt lent n (numbers rows)
-rowsBehind n rows lent (refused number position) = lent
+rowsBehind n rows lent (refused refusal) = lent
 
 abbrev pub Behind : ℕ → Outcome → List ℕ → Answer ℕ → List ℕ → Type 0
 Behind n o lent r after = (r ≡ answerBehind n (o .rows) (length lent) (o .verdict)) × (after ≡ rowsBehind n (o .rows) lent (o .verdict))
@@ -64,12 +64,12 @@ module _ (rows : List Row) (lent : List ℕ) where
   same-answer (done _) =
       let z : 0 + 3 * length rows ≡ 3 * length rows = omega arith in
       choose (ltb (length lent) (3 * length rows)) (λ q. rw (z, q)) (λ q. rw (z, q) (ap done (omega arith)))
-  same-answer (refused number position) = refl
+  same-answer (refused refusal) = refl
 
   same-rows : (v : Verdict) → rowsBehind 0 rows lent v ≡ rowsAfter (record { rows = rows; verdict = v }) lent
   unfolding rowsAfter
   same-rows (done _) = refl
-  same-rows (refused number position) = refl
+  same-rows (refused refusal) = refl
 
 pub right-behind : (o : Outcome) (lent : List ℕ) (r : Answer ℕ) (after : List ℕ) → Behind 0 o lent r after → Right o lent r after
 right-behind o lent r after b = (b .0 ∙ same-answer (o .rows) lent (o .verdict), b .1 ∙ same-rows (o .rows) lent (o .verdict))
@@ -83,7 +83,7 @@ fits-by n m rows lent (done _) q =
     (λ l.
     let g = ltb-false (length lent) (n + 3 * length rows) l in
     (omega arith, length-put lent n (numbers rows)))
-fits-by n m rows lent (refused number position) q = absurd (done≢refused q)
+fits-by n m rows lent (refused refusal) q = absurd (done≢refused q)
 
 pub behind-fits : (n m : ℕ) (o : Outcome) (lent after : List ℕ) → Behind n o lent (done m) after → n ≤ length after
 behind-fits n m o lent after b =
@@ -94,7 +94,7 @@ behind-fits n m o lent after b =
 
 module _ (n : ℕ) (w : Outcome) (lent : List ℕ) where
   -- a fault
-  pub behind-fault : (x : Refusal) → w .verdict ≡ faulty x → Behind n w lent (faulty x) lent
+  pub behind-fault : (x : Refusal) → w .verdict ≡ refused x → Behind n w lent (refused x) lent
   behind-fault x e = (rw e, rw e)
 
   -- all rows are gathered, k numbers
@@ -128,13 +128,13 @@ module _ (n : ℕ) (w : Outcome) (lent : List ℕ) where
         let c = f .count in
         let e : n + k + 3 * length (rest .rows) ≡ n + 3 * length (w .rows) = omega arith in
         rw e
-    behind-is (refused number position) = refl
+    behind-is (refused refusal) = refl
 
     count-same : n + k + 3 * length (rest .rows) ≡ n + 3 * length (w .rows)
     count-same = let c = f .count in omega arith
 
     -- a refusal leaves the buffer
-    still : (x : Refusal) (v : Verdict) → faulty x ≡ answerBehind (n + k) (rest .rows) (length lent) v
+    still : (x : Refusal) (v : Verdict) → refused x ≡ answerBehind (n + k) (rest .rows) (length lent) v
         → (rowsBehind (n + k) (rest .rows) lent v ≡ lent) × (rowsBehind n (w .rows) lent v ≡ lent)
     still x (done _) q =
         let c = count-same in
@@ -145,9 +145,9 @@ module _ (n : ℕ) (w : Outcome) (lent : List ℕ) where
         let b = length-numbers (w .rows) in
         (put-no-room lent (n + k) (numbers (rest .rows)) (omega arith), put-no-room lent n (numbers (w .rows)) (omega arith)))
         (λ l. absurd (done≢refused (sym (rw (c, l) at q))))
-    still x (refused number position) q = (refl, refl)
+    still x (refused refusal) q = (refl, refl)
 
-    pub behind-refused : (x : Refusal) (after : List ℕ) → Behind (n + k) rest lent (faulty x) after → Behind n w lent (faulty x) after
+    pub behind-refused : (x : Refusal) (after : List ℕ) → Behind (n + k) rest lent (refused x) after → Behind n w lent (refused x) after
     behind-refused x after b =
         let q = still x (rest .verdict) (b .0) in (
           b .0 ∙ behind-is (rest .verdict) ∙ ap (answerBehind n (w .rows) (length lent)) (f .verdict),
@@ -166,7 +166,7 @@ module _ (n : ℕ) (w : Outcome) (lent : List ℕ) where
         let a = length-numbers (rest .rows) in
         ap (λ (x : ℕ). putAt (putAt lent (n + x) (numbers (rest .rows))) n (take k room)) (sym z)
         ∙ put-before lent n (take k room) (numbers (rest .rows)) (omega arith) ∙ ap (putAt lent n) (f .rows))
-    rows-before m (refused number position) q h = absurd (done≢refused q)
+    rows-before m (refused refusal) q h = absurd (done≢refused q)
 
     pub behind-full : (m : ℕ) (after : List ℕ) → Behind (n + k) rest lent (done m) after → k ≤ length room
         → Behind n w lent (done m) (putAt after n (take k room))
@@ -178,7 +178,7 @@ module _ (n : ℕ) (w : Outcome) (lent : List ℕ) where
 -- what `read` answers fixes its case
 abbrev case : Answer ℕ → Reading
 case (done n) = Rows n
-case (refused number position) = Refused (record { number = number; position = position })
+case (refused refusal) = Refused refusal
 
 back : (x : Reading) → case (readAnswer x) ≡ x
 back (Rows n) = refl

@@ -8,7 +8,7 @@ use native.Mathlib.Omega.{arith}
 use lib.ListN.{length, take}
 use Rattle.laws.specs.Choice.{pick}
 use Rattle.answers.specs.Answers.{Answer, done, refused, wrongEnvelope}
-use Rattle.syntax.specs.declared.segment.Refusal.{Refusal}
+use Rattle.answers.specs.declared.Refusal.{Refusal}
 use Rattle.placing.specs.Tables.{tables}
 use Rattle.steps.specs.declared.state.Phase.{Phase}
 use Rattle.steps.specs.declared.state.State.{State}
@@ -16,7 +16,7 @@ use Rattle.interchange.specs.declared.turn.Turn.{Turn}
 use Rattle.interchange.specs.declared.turn.Turn.the-variants.{Stop}
 use Rattle.interchange.specs.declared.gather.Gathered.{Gathered}
 use Rattle.interchange.specs.declared.gather.Gathered.the-variants.{Numbers, Full, Faulty}
-use Rattle.interchange.specs.Reader.{Outcome, accepted, faulty, fault, isClosed, turnAt, afterTurn, readOn, numbers}
+use Rattle.interchange.specs.Reader.{Outcome, accepted, fault, isClosed, turnAt, afterTurn, readOn, numbers}
 use Rattle.interchange.specs.Laws.{read-past, read-on, read-accepted, read-stops}
 use Rattle.interchange.specs.Fuel.{fuel-same}
 use Rattle.interchange.specs.Gather.{Left, left-start, left-verdict}
@@ -30,7 +30,7 @@ wholeFrom s st at = readOn (length s + 1) s st at
 -- all rows, or a fault
 abbrev pub gatheredBy : Answer ℕ → Gathered
 gatheredBy (done n) = Numbers n
-gatheredBy (refused number position) = Faulty (record { number = number; position = position })
+gatheredBy (refused refusal) = Faulty refusal
 
 -- what is told at the input's end
 abbrev pub endedAt : Bool → ℕ → ℕ → Gathered
@@ -45,7 +45,7 @@ pub record Filled (w rest : Outcome) (n : ℕ) (room : List ℕ) : Type 0 where
 abbrev pub Chunk : List ℕ → State → ℕ → Gathered → List ℕ → Type 0
 Chunk s st at (Numbers n) room = Filled (wholeFrom s st at) (record { rows = []; verdict = accepted }) n room × (n ≤ roomSize)
 Chunk s st at (Full next then n) room = Filled (wholeFrom s st at) (wholeFrom s next then) n room × (n ≤ roomSize) × (then ≤ length s) × (4 * n + 3 * at ≤ 3 * then) × (fullFrom ≤ n)
-Chunk s st at (Faulty x) room = wholeFrom s st at .verdict ≡ faulty x
+Chunk s st at (Faulty x) room = wholeFrom s st at .verdict ≡ refused x
 
 pub chunk-as : (s : List ℕ) (st : State) (at : ℕ) (r x : Gathered) (room : List ℕ) → r ≡ x → Chunk s st at r room → Chunk s st at x room
 chunk-as s st at r x room e c = subst (λ y. Chunk s st at y room) e c
@@ -75,7 +75,7 @@ module _ (s : List ℕ) (st₀ : State) (at₀ : ℕ) (room₀ : List ℕ) (st :
 
     pub chunk-stop : isClosed (st .phase) ≡ false → (x : Refusal) → turnAt tables s st at ≡ Stop x → Chunk s st₀ at₀ (Faulty x) room
     chunk-stop c x e =
-        sym (filled (fault (faulty x)) (read-on enough s st at h (left .enough) c ∙ ap (afterTurn (readOn (enough - 1) s)) e) .verdict)
+        sym (filled (fault (refused x)) (read-on enough s st at h (left .enough) c ∙ ap (afterTurn (readOn (enough - 1) s)) e) .verdict)
 
   module _ (h : length s ≤ at) (g : at ≤ length s) (k : n ≤ roomSize) where
     pub chunk-ended : (b : Bool) → isClosed (st .phase) ≡ b → Chunk s st₀ at₀ (endedAt b n (length s)) room

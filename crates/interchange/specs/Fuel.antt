@@ -10,7 +10,7 @@ use borrow.Author.Tests.{lt-ltb}
 use lib.ListN.{length}
 use Rattle.laws.specs.Choice.{choose}
 use Rattle.placing.specs.Tables.{tables}
-use Rattle.syntax.specs.declared.segment.Refusal.{Refusal}
+use Rattle.answers.specs.declared.Refusal.{Refusal}
 use Rattle.steps.specs.declared.state.State.{State}
 use Rattle.steps.specs.declared.state.Row.{Row}
 use Rattle.interchange.specs.declared.turn.Turn.{Turn}

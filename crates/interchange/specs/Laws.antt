@@ -15,7 +15,7 @@ use Rattle.laws.specs.Choice.{pick}
 use Rattle.laws.specs.Lists.{drop-here}
 use Rattle.laws.specs.Put.{putAt, put-step, put-none}
 use Rattle.answers.specs.Answers.{wrongEnvelope}
-use Rattle.syntax.specs.declared.segment.Refusal.{Refusal}
+use Rattle.answers.specs.declared.Refusal.{Refusal}
 use Rattle.syntax.specs.declared.segment.Scanned.{Scanned}
 use Rattle.placing.specs.Tables.{tables}
 use Rattle.steps.specs.declared.state.Phase.{Phase}

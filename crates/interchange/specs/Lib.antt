@@ -15,3 +15,4 @@ pub mod Runs
 pub mod Stretch
 pub mod Stretches
 pub mod Answers
+pub mod Parts

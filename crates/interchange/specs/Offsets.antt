@@ -8,7 +8,7 @@ use native.Mathlib.Omega.{arith}
 use lib.Dec.{eqb, ltb}
 use lib.ListN.{length}
 use Rattle.laws.specs.Choice.{pick, both, choose}
-use Rattle.syntax.specs.declared.segment.Refusal.{Refusal}
+use Rattle.answers.specs.declared.Refusal.{Refusal}
 use Rattle.syntax.specs.declared.segment.Scanned.{Scanned}
 use Rattle.syntax.specs.declared.segment.Scanned.the-variants.{End, NotPermitted, Unended, Malformed}
 use Rattle.syntax.specs.Segment.{tagNumber, bodyAt, segmentAt, refusalOf}
@@ -43,7 +43,7 @@ use Rattle.interchange.specs.Reader.{dialogueOf, headedReference, turnSt
 -- a step's row, if it has one, bears the offset
 abbrev RowAt : ℕ → Answer Taken → Type 0
 RowAt at (done (taken st r)) = r .offset ≡ at
-RowAt at (refused number position) = Unit {0}
+RowAt at (refused refusal) = Unit {0}
 
 module _ (st : State) (at : ℕ) (g : List ℕ) where
   opened-row : (o : Opened) → RowAt at (openedStep st at g o)
@@ -81,7 +81,7 @@ module _ (st : State) (at : ℕ) (g : List ℕ) where
   unfolding placed
   placed-row r group p =
       choose (eqb (tagNumber g) UIT) (λ q. rw q (trailing-row r p group))
-      (λ q. rw q (choose (isPeriod (st .message) (tagNumber g) group) (λ e. rw e (judged-row p group (periodOf g))) (λ e. rw e refl)))
+      (λ q. rw q (choose (isPeriod (st .message) (tagNumber g) group) (λ e. rw e (judged-row p group (periodOf (st .wish) g))) (λ e. rw e refl)))
 
   settled-row : (t : Table) (r : List ℕ) (x : Stepped) → RowAt at (settledStep t st at g r x)
   settled-row t r (Placed p) = placed-row r (groupOf t p) p
@@ -102,7 +102,7 @@ module _ (st : State) (r : Row) (n : ℕ) where
   on-is (done (taken s q)) at m o e =
       let same : q ≡ r = cc in
       (ap (λ (x : Row). x .offset) (sym same) ∙ o, cc)
-  on-is (refused number position) at m o e = absurd (stop≢on (record { number = number; position = position }) st r n e)
+  on-is (refused refusal) at m o e = absurd (stop≢on refusal st r n e)
 
   on-from : (t : Table) (s dialogue reference : List ℕ) (from : State) (at : ℕ) (x : Scanned) → segmentAt s at ≡ x → turnWith t s dialogue reference from at x ≡ On st r n
       → (r .offset ≡ at) × (at + 4 ≤ n) × (n ≤ length s)

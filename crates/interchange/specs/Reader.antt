@@ -8,7 +8,7 @@ use lib.ListN.{length, drop}
 use Rattle.laws.specs.Choice.{pick, either}
 use Rattle.laws.specs.Put.{putAt}
 use Rattle.answers.specs.Answers.{Answer, done, refused, badSize, wrongEnvelope, outputTooShort}
-use Rattle.syntax.specs.declared.segment.Refusal.{Refusal}
+use Rattle.answers.specs.declared.Refusal.{Refusal}
 use Rattle.syntax.specs.declared.segment.Scanned.{Scanned}
 use Rattle.syntax.specs.declared.segment.Scanned.the-variants.{End, NotPermitted, Unended, Malformed}
 use Rattle.syntax.specs.Segment.{bodyAt, segmentAt, refusalOf}
@@ -32,10 +32,6 @@ Verdict = Answer (Unit {0})
 
 abbrev pub accepted : Verdict
 accepted = done tt
-
--- a refusal by value, as an answer
-abbrev pub faulty : {A : Type 0} → Refusal → Answer A
-faulty x = refused (x .number) (x .position)
 
 -- what a reading comes to: the rows of the segments before its end, and how it ends
 pub record Outcome : Type 0 where
@@ -65,7 +61,7 @@ headedReference s st = bytesOf (drop (st .«headed_at») s) (st .reference)
 -- "the first faulty segment from the left, in it 4, 5, 6", then its step: the state and the offset after it, and its row
 abbrev pub turnStep : ℕ → Answer Taken → Turn
 turnStep next (done (taken st r)) = On st r next
-turnStep next (refused number position) = Stop (record { number = number; position = position })
+turnStep next (refused refusal) = Stop refusal
 
 -- dialogue and reference are the UIB's and the UIH's as written
 abbrev pub turnWith : Table → List ℕ → List ℕ → List ℕ → State → ℕ → Scanned → Turn
@@ -83,7 +79,7 @@ turnAt t s st at = turnScan t s st at (segmentAt s at)
 -- `more` reads on from a state and an offset
 abbrev pub afterTurn : (State → ℕ → Outcome) → Turn → Outcome
 afterTurn more (On st r next) = before r (more st next)
-afterTurn more (Stop x) = fault (faulty x)
+afterTurn more (Stop x) = fault (refused x)
 
 -- "Bytes after a good UIZ are 7 at the first of them and not tested further."
 -- "Input that stops between segments before UIZ is 7 at its length."
@@ -99,8 +95,9 @@ readOn (suc f) s st at =
 abbrev pub wrongSize : List ℕ → Bool
 wrongSize s = either (eqb (length s) 0) (ltb 60000 (length s))
 
-unfoldable pub readingOf : List ℕ → Outcome
-readingOf s = pick (wrongSize s) (fault badSize) (readOn (length s + 1) s openingState 0)
+-- what an interchange comes to for a caller who asks for the old reading or does not
+unfoldable pub readingOf : Bool → List ℕ → Outcome
+readingOf wish s = pick (wrongSize s) (fault badSize) (readOn (length s + 1) s (openingState wish) 0)
 
 -- the rows as they are written into a lent buffer: three numbers each, offset, group and tag
 abbrev pub rowNumbers : Row → List ℕ
@@ -110,22 +107,22 @@ unfoldable pub numbers : List Row → List ℕ
 numbers [] = []
 numbers (r ∷ l) = rowNumbers r ++ numbers l
 
--- what each case answers: how many rows were written, or number and position
+-- what each case answers: how many rows were written, or the refusal
 abbrev pub readAnswer : Reading → Answer ℕ
 readAnswer (Rows n) = done n
-readAnswer (Refused x) = faulty x
+readAnswer (Refused x) = refused x
 
 -- "17 last": the answer for a buffer of that room, and what the buffer holds then
 abbrev pub verdictAnswer : List Row → ℕ → Verdict → Answer ℕ
 verdictAnswer rows room (done _) = pick (ltb room (3 * length rows)) outputTooShort (done (length rows))
-verdictAnswer rows room (refused number position) = refused number position
+verdictAnswer rows room (refused refusal) = refused refusal
 
 unfoldable pub outcomeAnswer : Outcome → ℕ → Answer ℕ
 outcomeAnswer o room = verdictAnswer (o .rows) room (o .verdict)
 
 abbrev pub rowsBy : List Row → List ℕ → Verdict → List ℕ
 rowsBy rows lent (done _) = putAt lent 0 (numbers rows)
-rowsBy rows lent (refused number position) = lent
+rowsBy rows lent (refused refusal) = lent
 
 unfoldable pub rowsAfter : Outcome → List ℕ → List ℕ
 rowsAfter o lent = rowsBy (o .rows) lent (o .verdict)

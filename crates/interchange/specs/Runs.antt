@@ -63,19 +63,19 @@ inside-is Inside q = refl
 inside-is Closed q = absurd (false≢true q)
 
 -- a period that is read is good
-abbrev pub goodPart : MessageType → ℕ → ℕ → List ℕ → Bool
-goodPart message tag group g = pick (isPeriod message tag group) (isGood (periodOf g)) true
+abbrev pub goodPart : Bool → MessageType → ℕ → ℕ → List ℕ → Bool
+goodPart wish message tag group g = pick (isPeriod message tag group) (isGood (periodOf wish g)) true
 
 module _ (st : State) (at : ℕ) (g reference : List ℕ) (p : Place) (group : ℕ) where
   judged-good : (x : Period) → isGood x ≡ true → judged st at g p group x ≡ done (taken (onwardState st p) (rowOf at g group))
   judged-good (period.Good first days form) q = refl
   judged-good (period.Wrong x) q = absurd (false≢true q)
 
-  placed-good : (tagNumber g ≡ UIT → ⊥) → goodPart (st .message) (tagNumber g) group g ≡ true → placed st at g reference group p ≡ done (taken (onwardState st p) (rowOf at g group))
+  placed-good : (tagNumber g ≡ UIT → ⊥) → goodPart (st .wish) (st .message) (tagNumber g) group g ≡ true → placed st at g reference group p ≡ done (taken (onwardState st p) (rowOf at g group))
   unfolding placed
   placed-good h q =
       rw (ne-eqb (tagNumber g) UIT h)
-      (choose (isPeriod (st .message) (tagNumber g) group) (λ e. rw e (judged-good (periodOf g) (rw e at q))) (λ e. rw e))
+      (choose (isPeriod (st .message) (tagNumber g) group) (λ e. rw e (judged-good (periodOf (st .wish) g) (rw e at q))) (λ e. rw e))
 
 module _ (s : List ℕ) (st : State) (at e : ℕ) (h : segmentAt s at ≡ End e) (i : st .phase ≡ Inside) (p : Place) where
   abbrev body : List ℕ
@@ -85,7 +85,7 @@ module _ (s : List ℕ) (st : State) (at e : ℕ) (h : segmentAt s at ≡ End e)
   table = tableOf (st .message)
 
   step-inside : (offset : ℕ) (dialogue reference : List ℕ) → stepOf table (st .place) (tagNumber body) ≡ Placed p → (tagNumber body ≡ UIT → ⊥)
-      → goodPart (st .message) (tagNumber body) (groupOf table p) body ≡ true
+      → goodPart (st .wish) (st .message) (tagNumber body) (groupOf table p) body ≡ true
       → segmentStep tables st offset body dialogue reference ≡ done (taken (onwardState st p) (rowOf offset body (groupOf table p)))
   unfolding stepBy
   step-inside offset dialogue reference x u q =
@@ -94,7 +94,7 @@ module _ (s : List ℕ) (st : State) (at e : ℕ) (h : segmentAt s at ≡ End e)
       ∙ placed-good st offset body reference p (groupOf table p) u q
 
   inner-is : stepOf table (st .place) (tagNumber body) ≡ Placed p → (tagNumber body ≡ UIT → ⊥)
-      → goodPart (st .message) (tagNumber body) (groupOf table p) body ≡ true
+      → goodPart (st .wish) (st .message) (tagNumber body) (groupOf table p) body ≡ true
       → Inner s st at (onwardState st p) (groupOf table p) (tagNumber body) e
   inner-is x u q = record { from = i; to = refl; whole = h; step = λ offset dialogue reference. step-inside offset dialogue reference x u q }
 
@@ -214,8 +214,8 @@ module _ (message : MessageType) (r : ℕ) (h : r < rows (tableOf message)) wher
   row-capitals z = either-left (eqb tag-of 0) (capitalTag tag-of) (both-left lettered unread (at (rowTold message (tableOf message)) (rows (tableOf message)) (own-rows message) r h)) (ne-eqb tag-of 0 z)
 
   -- what is read of the period's row alone is what is read of a segment
-  pub row-good : (g : List ℕ) → pick (eqb r (periodRow message)) (isGood (periodOf g)) true ≡ true → goodPart message tag-of group-of g ≡ true
-  row-good g q =
+  pub row-good : (wish : Bool) (g : List ℕ) → pick (eqb r (periodRow message)) (isGood (periodOf wish g)) true ≡ true → goodPart wish message tag-of group-of g ≡ true
+  row-good wish g q =
       choose (eqb r (periodRow message))
       (λ e. let k = rw e at q in choose (isPeriod message tag-of group-of) (λ p. rw p k) (λ p. rw p))
       (λ e. rw (not-holds (isPeriod message tag-of group-of) (either-left (eqb r (periodRow message)) (not (isPeriod message tag-of group-of)) (both-right lettered unread (at (rowTold message (tableOf message)) (rows (tableOf message)) (own-rows message) r h)) e)))
@@ -234,7 +234,7 @@ module _ (s : List ℕ) (from : State) (start n₀ : ℕ) (room₀ : List ℕ) (
   pub passed-inside : (p : Place) (k at n : ℕ) (room : List ℕ) → Passed s from start n₀ room₀ (movedState st p k) at n room
       → (e : ℕ) → segmentAt s at ≡ End e → (t : Table) → t ≡ tableOf (st .message)
       → (tag : ℕ) → tag ≡ tagNumber (drop at s) → (tag ≡ UIT → ⊥) → (q : Place) → stepOf t p tag ≡ Placed q
-      → (group : ℕ) → group ≡ groupOf t q → goodPart (st .message) tag group (bodyAt s at) ≡ true
+      → (group : ℕ) → group ≡ groupOf t q → goodPart (st .wish) (st .message) tag group (bodyAt s at) ≡ true
       → n + 2 < length room → (put : List ℕ) → put ≡ putRow room n (record { offset = at; group = group; tag = tag })
       → Passed s from start n₀ room₀ (movedState st q (oneMore k)) (e + 1) (n + 3) put
   passed-inside p k at n room m e h t x tag y u q z group w o r put b =
@@ -245,7 +245,7 @@ module _ (s : List ℕ) (from : State) (start n₀ : ℕ) (room₀ : List ℕ) (
   -- the same by a place in two numbers, which a hint moves on
   pub passed-told : (t : Table) → t ≡ tableOf (st .message) → (row counts k at n : ℕ) (room : List ℕ) → Passed s from start n₀ room₀ (movedState st (placeOf row counts) k) at n room
       → (e : ℕ) → segmentAt s at ≡ End e → (tag : ℕ) → tag ≡ tagNumber (drop at s) → (to next : ℕ) → Onward t row counts tag to next
-      → (period : ℕ) → period ≡ periodRow (st .message) → pick (eqb to period) (isGood (periodOf (bodyAt s at))) true ≡ true
+      → (period : ℕ) → period ≡ periodRow (st .message) → pick (eqb to period) (isGood (periodOf (st .wish) (bodyAt s at))) true ≡ true
       → (group : ℕ) → group ≡ groupAt t to
       → n + 2 < length room → (put : List ℕ) → put ≡ putRow room n (record { offset = at; group = group; tag = tag })
       → Passed s from start n₀ room₀ (movedState st (placeOf to next) (oneMore k)) (e + 1) (n + 3) put
@@ -253,8 +253,8 @@ module _ (s : List ℕ) (from : State) (start n₀ : ℕ) (room₀ : List ℕ) (
       let z = o .step in
       let l = placed-row t tag (placeOf row counts) (placeOf to next) z in
       let a = placed-tag t tag (placeOf row counts) (placeOf to next) z in
-      let v = row-good (st .message) to (subst (λ u. to < length u) x l) (bodyAt s at) (subst (λ u. pick (eqb to u) (isGood (periodOf (bodyAt s at))) true ≡ true) f g) in
-      let c : goodPart (st .message) (tagAt t to) (groupAt t to) (bodyAt s at) ≡ true = subst (λ u. goodPart (st .message) (tagAt u to) (groupAt u to) (bodyAt s at) ≡ true) (sym x) v in
+      let v = row-good (st .message) to (subst (λ u. to < length u) x l) (st .wish) (bodyAt s at) (subst (λ u. pick (eqb to u) (isGood (periodOf (st .wish) (bodyAt s at))) true ≡ true) f g) in
+      let c : goodPart (st .wish) (st .message) (tagAt t to) (groupAt t to) (bodyAt s at) ≡ true = subst (λ u. goodPart (st .wish) (st .message) (tagAt u to) (groupAt u to) (bodyAt s at) ≡ true) (sym x) v in
       passed-inside (placeOf row counts) k at n room m e h t x tag y (o .inside) (placeOf to next) z group w
-      (subst (λ u. goodPart (st .message) u group (bodyAt s at) ≡ true) a (subst (λ u. goodPart (st .message) (tagAt t to) u (bodyAt s at) ≡ true) (sym w) c))
+      (subst (λ u. goodPart (st .wish) (st .message) u group (bodyAt s at) ≡ true) a (subst (λ u. goodPart (st .wish) (st .message) (tagAt t to) u (bodyAt s at) ≡ true) (sym w) c))
       r put b

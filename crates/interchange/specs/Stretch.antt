@@ -4,6 +4,7 @@
 use Prim.Native.Nat.{ℕ, zero, suc, _+_}
 use mathlib.Core.Bool.{Bool, true, false}
 use mathlib.Core.List.{List, [], _∷_}
+use Rattle.answers.specs.Answers.{refused}
 use lib.Dec.{eqb, ltb}
 use lib.ListN.{length}
 use Rattle.laws.specs.Choice.{pick, both}
@@ -17,7 +18,7 @@ use Rattle.interchange.specs.declared.stretch.Halt.{Halt}
 use Rattle.interchange.specs.declared.stretch.Halt.the-variants.{Sound, Faulty}
 use Rattle.interchange.specs.declared.turn.Turn.{Turn}
 use Rattle.interchange.specs.declared.turn.Turn.the-variants.{On, Stop}
-use Rattle.interchange.specs.Reader.{Verdict, accepted, faulty, turnWith}
+use Rattle.interchange.specs.Reader.{Verdict, accepted, turnWith}
 use Rattle.interchange.specs.Room.{roomSize, roomRows}
 
 abbrev pub samePhase : Phase → Phase → Bool
@@ -59,7 +60,7 @@ isEnded s at = ltb (at + length (bodyAt s at)) (length s)
 -- `more` reads on from a state and an offset
 abbrev pub stretchTurn : (State → ℕ → Stretched) → State → ℕ → Turn → Stretched
 stretchTurn more st at (On next r then) = ahead r (pick (samePhase (st .phase) (next .phase)) (more next then) (halted next then accepted))
-stretchTurn more st at (Stop x) = halted st at (faulty x)
+stretchTurn more st at (Stop x) = halted st at (refused x)
 
 -- the segments from an offset on, n at most
 unfoldable pub stretchOn : ℕ → List ℕ → List ℕ → State → ℕ → Stretched
@@ -76,4 +77,4 @@ stretchOf s reference st room = stretchOn (pick (both (eqb room roomSize) (ltb (
 -- whether the next segment has a fault, by value
 abbrev pub haltVerdict : Halt → Verdict
 haltVerdict Sound = accepted
-haltVerdict (Faulty x) = faulty x
+haltVerdict (Faulty x) = refused x

@@ -3,6 +3,7 @@
 use mathlib.Core.Path.{_≡_, refl, sym, ap, _∙_, subst}
 use mathlib.Core.Bool.{Bool, true, false}
 use mathlib.Core.List.{List, [], _∷_, _++_, append-assoc, append-nil}
+use Rattle.answers.specs.Answers.{refused}
 use Prim.Native.Nat.{ℕ, suc, _+_, _-_, _*_, _≤_, _<_}
 use native.Mathlib.Omega.{arith}
 use lib.Dec.{eqb, ltb}
@@ -10,7 +11,7 @@ use lib.ListN.{length, drop, length-append, length-drop}
 use borrow.Author.Tests.{eq-eqb, ne-eqb, lt-ltb, le-ltb}
 use Rattle.laws.specs.Choice.{pick, both, both-false, choose}
 use Rattle.laws.specs.Put.{putAt, put-none, put-put, length-put}
-use Rattle.syntax.specs.declared.segment.Refusal.{Refusal}
+use Rattle.answers.specs.declared.Refusal.{Refusal}
 use Rattle.syntax.specs.declared.segment.Scanned.the-variants.{End}
 use Rattle.syntax.specs.Segment.{bodyAt, segmentAt}
 use Rattle.syntax.specs.Ends.{ended}
@@ -22,7 +23,7 @@ use Rattle.steps.specs.declared.state.State.{State}
 use Rattle.steps.specs.declared.state.Row.{Row}
 use Rattle.interchange.specs.declared.turn.Turn.{Turn}
 use Rattle.interchange.specs.declared.turn.Turn.the-variants.{On, Stop}
-use Rattle.interchange.specs.Reader.{Verdict, accepted, faulty, turnStep, turnWith, numbers}
+use Rattle.interchange.specs.Reader.{Verdict, accepted, turnStep, turnWith, numbers}
 use Rattle.interchange.specs.Room.{roomSize, roomRows, fullFrom}
 use Rattle.interchange.specs.Laws.{putRow, numbers-append, length-numbers}
 use Rattle.interchange.specs.Offsets.{with-end}
@@ -118,7 +119,7 @@ module _ (s reference : List ℕ) where
         stretch-on next r then q
         ∙ ap (λ (b : Bool). ahead r (pick b (stretchOn k s reference next then) (halted next then accepted))) p
 
-    stretch-stop : (x : Refusal) → turn ≡ Stop x → stretchOn (suc k) s reference st at ≡ halted st at (pick (isEnded s at) (faulty x) accepted)
+    stretch-stop : (x : Refusal) → turn ≡ Stop x → stretchOn (suc k) s reference st at ≡ halted st at (pick (isEnded s at) (refused x) accepted)
     unfolding stretchOn
     stretch-stop x q =
         ap (λ (y : Turn). pick (isEnded s at) (stretchTurn (stretchOn k s reference) st at y) (halted st at accepted)) q
@@ -219,10 +220,10 @@ module _ (s reference : List ℕ) (w : Stretched) (lent : List ℕ) (size : leng
     abbrev again : (x : Stretched) → stretchOn (suc (v .free - 1)) s reference st at ≡ x → aheads (v .rows) x ≡ w
     again x e = ap (aheads (v .rows)) (sym (ap (λ (j : ℕ). stretchOn j s reference st at) one-more ∙ e)) ∙ v .whole
 
-    pub rest-stop : (x : Refusal) → turnWith tables s reference reference st at (segmentAt s at) ≡ Stop x → Reached w lent st at n (pick (isEnded s at) (faulty x) accepted) room
+    pub rest-stop : (x : Refusal) → turnWith tables s reference reference st at (segmentAt s at) ≡ Stop x → Reached w lent st at n (pick (isEnded s at) (refused x) accepted) room
     rest-stop x q =
-        reached w lent (v .rows) st at n (pick (isEnded s at) (faulty x) accepted) room
-        (again (halted st at (pick (isEnded s at) (faulty x) accepted)) (stretch-stop s reference (v .free - 1) st at x q)) (v .count) (v .put)
+        reached w lent (v .rows) st at n (pick (isEnded s at) (refused x) accepted) room
+        (again (halted st at (pick (isEnded s at) (refused x) accepted)) (stretch-stop s reference (v .free - 1) st at x q)) (v .count) (v .put)
 
     module _ (next : State) (r : Row) (then : ℕ) (q : turnWith tables s reference reference st at (segmentAt s at) ≡ On next r then) (put : List ℕ) (b : put ≡ putRow room n r) where
       put-behind : put ≡ putAt lent 0 (numbers (v .rows ++ (r ∷ [])))

@@ -10,12 +10,12 @@ use crate::standing::is_closed;
 use crate::standing::is_inside;
 use crate::turn::Turn;
 use crate::turn::take_turn;
+use answers::Refusal;
 use hints::tables::hints_of;
 use messages::MessageType;
 use placing::tables::table_of;
 use steps::state::Phase;
 use steps::state::State;
-use syntax::segment::Refusal;
 ghost use mathlib.Core.Path.{_≡_};
 ghost use Prim.Native.Nat.{_≤_};
 ghost use lib.ListN.{length};
@@ -52,6 +52,7 @@ fn ended(phase: Phase, numbers: usize, size: usize) -> Gathered
     Gathered::Faulty(Refusal {
         number: 7,
         position: size,
+        part: 0,
     })
 }
 
@@ -94,6 +95,7 @@ fn past_end(at: usize) -> Gathered
     Gathered::Faulty(Refusal {
         number: 7,
         position: at,
+        part: 0,
     })
 }
 

@@ -45,10 +45,10 @@ pub(crate) fn head_at(s: &[u8], at: usize) -> u32
 }
 
 // The end of a good POP.
-fn pop_end(s: &[u8], at: usize) -> Quick
-    ensures { λ r. ⌜ ((e : ℕ) → r ≡ Ends e → (segmentAt (now (s .entry)) at ≡ End e) × (isGood (periodOf (bodyAt (now (s .entry)) at)) ≡ true)) ⌝ }
+fn pop_end(s: &[u8], at: usize, wish: bool) -> Quick
+    ensures { λ r. ⌜ ((e : ℕ) → r ≡ Ends e → (segmentAt (now (s .entry)) at ≡ End e) × (isGood (periodOf wish (bodyAt (now (s .entry)) at)) ≡ true)) ⌝ }
 {
-    match pop_at(s, at) {
+    match pop_at(s, at, wish) {
         Pop::Whole(end, _, _, _) => Quick::Ends(end),
         Pop::Other => Quick::Unsure,
     }
@@ -56,15 +56,15 @@ fn pop_end(s: &[u8], at: usize) -> Quick
 
 /// The end of a segment with a given tag and a mark behind it, where it is small, or a good POP where it is read as one. The tag and the mark
 /// take one test.
-pub(crate) fn end_at(s: &[u8], at: usize, head: u32, tag: u32, read: bool) -> Quick
+pub(crate) fn end_at(s: &[u8], at: usize, head: u32, tag: u32, read: bool, wish: bool) -> Quick
     requires { ⌜ (at + 4 ≤ length (now s)) × Bytes (now s) at × (head ≡ headAt (now s) at) × (head / 256 ≡ tag → capitals (now s) at ≡ true) ⌝ }
-    ensures { λ r. ⌜ ((e : ℕ) → r ≡ Ends e → (segmentAt (now (s .entry)) at ≡ End e) × (head / 256 ≡ tag) × (pick read (isGood (periodOf (bodyAt (now (s .entry)) at))) true ≡ true)) ⌝ }
+    ensures { λ r. ⌜ ((e : ℕ) → r ≡ Ends e → (segmentAt (now (s .entry)) at ≡ End e) × (head / 256 ≡ tag) × (pick read (isGood (periodOf wish (bodyAt (now (s .entry)) at))) true ≡ true)) ⌝ }
 {
     let wanted = tag as u64 * 256;
     let found = head as u64;
     if found == wanted + 43 {
         if read {
-            return pop_end(s, at);
+            return pop_end(s, at, wish);
         }
         return quick_end(s, at);
     }

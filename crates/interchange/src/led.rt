@@ -22,6 +22,12 @@ pub(crate) enum Led {
     Unsure,
 }
 
+/// The row of the period that is read, and whether the caller asks for the old reading of it.
+pub(crate) struct PeriodRow {
+    pub row: usize,
+    pub wish: bool,
+}
+
 // The tag's column of a table.
 const TAG: usize = 1;
 
@@ -32,7 +38,7 @@ pub(crate) fn lead_on(
     table: &[[u32; 8]],
     hints: &[[u16; 16]],
     place: Packed,
-    period: usize,
+    period: PeriodRow,
 ) -> Led
     requires { ⌜ (at + 4 ≤ length (now s)) × (place .row < length (now hints)) × (length (now hints) ≡ length (now table)) × T (right (now table) (now hints)) × Stood (now table) (placeOf (place .row) (place .counts)) × Lettered (now table) × (length (now table) ≤ 104) ⌝ }
     ensures { λ r. ⌜ LedTold (now (s .entry)) at (now (table .entry)) (place .row) (place .counts) period r ⌝ }
@@ -43,7 +49,7 @@ pub(crate) fn lead_on(
         return Led::Unsure;
     }
     let to = next.row;
-    match end_at(s, at, head, table[to][TAG], to == period) {
+    match end_at(s, at, head, table[to][TAG], to == period.row, period.wish) {
         Quick::Ends(end) => Led::To(to, next.counts, end),
         Quick::Unsure => Led::Unsure,
     }

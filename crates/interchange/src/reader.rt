@@ -5,10 +5,10 @@ use crate::gather::gather;
 use crate::rows::copy_rows;
 use crate::run::ROOM;
 use crate::standing::Standing;
+use answers::Refusal;
 use hints::tables::hints;
 use placing::tables::tables;
 use steps::state::State;
-use syntax::segment::Refusal;
 ghost use mathlib.Core.Path.{_≡_};
 ghost use Prim.Native.Nat.{_+_, _*_, _≤_, _<_};
 ghost use lib.ListN.{length};
@@ -31,25 +31,27 @@ pub enum Reading {
     Refused(Refusal),
 }
 
-/// Reads an interchange and writes its rows, three numbers each, to the front of a lent buffer. A refusal leaves the
-/// buffer as it was, and what stands past the rows stays too.
-pub fn read(interchange: &[u8], rows: &mut [u32]) -> Reading
-    ensures told { λ r. ⌜ readAnswer r ≡ outcomeAnswer (readingOf (now (interchange .entry))) (length (now (rows .entry))) ⌝ }
-    ensures left { λ _. ⌜ now (rows .exit) ≡ rowsAfter (readingOf (now (interchange .entry))) (now (rows .entry)) ⌝ }
+/// Reads an interchange and writes its rows, three numbers each, to the front of a lent buffer. The wish is whether the caller asks for the
+/// old reading of a POP with neither form. A refusal leaves the buffer as it was, and what stands past the rows stays too.
+pub fn read(interchange: &[u8], wish: bool, rows: &mut [u32]) -> Reading
+    ensures told { λ r. ⌜ readAnswer r ≡ outcomeAnswer (readingOf wish (now (interchange .entry))) (length (now (rows .entry))) ⌝ }
+    ensures left { λ _. ⌜ now (rows .exit) ≡ rowsAfter (readingOf wish (now (interchange .entry))) (now (rows .entry)) ⌝ }
 {
     if interchange.len() == 0 {
         return Reading::Refused(Refusal {
             number: 3,
             position: 0,
+            part: 0,
         });
     }
     if 60000 < interchange.len() {
         return Reading::Refused(Refusal {
             number: 3,
             position: 0,
+            part: 0,
         });
     }
-    read_sized(interchange, rows)
+    read_sized(interchange, wish, rows)
 }
 
 // The reading from where it stands on. Each call gathers some rows in a room of its own, has the rest read, and writes its rows
@@ -74,6 +76,7 @@ fn read_on(
                 return Reading::Refused(Refusal {
                     number: 17,
                     position: 0,
+                    part: 0,
                 });
             }
             copy_rows(&room, n, rows, behind);
@@ -95,15 +98,15 @@ fn read_on(
 }
 
 // The same for an interchange of 1 to 60,000 bytes.
-fn read_sized(s: &[u8], rows: &mut [u32]) -> Reading
+fn read_sized(s: &[u8], wish: bool, rows: &mut [u32]) -> Reading
     requires { ⌜ length (now s) ≤ 60000 ⌝ }
-    ensures told { λ r. ⌜ readAnswer r ≡ outcomeAnswer (wholeFrom (now (s .entry)) openingState 0) (length (now (rows .entry))) ⌝ }
-    ensures left { λ _. ⌜ now (rows .exit) ≡ rowsAfter (wholeFrom (now (s .entry)) openingState 0) (now (rows .entry)) ⌝ }
+    ensures told { λ r. ⌜ readAnswer r ≡ outcomeAnswer (wholeFrom (now (s .entry)) (openingState wish) 0) (length (now (rows .entry))) ⌝ }
+    ensures left { λ _. ⌜ now (rows .exit) ≡ rowsAfter (wholeFrom (now (s .entry)) (openingState wish) 0) (now (rows .entry)) ⌝ }
 {
     let all = tables();
     let hinted = hints();
     let start = Standing {
-        state: State::opening(),
+        state: State::opening(wish),
         at: 0,
         numbers: 0,
     };

@@ -2,6 +2,7 @@
 //! offset and the rows change; whatever else comes is left to the step.
 
 use crate::led::Led;
+use crate::led::PeriodRow;
 use crate::led::lead_on;
 use crate::packed::Packed;
 use crate::packed::pack;
@@ -138,7 +139,11 @@ pub(crate) fn run(
             row,
             counts,
         };
-        let Led::To(to, next, end) = lead_on(s, at, table, hints, place, period) else {
+        let read = PeriodRow {
+            row: period,
+            wish: st.wish,
+        };
+        let Led::To(to, next, end) = lead_on(s, at, table, hints, place, read) else {
             break;
         };
         put_row(room, numbers, at as u32, placed(table, to, at));

@@ -8,19 +8,20 @@ use crate::standing::Standing;
 use crate::standing::is_same;
 use crate::turn::Turn;
 use crate::turn::turn_with;
+use answers::Refusal;
 use cuts::find_terminator;
 use hints::tables::hints;
 use placing::tables::tables;
 use steps::state::State;
-use syntax::segment::Refusal;
 ghost use mathlib.Core.Path.{_≡_};
 ghost use Prim.Native.Nat.{_*_, _≤_};
 ghost use lib.ListN.{length};
 ghost use Rattle.laws.specs.Choice.{pick};
 ghost use Rattle.laws.specs.Put.{putAt};
+ghost use Rattle.answers.specs.Answers.{refused};
 ghost use Rattle.placing.specs.Tables as placing;
 ghost use Rattle.hints.specs.Hints as hinting;
-ghost use Rattle.interchange.specs.Reader.{accepted, faulty, numbers};
+ghost use Rattle.interchange.specs.Reader.{accepted, numbers};
 ghost use Rattle.interchange.specs.Room.{roomSize, roomRows};
 ghost use Rattle.interchange.specs.Stretch.{isEnded, stretchOn, stretchOf, haltVerdict};
 ghost use Rattle.interchange.specs.Stretches.{Reached};
@@ -56,7 +57,7 @@ fn halted(state: State, at: usize, numbers: usize, halt: Halt) -> Stretch
 // The fault of the segment at an offset, where a terminator stands behind it; a segment that is cut may still be sound.
 fn halt_at(s: &[u8], at: usize, refusal: Refusal) -> Halt
     requires { ⌜ at ≤ length (now s) ⌝ }
-    ensures { λ r. ⌜ haltVerdict r ≡ pick (isEnded (now (s .entry)) at) (faulty refusal) accepted ⌝ }
+    ensures { λ r. ⌜ haltVerdict r ≡ pick (isEnded (now (s .entry)) at) (refused refusal) accepted ⌝ }
 {
     let rest = &s[at..];
     let ending = find_terminator(rest, false);

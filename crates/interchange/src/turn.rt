@@ -1,12 +1,12 @@
 //! One turn of the reading: the segment at an offset, and its step.
 
+use answers::Refusal;
 use parts::Part;
 use parts::bytes_of;
 use steps::state::Row;
 use steps::state::State;
 use steps::state::Step;
 use steps::step::step_segment;
-use syntax::segment::Refusal;
 use syntax::segment::Scanned;
 use syntax::segment::read_segment;
 ghost use mathlib.Core.Path.{_≡_};

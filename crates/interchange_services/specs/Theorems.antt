@@ -68,19 +68,19 @@ module _ (s : List ℕ) (rs : List Row) (past : List ℕ) where
       ∙ ap (λ (n : ℕ). listOf (isService buffer) (offsetAt buffer) n 0) count-all
       ∙ list-rows (length rs) 0 (omega arith)
 
-module _ (s : List ℕ) (i : IsInterchange s) where
+module _ (wish : Bool) (s : List ℕ) (i : IsInterchange wish s) where
   -- the services of the reading's own rows
-  pub services-when : prds (servicesOf s (numbers (readingOf s .rows)) (length (readingOf s .rows))) ≡ groupsOf (i .parts)
+  pub services-when : prds (servicesOf s (numbers (readingOf wish s .rows)) (length (readingOf wish s .rows))) ≡ groupsOf (i .parts)
   services-when =
-      ap (λ (b : List ℕ). prds (servicesOf s b (length (readingOf s .rows)))) (sym (append-nil (numbers (readingOf s .rows))))
-      ∙ services-rows s (readingOf s .rows) []
-      ∙ ap (λ (o : Outcome). prdsOf (o .rows)) (rows-when s i)
+      ap (λ (b : List ℕ). prds (servicesOf s b (length (readingOf wish s .rows)))) (sym (append-nil (numbers (readingOf wish s .rows))))
+      ∙ services-rows s (readingOf wish s .rows) []
+      ∙ ap (λ (o : Outcome). prdsOf (o .rows)) (rows-when wish s i)
       ∙ interchange-begins (i .parts)
 
   -- and of the rows that `read` leaves in a buffer that has room for them
   pub services-left : (lent : List ℕ) → 3 * length (rowsOf (i .parts)) ≤ length lent
-      → prds (servicesOf s (rowsAfter (readingOf s) lent) (length (rowsOf (i .parts)))) ≡ groupsOf (i .parts)
+      → prds (servicesOf s (rowsAfter (readingOf wish s) lent) (length (rowsOf (i .parts)))) ≡ groupsOf (i .parts)
   services-left lent h =
-      ap (λ (b : List ℕ). prds (servicesOf s b (length (rowsOf (i .parts))))) (written-when s i lent h)
+      ap (λ (b : List ℕ). prds (servicesOf s b (length (rowsOf (i .parts))))) (written-when wish s i lent h)
       ∙ services-rows s (rowsOf (i .parts)) (drop (length (numbers (rowsOf (i .parts)))) lent)
       ∙ interchange-begins (i .parts)

@@ -64,6 +64,6 @@ by-bytes (Good f n form) c o g a = either-one (inWindow (8 * length c) o f n)
     either-one true = marked-bytes (runsBy g form f) c (f - o) 0 n a
     either-one false = a
 
-pub joined-bytes : (c : List ℕ) (o : ℕ) (g : List ℕ) → AreBytes c → AreBytes (daysJoined c o g)
+pub joined-bytes : (wish : Bool) (c : List ℕ) (o : ℕ) (g : List ℕ) → AreBytes c → AreBytes (daysJoined wish c o g)
 unfolding daysJoined
-joined-bytes c o g a = by-bytes (periodOf g) c o g a
+joined-bytes wish c o g a = by-bytes (periodOf wish g) c o g a

@@ -198,7 +198,7 @@ pub record Spoken (g : List ℕ) (n : ℕ) : Type 0 where
   pub some : 1 ≤ length (dayText g)
   pub few : length (dayText g) ≤ n
 
-module _ (g : List ℕ) (f n : ℕ) {form : Form} (e : periodOf g ≡ Good f n form) where
+module _ (g : List ℕ) (f n : ℕ) {form : Form} (e : periodOf true g ≡ Good f n form) where
   dates-length : length (firstLast g) ≡ 21
   unfolding periodOf spanIn
   dates-length =
@@ -212,7 +212,7 @@ module _ (g : List ℕ) (f n : ℕ) {form : Form} (e : periodOf g ≡ Good f n f
 
   qualifier-length : length (qualifier g) ≡ 3
   unfolding restGood
-  qualifier-length = same-length (qualifier g) (50 ∷ 55 ∷ 51 ∷ []) (both-parts _ _ (good-told g f n form e .rest) .0)
+  qualifier-length = same-length (qualifier g) (50 ∷ 55 ∷ 51 ∷ []) (both-parts _ _ (good-told true g f n form e .rest) .0)
 
   pub dated : Dated g
   dated =
@@ -223,7 +223,7 @@ module _ (g : List ℕ) (f n : ℕ) {form : Form} (e : periodOf g ≡ Good f n f
 
   pub spoken : form ≡ ByString → Spoken g n
   spoken b =
-      let o = form-told n (dayText g) (weekText g) form (good-told g f n form e .told) in
+      let o = form-told true n (dayText g) (weekText g) form (good-told true g f n form e .told) in
       let s = string-given n (dayText g) (weekText g) (o .is ∙ b) (o .fits) in
       record { dates = dated; some = s .0; few = string-few n (dayText g) (s .1) }
 

@@ -2,6 +2,7 @@
 -- Assumes nothing.
 use mathlib.Core.Path.{_≡_, refl, ap, _∙_}
 use mathlib.Core.List.{List}
+use mathlib.Core.Bool.{Bool}
 use Prim.Native.Nat.{ℕ, _+_, _-_, _*_, _≤_, _<_}
 use borrow.Author.Tests.{le-leb, lt-leb}
 use lib.ListN.{length}
@@ -31,13 +32,13 @@ module _ (c : List ℕ) (o : ℕ) (g : List ℕ) (f n : ℕ) (form : Form) where
     unfolding windowAnswer windowDays
     in-window k e = (rw (le-leb o f h, le-leb (f - o + n) (8 * length c) k), rw (le-leb o f h, le-leb (f - o + n) (8 * length c) k) e)
 
-module _ (c : List ℕ) (o : ℕ) (g : List ℕ) where
-  pub wrong-told : {x : Fault} → periodOf g ≡ Wrong x → (WrongPeriod x ≡ answered (length c) o g) × (c ≡ daysJoined c o g)
+module _ (wish : Bool) (c : List ℕ) (o : ℕ) (g : List ℕ) where
+  pub wrong-told : {x : Fault} → periodOf wish g ≡ Wrong x → (WrongPeriod x ≡ answered wish (length c) o g) × (c ≡ daysJoined wish c o g)
   unfolding answered daysJoined
   wrong-told e = (rw e, rw e)
 
-  pub good-told : {f n : ℕ} {form : Form} {r : Joined} {last : List ℕ} → periodOf g ≡ Good f n form
-      → (r ≡ windowAnswer (length c) o f n) × (last ≡ windowDays c o g f n form) → (r ≡ answered (length c) o g) × (last ≡ daysJoined c o g)
+  pub good-told : {f n : ℕ} {form : Form} {r : Joined} {last : List ℕ} → periodOf wish g ≡ Good f n form
+      → (r ≡ windowAnswer (length c) o f n) × (last ≡ windowDays c o g f n form) → (r ≡ answered wish (length c) o g) × (last ≡ daysJoined wish c o g)
   unfolding answered daysJoined
   good-told e w = (rw e (w .0), rw e (w .1))
 
@@ -47,6 +48,6 @@ unfolding windowAnswer
 by-said at bytes o (Wrong x) = refl
 by-said at bytes o (Good f n form) = choose (inWindow (8 * bytes) o f n) (λ q. rw q) (λ q. rw q)
 
-pub join-said : (at bytes o : ℕ) (g : List ℕ) {r : Joined} → r ≡ answered bytes o g → joinedAnswer at r ≡ joinAnswer at bytes o g
+pub join-said : (wish : Bool) (at bytes o : ℕ) (g : List ℕ) {r : Joined} → r ≡ answered wish bytes o g → joinedAnswer at r ≡ joinAnswer wish at bytes o g
 unfolding answered
-join-said at bytes o g e = ap (joinedAnswer at) e ∙ by-said at bytes o (periodOf g) ∙ ap (windowed at bytes o) (pop-said at g)
+join-said wish at bytes o g e = ap (joinedAnswer at) e ∙ by-said at bytes o (periodOf wish g) ∙ ap (windowed at bytes o) (pop-said wish at g)

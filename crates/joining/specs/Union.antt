@@ -138,34 +138,34 @@ length-by (Good f n form) c o g = picked (inWindow (8 * length c) o f n)
     picked true = length-marked (runsBy g form f) c (f - o) 0 n
     picked false = refl
 
-module _ (c : List ℕ) (o : ℕ) (g : List ℕ) where
+module _ (wish : Bool) (c : List ℕ) (o : ℕ) (g : List ℕ) where
   -- after a period is joined a day is selected exactly when it was before or the period selects it
-  pub joined-day : answered (length c) o g ≡ Done → (j : ℕ) → day (daysJoined c o g) j ≡ either (day c j) (selects g (o + j))
+  pub joined-day : answered wish (length c) o g ≡ Done → (j : ℕ) → day (daysJoined wish c o g) j ≡ either (day c j) (selects wish g (o + j))
   unfolding answered daysJoined selects
-  joined-day e j = by-day (periodOf g) c o g j e
+  joined-day e j = by-day (periodOf wish g) c o g j e
 
   -- a refusal changes nothing
-  pub joined-refused : (answered (length c) o g ≡ Done → ⊥) → daysJoined c o g ≡ c
+  pub joined-refused : (answered wish (length c) o g ≡ Done → ⊥) → daysJoined wish c o g ≡ c
   unfolding answered daysJoined
-  joined-refused e = refused-by (periodOf g) c o g e
+  joined-refused e = refused-by (periodOf wish g) c o g e
 
-  pub length-joined : length (daysJoined c o g) ≡ length c
+  pub length-joined : length (daysJoined wish c o g) ≡ length c
   unfolding daysJoined
-  length-joined = length-by (periodOf g) c o g
+  length-joined = length-by (periodOf wish g) c o g
 
 -- each of some POPs is good and in the window
-abbrev pub AllDone : ℕ → ℕ → List (List ℕ) → Type 0
-AllDone bytes o [] = Unit {0}
-AllDone bytes o (g ∷ gs) = (answered bytes o g ≡ Done) × AllDone bytes o gs
+abbrev pub AllDone : Bool → ℕ → ℕ → List (List ℕ) → Type 0
+AllDone wish bytes o [] = Unit {0}
+AllDone wish bytes o (g ∷ gs) = (answered wish bytes o g ≡ Done) × AllDone wish bytes o gs
 
-pub joined-all : (gs : List (List ℕ)) (c : List ℕ) (o j : ℕ) → AllDone (length c) o gs
-    → day (joinAll c o gs) j ≡ either (day c j) (anySelects gs (o + j))
+pub joined-all : (wish : Bool) (gs : List (List ℕ)) (c : List ℕ) (o j : ℕ) → AllDone wish (length c) o gs
+    → day (joinAll wish c o gs) j ≡ either (day c j) (anySelects wish gs (o + j))
 unfolding joinAll
-joined-all [] c o j a = sym (either-false (day c j))
-joined-all (g ∷ gs) c o j a =
-    joined-all gs (daysJoined c o g) o j (rw (length-joined c o g) (a .1))
-    ∙ ap (λ (x : Bool). either x (anySelects gs (o + j))) (joined-day c o g (a .0) j)
-    ∙ either-assoc (day c j) (selects g (o + j)) (anySelects gs (o + j))
+joined-all wish [] c o j a = sym (either-false (day c j))
+joined-all wish (g ∷ gs) c o j a =
+    joined-all wish gs (daysJoined wish c o g) o j (rw (length-joined wish c o g) (a .1))
+    ∙ ap (λ (x : Bool). either x (anySelects wish gs (o + j))) (joined-day wish c o g (a .0) j)
+    ∙ either-assoc (day c j) (selects wish g (o + j)) (anySelects wish gs (o + j))
 
 -- a calendar with no day
 pub no-days : ℕ → List ℕ
@@ -190,9 +190,9 @@ length-none zero = refl
 length-none (suc n) = ap suc (length-none n)
 
 -- a service runs on exactly the dates that its periods select; o is the number of the window's first date
-pub service-runs : (bytes o : ℕ) (gs : List (List ℕ)) (a : Date) → AllDone bytes o gs → o ≤ number a
-    → day (joinAll (no-days bytes) o gs) (number a - o) ≡ anySelects gs (number a)
-service-runs bytes o gs a d h =
+pub service-runs : (wish : Bool) (bytes o : ℕ) (gs : List (List ℕ)) (a : Date) → AllDone wish bytes o gs → o ≤ number a
+    → day (joinAll wish (no-days bytes) o gs) (number a - o) ≡ anySelects wish gs (number a)
+service-runs wish bytes o gs a d h =
     let e : o + (number a - o) ≡ number a = omega arith in
-    joined-all gs (no-days bytes) o (number a - o) (rw (length-none bytes) d)
+    joined-all wish gs (no-days bytes) o (number a - o) (rw (length-none bytes) d)
     ∙ rw (no-day bytes (number a - o), e)

@@ -332,7 +332,7 @@ fn week_in(g: &[u8]) -> u8
 
 // Selects the days of a period that run; its first day is at an index of the calendar.
 fn mark_form(days: &mut [u8], at: usize, g: &[u8], first: usize, n: usize, form: Form)
-    requires { ⌜ (at + n ≤ 8 * length (now days)) × (at + n ≤ 65536) × (periodOf (now g) ≡ Good first n form) ⌝ }
+    requires { ⌜ (at + n ≤ 8 * length (now days)) × (at + n ≤ 65536) × (periodOf true (now g) ≡ Good first n form) ⌝ }
     ensures { λ _. ⌜ now (days .exit) ≡ marked (runsBy (now (g .entry)) form first) (now (days .entry)) at 0 n ⌝ }
 {
     match form {
@@ -350,7 +350,7 @@ fn mark_form(days: &mut [u8], at: usize, g: &[u8], first: usize, n: usize, form:
 
 // The same where the period lies in the window.
 fn join_form(days: &mut [u8], origin: usize, g: &[u8], first: usize, n: usize, form: Form) -> Joined
-    requires { ⌜ periodOf (now g) ≡ Good first n form ⌝ }
+    requires { ⌜ periodOf true (now g) ≡ Good first n form ⌝ }
     ensures { λ r. ⌜ (r ≡ windowAnswer (length (now (days .entry))) origin first n) × (now (days .exit) ≡ windowDays (now (days .entry)) origin (now (g .entry)) first n form) ⌝ }
 {
     if first < origin {
@@ -364,13 +364,13 @@ fn join_form(days: &mut [u8], origin: usize, g: &[u8], first: usize, n: usize, f
     Joined::Done
 }
 
-/// Selects the days of a POP's period in a calendar of 8 days for each byte, whose first day has the number `origin`.
-/// On a refusal the calendar stays as it was.
-pub fn join_period(days: &mut [u8], origin: usize, s: &[u8], segment: Part) -> Joined
-    ensures told { λ r. ⌜ (r ≡ answered (length (now (days .entry))) origin (bytesOf (now (s .entry)) segment)) × (now (days .exit) ≡ daysJoined (now (days .entry)) origin (bytesOf (now (s .entry)) segment)) ⌝ }
-    ensures said { λ r. ⌜ joinedAnswer (segment .from) r ≡ joinAnswer (segment .from) (length (now (days .entry))) origin (bytesOf (now (s .entry)) segment) ⌝ }
+/// Selects the days of a POP's period in a calendar of 8 days for each byte, whose first day has the number `origin`. The wish is whether the
+/// caller asks for the old reading of a POP with neither form. On a refusal the calendar stays as it was.
+pub fn join_period(days: &mut [u8], origin: usize, s: &[u8], segment: Part, wish: bool) -> Joined
+    ensures told { λ r. ⌜ (r ≡ answered wish (length (now (days .entry))) origin (bytesOf (now (s .entry)) segment)) × (now (days .exit) ≡ daysJoined wish (now (days .entry)) origin (bytesOf (now (s .entry)) segment)) ⌝ }
+    ensures said { λ r. ⌜ joinedAnswer (segment .from) r ≡ joinAnswer wish (segment .from) (length (now (days .entry))) origin (bytesOf (now (s .entry)) segment) ⌝ }
 {
-    match read_period(s, segment) {
+    match read_period(s, segment, wish) {
         Period::Wrong(fault) => Joined::WrongPeriod(fault),
         Period::Good(first, n, form) => {
             join_form(days, origin, bytes_of(s, segment), first, n, form)
@@ -379,12 +379,12 @@ pub fn join_period(days: &mut [u8], origin: usize, s: &[u8], segment: Part) -> J
 }
 
 /// Selects the days of the POP at an offset, up to its terminator or to the input's end, as `join_period` does of a segment.
-pub fn join_at(days: &mut [u8], origin: usize, s: &[u8], at: usize) -> Joined
-    ensures told { λ r. ⌜ (r ≡ answered (length (now (days .entry))) origin (bodyAt (now (s .entry)) at)) × (now (days .exit) ≡ daysJoined (now (days .entry)) origin (bodyAt (now (s .entry)) at)) ⌝ }
-    ensures said { λ r. ⌜ joinedAnswer at r ≡ joinAnswer at (length (now (days .entry))) origin (bodyAt (now (s .entry)) at) ⌝ }
+pub fn join_at(days: &mut [u8], origin: usize, s: &[u8], at: usize, wish: bool) -> Joined
+    ensures told { λ r. ⌜ (r ≡ answered wish (length (now (days .entry))) origin (bodyAt (now (s .entry)) at)) × (now (days .exit) ≡ daysJoined wish (now (days .entry)) origin (bodyAt (now (s .entry)) at)) ⌝ }
+    ensures said { λ r. ⌜ joinedAnswer at r ≡ joinAnswer wish at (length (now (days .entry))) origin (bodyAt (now (s .entry)) at) ⌝ }
 {
-    match pop_at(s, at) {
+    match pop_at(s, at, wish) {
         Pop::Whole(end, first, n, form) => join_form(days, origin, &s[at..end], first, n, form),
-        Pop::Other => join_period(days, origin, s, segment_at(s, at)),
+        Pop::Other => join_period(days, origin, s, segment_at(s, at), wish),
     }
 }

@@ -24,12 +24,12 @@ pub data Standing : Type 0 where
 abbrev pub foundAnswer : Found → Answer Standing
 foundAnswer (Segment tag next) = done (segment tag next)
 foundAnswer Over = done over
-foundAnswer (Refused x) = refused (x .number) (x .position)
+foundAnswer (Refused x) = refused x
 
 -- "in it 4, 5, 6": what the segment answers, with its tag and the next one's offset
 abbrev pub standing : List ℕ → ℕ → Answer ℕ → Answer Standing
 standing s at (done e) = done (segment (tagNumber (drop at s)) (e + 1))
-standing s at (refused number position) = refused number position
+standing s at (refused refusal) = refused refusal
 
 unfoldable pub standingAt : List ℕ → ℕ → Answer Standing
 standingAt s at = pick (leb (length s) at) (done over) (standing s at (segmentAnswer s at))

@@ -1,7 +1,7 @@
 //! The reader over the lent interchange: the slice, and how far it has come ("The reader walks forward only").
 //! Its functions are thin: each takes the struct apart and calls a function that takes a plain slice.
 
-use syntax::segment::Refusal;
+use answers::Refusal;
 use syntax::segment::Scanned;
 use syntax::segment::read_segment;
 use syntax::segment::tag_at;

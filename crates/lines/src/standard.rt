@@ -29,12 +29,14 @@ pub fn say_number(n: usize) {
     io::print_decimal(STDOUT_FILENO, n as u64);
 }
 
-/// Writes the line of a refusal: number and position.
-pub fn say_refusal(number: u8, position: usize) {
+/// Writes the line of a refusal: number, position and part.
+pub fn say_refusal(number: u8, position: usize, part: u8) {
     say(b"refused ");
     say_number(number as usize);
     say(b" ");
     say_number(position);
+    say(b" ");
+    say_number(part as usize);
     say(b"\n");
 }
 

@@ -1,6 +1,6 @@
 -- Each message of an interchange has exactly one arrangement by its table alone: the one that the reader's rows tell. Assumes nothing.
 use mathlib.Core.Path.{_≡_, refl, sym, _∙_, ap, ap₂}
-use mathlib.Core.Bool.{true}
+use mathlib.Core.Bool.{Bool, true}
 use mathlib.Core.List.{List, [], _∷_, _++_, map}
 use mathlib.Core.Logic.{_↔_}
 use Prim.Native.Nat.{ℕ, zero, suc}
@@ -104,10 +104,10 @@ module _ (t : Table) (free : groupAt t 0 ≡ 0) where
 
 -- Each message has it
 
-pub message-one-way : (m : Message) → isMessage m ≡ true → OneArrangement m
-message-one-way m h =
+pub message-one-way : (wish : Bool) (m : Message) → isMessage wish m ≡ true → OneArrangement m
+message-one-way wish m h =
     let t = tableFor m in
-    let p = to-parts m h in
+    let p = to-parts wish m h in
     let r = own-one-way (messageTypeOf m) in
     let free = uih-free t (r .last) (r .table) in
     let c = placed-arranged m (p .tag) (p .rest .trailer) (p .rest .placed) in
@@ -121,21 +121,23 @@ message-one-way m h =
       only = λ a v e. at-most-one t (r .table .well) (r .one) a (c .0) v (c .1) (e ∙ sym (c .2));
     }
 
-each-one-way : (ms : List Message) → all isMessage ms ≡ true → EachOneWay ms
-each-one-way [] h = tt
-each-one-way (m ∷ ms) h = let p = both-parts (isMessage m) (all isMessage ms) h in (message-one-way m (p .0), each-one-way ms (p .1))
+each-one-way : (wish : Bool) (ms : List Message) → all (isMessage wish) ms ≡ true → EachOneWay ms
+each-one-way wish [] h = tt
+each-one-way wish (m ∷ ms) h =
+    let p = both-parts (isMessage wish m) (all (isMessage wish) ms) h in
+    (message-one-way wish m (p .0), each-one-way wish ms (p .1))
 
-rules-messages : (x : Interchange) → rulesHold x ≡ true → all isMessage (x .messages) ≡ true
+rules-messages : (wish : Bool) (x : Interchange) → rulesHold wish x ≡ true → all (isMessage wish) (x .messages) ≡ true
 unfolding rulesHold
-rules-messages x h =
+rules-messages wish x h =
     let closing = goodClosing (x .closing) (referenceIn (x .opening)) (length (x .messages)) in
-    let a = both-parts (goodOpening (x .opening)) (both (ltb 0 (length (x .messages))) (both (all isMessage (x .messages)) closing)) h in
-    let b = both-parts (ltb 0 (length (x .messages))) (both (all isMessage (x .messages)) closing) (a .1) in
-    both-parts (all isMessage (x .messages)) closing (b .1) .0
+    let a = both-parts (goodOpening (x .opening)) (both (ltb 0 (length (x .messages))) (both (all (isMessage wish) (x .messages)) closing)) h in
+    let b = both-parts (ltb 0 (length (x .messages))) (both (all (isMessage wish) (x .messages)) closing) (a .1) in
+    both-parts (all (isMessage wish) (x .messages)) closing (b .1) .0
 
-pub interchange-one-way : (s : List ℕ) (i : IsInterchange s) → EachOneWay (i .parts .messages)
-interchange-one-way s i = each-one-way (i .parts .messages) (rules-messages (i .parts) (i .rules))
+pub interchange-one-way : (wish : Bool) (s : List ℕ) (i : IsInterchange wish s) → EachOneWay (i .parts .messages)
+interchange-one-way wish s i = each-one-way wish (i .parts .messages) (rules-messages wish (i .parts) (i .rules))
 
 -- and so whatever is accepted is read in one way only
-pub accepted-one-way : (s : List ℕ) → readingOf s .verdict ≡ accepted → (i : IsInterchange s) × EachOneWay (i .parts .messages)
-accepted-one-way s e = let i = only-when s e in (i, interchange-one-way s i)
+pub accepted-one-way : (wish : Bool) (s : List ℕ) → readingOf wish s .verdict ≡ accepted → (i : IsInterchange wish s) × EachOneWay (i .parts .messages)
+accepted-one-way wish s e = let i = only-when wish s e in (i, interchange-one-way wish s i)

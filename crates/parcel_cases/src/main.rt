@@ -8,8 +8,11 @@
 //! `store`, a length, and calls, parted by tabs: `begin`, `finish`, or a parcel behind `|`, before which stands how many numbers the buffer
 //! for the rows holds. Written is what each call tells, and its rows.
 //!
+//! These ask for the old reading of a POP with neither form; `given` and `new` are as `cuts` and `begin` but do not.
+//!
 //! More than 60 rows are told by `long`, how many they are, and a remainder by 65,521.
 
+use answers::Refusal;
 use interchange::reader::Reading;
 use lines::decode;
 use lines::field;
@@ -27,7 +30,6 @@ use parcels::finish;
 use parcels::take;
 use parts::Part;
 use parts::bytes_of;
-use syntax::segment::Refusal;
 use text::Written;
 use text::write_refusal;
 use text::write_table;
@@ -79,9 +81,9 @@ fn print(out: &[u8], from: usize, written: Written) {
     }
 }
 
-fn print_refusal(number: u8, position: usize) {
-    let mut line = [0u8; 50];
-    let written = write_refusal(number, position, &mut line);
+fn print_refusal(refusal: Refusal) {
+    let mut line = [0u8; 72];
+    let written = write_refusal(refusal, &mut line);
     print(&line, 0, written);
 }
 
@@ -119,18 +121,29 @@ fn print_rows(rows: &[u32], n: usize) {
     print(&out, 17, written);
 }
 
-// How a reading went: how many numbers its rows are, its refusal (number 0 for none), and with which byte a parcel named it (0 for none).
+// How a reading went that asked or did not: how many numbers its rows are, its refusal (number 0 for none), and with which byte a parcel named it
+// (0 for none).
 struct Course {
+    wish: bool,
     numbers: usize,
-    number: u8,
-    position: usize,
+    refusal: Refusal,
     named: usize,
+}
+
+// A refusal of no period: number 0 is none, and 255 is none of the paper's.
+fn told(number: u8, position: usize) -> Refusal {
+    Refusal {
+        number,
+        position,
+        part: 0,
+    }
 }
 
 fn print_course(course: Course, rows: &[u32]) {
     print_rows(rows, course.numbers / 3);
-    if course.number != 0 {
-        print_refusal(course.number, course.position);
+    let refusal = course.refusal;
+    if refusal.number != 0 {
+        print_refusal(refusal);
     }
 }
 
@@ -147,15 +160,15 @@ fn go_on(store: &mut [u8], parcel: &[u8], to: usize, rows: &mut [u32], course: C
     }
     match take(store, parcel, &mut rows[from..]) {
         Parcel::Rows(n) => Course {
+            wish: course.wish,
             numbers: behind(from, n),
-            number: 0,
-            position: 0,
+            refusal: told(0, 0),
             named: 0,
         },
         Parcel::Refused(n, refusal) => Course {
+            wish: course.wish,
             numbers: behind(from, n),
-            number: refusal.number,
-            position: refusal.position,
+            refusal,
             named: to,
         },
     }
@@ -182,18 +195,14 @@ fn take_all(
     first: usize,
     size: usize,
     rows: &mut [u32],
+    none: Course,
 ) -> Course {
-    let none = Course {
-        numbers: 0,
-        number: 0,
-        position: 0,
-        named: 0,
-    };
     let front = bytes_of(interchange, Part { from: 0, to: first });
     let mut course = go_on(store, front, first, rows, none);
     let mut at = first;
     while at < interchange.len() {
-        if course.number != 0 {
+        let refusal = course.refusal;
+        if refusal.number != 0 {
             return course;
         }
         let to = next_cut(at, size, interchange.len());
@@ -205,44 +214,59 @@ fn take_all(
 }
 
 // A course with another refusal, which no parcel named.
-fn ended(course: Course, number: u8, position: usize) -> Course {
+fn ended(course: Course, refusal: Refusal) -> Course {
     Course {
+        wish: course.wish,
         numbers: course.numbers,
-        number,
-        position,
+        refusal,
         named: 0,
     }
 }
 
-// What the last call refuses: what a parcel named, where one did. 255 is none of ours.
+fn is_one(a: Refusal, b: Refusal) -> bool {
+    if a.number != b.number {
+        return false;
+    }
+    if a.position != b.position {
+        return false;
+    }
+    a.part == b.part
+}
+
+// What the last call refuses: what a parcel named, where one did.
 fn refused(course: Course, refusal: Refusal) -> Course {
-    if course.number == 0 {
-        return ended(course, refusal.number, refusal.position);
+    let before = course.refusal;
+    if before.number == 0 {
+        return ended(course, refusal);
     }
-    if course.number != refusal.number {
-        return ended(course, 255, 0);
+    if is_one(before, refusal) {
+        return course;
     }
-    if course.position != refusal.position {
-        return ended(course, 255, 1);
-    }
-    course
+    ended(course, told(255, 0))
 }
 
 // What the last call accepts: as many rows as there were.
 fn accepted(course: Course, n: usize) -> Course {
-    if course.number != 0 {
-        return ended(course, 255, 2);
+    let before = course.refusal;
+    if before.number != 0 {
+        return ended(course, told(255, 1));
     }
     if behind(0, n) != course.numbers {
-        return ended(course, 255, 3);
+        return ended(course, told(255, 2));
     }
     course
 }
 
-fn read_cut(interchange: &[u8], first: usize, size: usize, rows: &mut [u32]) -> Course {
+fn read_cut(interchange: &[u8], wish: bool, first: usize, size: usize, rows: &mut [u32]) -> Course {
     let mut store = [0u8; STORE];
-    begin(&mut store);
-    let course = take_all(&mut store, interchange, first, size, rows);
+    begin(&mut store, wish);
+    let none = Course {
+        wish,
+        numbers: 0,
+        refusal: told(0, 0),
+        named: 0,
+    };
+    let course = take_all(&mut store, interchange, first, size, rows, none);
     match finish(&mut store) {
         Reading::Rows(n) => accepted(course, n),
         Reading::Refused(refusal) => refused(course, refusal),
@@ -270,10 +294,9 @@ fn is_same(a: Course, b: Course, rows: &[u32], other: &[u32]) -> bool {
     if a.numbers != b.numbers {
         return false;
     }
-    if a.number != b.number {
-        return false;
-    }
-    if a.position != b.position {
+    let one = a.refusal;
+    let another = b.refusal;
+    if !is_one(one, another) {
         return false;
     }
     have_same(rows, other, a.numbers)
@@ -288,7 +311,7 @@ fn agrees(
     rows: &[u32],
     other: &mut [u32],
 ) -> bool {
-    let course = read_cut(interchange, first, size, other);
+    let course = read_cut(interchange, whole.wish, first, size, other);
     is_same(whole, course, rows, other)
 }
 
@@ -314,13 +337,13 @@ fn first_other(
     at
 }
 
-fn print_differing(interchange: &[u8], at: usize, rows: &mut [u32]) {
+fn print_differing(interchange: &[u8], wish: bool, at: usize, rows: &mut [u32]) {
     say(b"differs\t");
     say_number(at);
     say(b"\n");
-    let once = read_cut(interchange, at, 0, rows);
+    let once = read_cut(interchange, wish, at, 0, rows);
     print_course(once, rows);
-    let often = read_cut(interchange, at, at, rows);
+    let often = read_cut(interchange, wish, at, at, rows);
     print_course(often, rows);
 }
 
@@ -342,30 +365,31 @@ fn least(a: usize, b: usize) -> usize {
     if a < b { a } else { b }
 }
 
-fn answer_ways(interchange: &[u8], from: usize, to: usize) {
+fn answer_ways(interchange: &[u8], wish: bool, from: usize, to: usize) {
     let mut rows = [0u32; 45000];
-    let whole = read_cut(interchange, interchange.len(), 0, &mut rows);
+    let whole = read_cut(interchange, wish, interchange.len(), 0, &mut rows);
     print_course(whole, &rows);
     let mut other = [0u32; 45000];
-    let single = read_cut(interchange, 1, 1, &mut other);
+    let single = read_cut(interchange, wish, 1, 1, &mut other);
     if !is_same(whole, single, &rows, &other) {
-        print_differing(interchange, 1, &mut other);
+        print_differing(interchange, wish, 1, &mut other);
         return;
     }
     let end = least(to, interchange.len());
     let at = first_other(interchange, from, end, whole, &rows, &mut other);
     if at < end {
-        print_differing(interchange, at, &mut other);
+        print_differing(interchange, wish, at, &mut other);
         return;
     }
     print_same(from, at, single.named);
 }
 
-fn answer_cuts(line: &[u8]) {
+fn answer_cuts(line: &[u8], wish: bool) {
     let mut interchange = [0u8; 65536];
     let n = expand(piece_at(line, field(line, 3), b'\t'), &mut interchange);
     answer_ways(
         bytes_of(&interchange, Part { from: 0, to: n }),
+        wish,
         number(line, field(line, 1)),
         number(line, field(line, 2)),
     );
@@ -377,14 +401,14 @@ fn print_count(n: usize) {
     say(b"\n");
 }
 
-fn print_parcel(told: Parcel, rows: &[u32]) {
-    match told {
+fn print_parcel(answer: Parcel, rows: &[u32]) {
+    match answer {
         Parcel::Rows(n) => {
             print_count(n);
             print_rows(rows, n);
         }
         Parcel::Refused(n, refusal) => {
-            print_refusal(refusal.number, refusal.position);
+            print_refusal(refusal);
             print_rows(rows, n);
         }
     }
@@ -396,8 +420,8 @@ fn take_in(store: &mut [u8], parcel: &[u8], rows: &mut [u32], room: usize) {
     }
     let from = rows.len() - room;
     let lent = &mut rows[from..];
-    let told = take(store, parcel, lent);
-    print_parcel(told, lent);
+    let answer = take(store, parcel, lent);
+    print_parcel(answer, lent);
 }
 
 fn call_take(word: &[u8], store: &mut [u8]) {
@@ -413,17 +437,17 @@ fn call_take(word: &[u8], store: &mut [u8]) {
     );
 }
 
-fn call_begin(store: &mut [u8]) {
+fn call_begin(store: &mut [u8], wish: bool) {
     say(b"begin\t");
-    let told = begin(store);
-    print_parcel(told, &[0]);
+    let answer = begin(store, wish);
+    print_parcel(answer, &[0]);
 }
 
 fn call_finish(store: &mut [u8]) {
     say(b"finish\t");
     match finish(store) {
         Reading::Rows(n) => print_count(n),
-        Reading::Refused(refusal) => print_refusal(refusal.number, refusal.position),
+        Reading::Refused(refusal) => print_refusal(refusal),
     }
 }
 
@@ -432,7 +456,11 @@ fn call(word: &[u8], store: &mut [u8]) {
         return;
     }
     if word[0] == b'b' {
-        call_begin(store);
+        call_begin(store, true);
+        return;
+    }
+    if word[0] == b'n' {
+        call_begin(store, false);
         return;
     }
     if word[0] == b'f' {
@@ -467,10 +495,14 @@ fn answer_line(line: &[u8]) {
         return;
     }
     if line[0] == b'c' {
-        answer_cuts(line);
+        answer_cuts(line, true);
         return;
     }
-    let mut store = [0u8; 12325];
+    if line[0] == b'g' {
+        answer_cuts(line, false);
+        return;
+    }
+    let mut store = [0u8; 12329];
     answer_calls(line, &mut store, number(line, field(line, 1)));
 }
 

@@ -40,11 +40,11 @@ picked false a b t f = f refl
 
 step-within : (x : Stand) (g : List ℕ) → arrivedBytes x < 60000 → (a : Answer Taken) → Within (arrivedStep x g a)
 step-within x g h (done (taken st r)) = omega arith
-step-within x g h (refused number position) = omega arith
+step-within x g h (refused refusal) = omega arith
 
 scan-within : (x : Stand) (g : List ℕ) → arrivedBytes x < 60000 → (a : Answer ℕ) → Within (arrivedScan x g a)
 scan-within x g h (done e) = step-within x g h (segmentStep tables (x .state) (x .offset) g (x .dialogue) (x .reference))
-scan-within x g h (refused number position) = omega arith
+scan-within x g h (refused refusal) = omega arith
 
 awaited-within : (x : Stand) (b : ℕ) → arrivedBytes x ≤ 60000 → Within (awaitedByte x b)
 unfolding awaitedByte
@@ -84,26 +84,26 @@ reached-by b x size e fits h =
 
 -- `begin`
 
-same-beginning : {t d r : List ℕ} → t ≡ [] → d ≡ [] → r ≡ []
+same-beginning : (wish : Bool) {t d r : List ℕ} → t ≡ [] → d ≡ [] → r ≡ []
     → _≡_ {A = Stand}
-    (record { state = beginning .state; offset = 0; body = t; released = false; dialogue = d; reference = r; count = 0; final = awaited })
-    beginning
-same-beginning p q u = rw (p, q, u)
+    (record { state = beginning wish .state; offset = 0; body = t; released = false; dialogue = d; reference = r; count = 0; final = awaited })
+    (beginning wish)
+same-beginning wish p q u = rw (p, q, u)
 
-pub held-begun : (b : List ℕ) → length b ≡ storeSize → heldIn (beginStore b) ≡ beginning
+pub held-begun : (wish : Bool) (b : List ℕ) → length b ≡ storeSize → heldIn (beginStore wish b) ≡ beginning wish
 unfolding beginStore
-held-begun b size =
-    let h = putAt b 0 (headOf beginning) in
-    rw (eq-eqb (length b) storeSize size, keep-head beginning b refl)
-    (ap (λ (k : Kept). standOf k h) (kept-read beginning fits-beginning b h (omega arith) refl)
-    ∙ same-beginning (between-none h bodyPlace (bodyPlace + 0) (omega arith)) (between-none h dialoguePlace (dialoguePlace + 0) (omega arith)) (between-none h referencePlace (referencePlace + 0) (omega arith)))
+held-begun wish b size =
+    let h = putAt b 0 (headOf (beginning wish)) in
+    rw (eq-eqb (length b) storeSize size, keep-head (beginning wish) b refl)
+    (ap (λ (k : Kept). standOf k h) (kept-read (beginning wish) (fits-beginning wish) b h (omega arith) refl)
+    ∙ same-beginning wish (between-none h bodyPlace (bodyPlace + 0) (omega arith)) (between-none h dialoguePlace (dialoguePlace + 0) (omega arith)) (between-none h referencePlace (referencePlace + 0) (omega arith)))
 
-length-begun : (b : List ℕ) → length (beginStore b) ≡ length b
+length-begun : (wish : Bool) (b : List ℕ) → length (beginStore wish b) ≡ length b
 unfolding beginStore
-length-begun b = choose (isStore b) (λ p. rw p (length-keep (only beginning) b)) (λ p. rw p)
+length-begun wish b = choose (isStore b) (λ p. rw p (length-keep (only (beginning wish)) b)) (λ p. rw p)
 
-pub reached-begun : (b : List ℕ) → length b ≡ storeSize → Reached (beginStore b)
-reached-begun b size = reached-by (beginStore b) beginning (length-begun b ∙ size) (held-begun b size) fits-beginning (omega arith)
+pub reached-begun : (wish : Bool) (b : List ℕ) → length b ≡ storeSize → Reached (beginStore wish b)
+reached-begun wish b size = reached-by (beginStore wish b) (beginning wish) (length-begun wish b ∙ size) (held-begun wish b size) (fits-beginning wish) (omega arith)
 
 -- A parcel
 
@@ -180,16 +180,16 @@ cut-fits : (count at : ℕ) (g : List ℕ) → at + length g ≤ 60000 → Final
 unfolding bodyAnswer
 cut-fits count at g h =
     let r = run-within g in
-    choose (all permittedOf g) (λ p. rw (p, le-ltb (at + length g) (at + length g) (omega arith)) (omega arith, omega arith, omega arith)) (λ p. rw p (omega arith, omega arith, omega arith))
+    choose (all permittedOf g) (λ p. rw (p, le-ltb (at + length g) (at + length g) (omega arith)) (omega arith, omega arith, omega arith, refl)) (λ p. rw p (omega arith, omega arith, omega arith, refl))
 
 end-fits : (x : Stand) → arrivedBytes x ≤ 60000 → FinalFits (x .count) (given (awaitedEnd x))
 unfolding awaitedEnd
 end-fits x h =
-    choose (eqb (arrivedBytes x) 0) (λ p. rw p (omega arith, omega arith, omega arith))
+    choose (eqb (arrivedBytes x) 0) (λ p. rw p (omega arith, omega arith, omega arith, refl))
     (λ p.
     rw p
     (choose (eqb (length (x .body)) 0)
-    (λ q. rw q (choose (isClosed (x .state .phase)) (λ r. rw r refl) (λ r. rw r (omega arith, omega arith, omega arith))))
+    (λ q. rw q (choose (isClosed (x .state .phase)) (λ r. rw r refl) (λ r. rw r (omega arith, omega arith, omega arith, refl))))
     (λ q. rw q (cut-fits (x .count) (x .offset) (x .body) h))))
 
 -- the store has the final answer then

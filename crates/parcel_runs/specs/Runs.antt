@@ -11,7 +11,9 @@ use lib.ListN.{length, take}
 use borrow.Author.Tests.{eq-eqb, le-ltb, ltb-false, not-true}
 use Rattle.laws.specs.Choice.{pick, both, both-parts, choose}
 use Rattle.laws.specs.Put.{putAt, take-put}
-use Rattle.answers.specs.Answers.{Answer, done, refused, outputTooShort}
+use Rattle.answers.specs.declared.Refusal.{Refusal}
+use Rattle.answers.specs.Answers.{Answer, done, refused, number, outputTooShort}
+use Rattle.answers.specs.Laws.{done≢refused, refused-is}
 use Rattle.interchange.specs.Reader.{Verdict, accepted, numbers, outcomeAnswer, readingOf}
 use Rattle.interchange.specs.Laws.{length-numbers, numbers-append}
 use Rattle.arrival.specs.Arrived.{Final, Stand, Brought, awaited, given, arrivedOn, arrived, endOf}
@@ -121,24 +123,24 @@ unfolding finishAnswer
 end-reached b size = rw (eq-eqb (length b) storeSize size)
 
 -- a run in which each call has room gives out what arrived, and ends with its final answer
-pub runs-as-arrived : (b : List ℕ) (l : List Call) → length b ≡ storeSize → roomy (beginStore b) l ≡ true
-    → (runGiven (beginStore b) l ≡ numbers (arrived (joinedParcels l) .rows)) × (finishAnswer (runStore (beginStore b) l) ≡ endOf (arrived (joinedParcels l) .stand))
-runs-as-arrived b l size q =
-    let r = reached-begun b size in
-    let w = run-from (beginStore b) l r q in
-    let e = held-begun b size in (
+pub runs-as-arrived : (wish : Bool) (b : List ℕ) (l : List Call) → length b ≡ storeSize → roomy (beginStore wish b) l ≡ true
+    → (runGiven (beginStore wish b) l ≡ numbers (arrived wish (joinedParcels l) .rows)) × (finishAnswer (runStore (beginStore wish b) l) ≡ endOf (arrived wish (joinedParcels l) .stand))
+runs-as-arrived wish b l size q =
+    let r = reached-begun wish b size in
+    let w = run-from (beginStore wish b) l r q in
+    let e = held-begun wish b size in (
       w .0 ∙ ap (λ (s : Stand). numbers (arrivedOn s (joinedParcels l) .rows)) e,
-      end-reached (runStore (beginStore b) l) (reached-run (beginStore b) l r .size) ∙ ap endOf (w .1 ∙ ap (λ (s : Stand). arrivedOn s (joinedParcels l) .stand) e),
+      end-reached (runStore (beginStore wish b) l) (reached-run (beginStore wish b) l r .size) ∙ ap endOf (w .1 ∙ ap (λ (s : Stand). arrivedOn s (joinedParcels l) .stand) e),
     )
 
 -- "The rows given out, their order and the final answer must not depend on the cuts."
-pub cuts-alike : (b c : List ℕ) (l m : List Call) → length b ≡ storeSize → length c ≡ storeSize → roomy (beginStore b) l ≡ true → roomy (beginStore c) m ≡ true
+pub cuts-alike : (wish : Bool) (b c : List ℕ) (l m : List Call) → length b ≡ storeSize → length c ≡ storeSize → roomy (beginStore wish b) l ≡ true → roomy (beginStore wish c) m ≡ true
     → joinedParcels l ≡ joinedParcels m
-    → (runGiven (beginStore b) l ≡ runGiven (beginStore c) m) × (finishAnswer (runStore (beginStore b) l) ≡ finishAnswer (runStore (beginStore c) m))
-cuts-alike b c l m bs cs p q e =
-    let v = runs-as-arrived b l bs p in
-    let w = runs-as-arrived c m cs q in
-    (v .0 ∙ ap (λ (s : List ℕ). numbers (arrived s .rows)) e ∙ sym (w .0), v .1 ∙ ap (λ (s : List ℕ). endOf (arrived s .stand)) e ∙ sym (w .1))
+    → (runGiven (beginStore wish b) l ≡ runGiven (beginStore wish c) m) × (finishAnswer (runStore (beginStore wish b) l) ≡ finishAnswer (runStore (beginStore wish c) m))
+cuts-alike wish b c l m bs cs p q e =
+    let v = runs-as-arrived wish b l bs p in
+    let w = runs-as-arrived wish c m cs q in
+    (v .0 ∙ ap (λ (s : List ℕ). numbers (arrived wish s .rows)) e ∙ sym (w .0), v .1 ∙ ap (λ (s : List ℕ). endOf (arrived wish s .stand)) e ∙ sym (w .1))
 
 -- "an empty parcel being allowed": it adds nothing to what is joined, and has room in any buffer
 
@@ -171,23 +173,23 @@ unfolding joinedParcels
 joined-empty [] m lent = refl
 joined-empty (x ∷ l) m lent = ap (λ (s : List ℕ). x .parcel ++ s) (joined-empty l m lent)
 
-pub empty-alike : (b : List ℕ) (l m : List Call) (lent : List ℕ) → length b ≡ storeSize → roomy (beginStore b) (l ++ m) ≡ true
-    → (runGiven (beginStore b) (l ++ (emptyCall lent ∷ m)) ≡ runGiven (beginStore b) (l ++ m))
-    × (finishAnswer (runStore (beginStore b) (l ++ (emptyCall lent ∷ m))) ≡ finishAnswer (runStore (beginStore b) (l ++ m)))
-empty-alike b l m lent size q =
-    let r = reached-begun b size in
+pub empty-alike : (wish : Bool) (b : List ℕ) (l m : List Call) (lent : List ℕ) → length b ≡ storeSize → roomy (beginStore wish b) (l ++ m) ≡ true
+    → (runGiven (beginStore wish b) (l ++ (emptyCall lent ∷ m)) ≡ runGiven (beginStore wish b) (l ++ m))
+    × (finishAnswer (runStore (beginStore wish b) (l ++ (emptyCall lent ∷ m))) ≡ finishAnswer (runStore (beginStore wish b) (l ++ m)))
+empty-alike wish b l m lent size q =
+    let r = reached-begun wish b size in
     let more = l ++ (emptyCall lent ∷ m) in
-    let p = roomy-held (beginStore b) more r ∙ roomy-empty (heldIn (beginStore b)) l m lent ∙ sym (roomy-held (beginStore b) (l ++ m) r) ∙ q in
-    cuts-alike b b more (l ++ m) size size p q (joined-empty l m lent)
+    let p = roomy-held (beginStore wish b) more r ∙ roomy-empty (heldIn (beginStore wish b)) l m lent ∙ sym (roomy-held (beginStore wish b) (l ++ m) r) ∙ q in
+    cuts-alike wish b b more (l ++ m) size size p q (joined-empty l m lent)
 
 -- "Where the whole reader accepts, rows and answer equal its own; where it refuses, so does this one, same number and position, after the rows of the segments before the fault."
 -- `room` is the room of the buffer that is lent to `read`.
-pub runs-as-read : (b : List ℕ) (l : List Call) (s : List ℕ) (room : ℕ) → length b ≡ storeSize → roomy (beginStore b) l ≡ true → joinedParcels l ≡ s
-    → length s ≤ 60000 → segmentsFit s ≡ true → 3 * length (readingOf s .rows) ≤ room
-    → (runGiven (beginStore b) l ≡ numbers (readingOf s .rows)) × (finishAnswer (runStore (beginStore b) l) ≡ outcomeAnswer (readingOf s) room)
-runs-as-read b l s room size q e small fits h =
-    let w = runs-as-arrived b l size q in
-    (w .0 ∙ ap (λ (t : List ℕ). numbers (arrived t .rows)) e ∙ ap numbers (agrees s small fits .0), w .1 ∙ ap (λ (t : List ℕ). endOf (arrived t .stand)) e ∙ agrees-read s small fits room h)
+pub runs-as-read : (wish : Bool) (b : List ℕ) (l : List Call) (s : List ℕ) (room : ℕ) → length b ≡ storeSize → roomy (beginStore wish b) l ≡ true → joinedParcels l ≡ s
+    → length s ≤ 60000 → segmentsFit s ≡ true → 3 * length (readingOf wish s .rows) ≤ room
+    → (runGiven (beginStore wish b) l ≡ numbers (readingOf wish s .rows)) × (finishAnswer (runStore (beginStore wish b) l) ≡ outcomeAnswer (readingOf wish s) room)
+runs-as-read wish b l s room size q e small fits h =
+    let w = runs-as-arrived wish b l size q in
+    (w .0 ∙ ap (λ (t : List ℕ). numbers (arrived wish t .rows)) e ∙ ap numbers (agrees wish s small fits .0), w .1 ∙ ap (λ (t : List ℕ). endOf (arrived wish t .stand)) e ∙ agrees-read wish s small fits room h)
 
 -- ---- "17 where a parcel's rows do not fit, that parcel then not taken"
 
@@ -217,12 +219,12 @@ crowded-out b (x ∷ l) =
     rw q (ap (λ (k : List ℕ). callGiven b x ++ k) (w .0), w .1, ap (λ (p : Bool). both (not p) (roomy (callStore b x) (fitting (callStore b x) l))) q ∙ w .2))
 
 -- and ends with the final answer of what they brought
-pub taken-as-arrived : (b : List ℕ) (l : List Call) → length b ≡ storeSize
-    → (runGiven (beginStore b) l ≡ numbers (arrived (joinedParcels (fitting (beginStore b) l)) .rows))
-    × (finishAnswer (runStore (beginStore b) l) ≡ endOf (arrived (joinedParcels (fitting (beginStore b) l)) .stand))
-taken-as-arrived b l size =
-    let w = crowded-out (beginStore b) l in
-    let v = runs-as-arrived b (fitting (beginStore b) l) size (w .2) in
+pub taken-as-arrived : (wish : Bool) (b : List ℕ) (l : List Call) → length b ≡ storeSize
+    → (runGiven (beginStore wish b) l ≡ numbers (arrived wish (joinedParcels (fitting (beginStore wish b) l)) .rows))
+    × (finishAnswer (runStore (beginStore wish b) l) ≡ endOf (arrived wish (joinedParcels (fitting (beginStore wish b) l)) .stand))
+taken-as-arrived wish b l size =
+    let w = crowded-out (beginStore wish b) l in
+    let v = runs-as-arrived wish b (fitting (beginStore wish b) l) size (w .2) in
     (w .0 ∙ v .0, ap finishAnswer (w .1) ∙ v .1)
 
 -- ---- "later calls repeat the final answer"
@@ -237,50 +239,41 @@ repeats-given b a size f =
       left = finish-repeats b a size f .1;
     }
 
-done≢refused : (number position : ℕ) → accepted ≡ refused number position → ⊥
-done≢refused number position e = let z : _≡_ {A = ℕ} 0 1 = cc in omega arith
-
-verdict-final : (f : Final) (number position : ℕ) → verdictBy f ≡ refused number position → f ≡ given (refused number position)
-verdict-final awaited number position e = absurd (done≢refused number position e)
-verdict-final (given (done n)) number position e = absurd (done≢refused number position e)
-verdict-final (given (refused m p)) number position e =
-    let a : m ≡ number = cc in
-    let b : p ≡ position = cc in
-    rw (a, b)
-
-number-same : (a b c d : ℕ) → _≡_ {A = Verdict} (refused a b) (refused c d) → c ≡ a
-number-same a b c d e = cc
+verdict-final : (f : Final) (refusal : Refusal) → verdictBy f ≡ refused refusal → f ≡ given (refused refusal)
+verdict-final awaited refusal e = absurd (done≢refused e)
+verdict-final (given (done n)) refusal e = absurd (done≢refused e)
+verdict-final (given (refused x)) refusal e = ap (λ (y : Refusal). given (refused y)) (refused-is e)
 
 -- a call that names a fault, after any calls
-pub refusal-repeats : (b : List ℕ) (l : List Call) (x : Call) (number position : ℕ) → length b ≡ storeSize
-    → callTold (runStore (beginStore b) l) x .verdict ≡ refused number position → (number ≡ 17 → ⊥)
-    → Repeats (callStore (runStore (beginStore b) l) x) (refused number position) (refused number position)
-refusal-repeats b l x number position size v other =
-    let c = runStore (beginStore b) l in
-    let r = reached-run (beginStore b) l (reached-begun b size) in
+pub refusal-repeats : (wish : Bool) (b : List ℕ) (l : List Call) (x : Call) (refusal : Refusal) → length b ≡ storeSize
+    → callTold (runStore (beginStore wish b) l) x .verdict ≡ refused refusal → (refusal .number ≡ 17 → ⊥)
+    → Repeats (callStore (runStore (beginStore wish b) l) x) (refused refusal) (refused refusal)
+refusal-repeats wish b l x refusal size v other =
+    let c = runStore (beginStore wish b) l in
+    let r = reached-run (beginStore wish b) l (reached-begun wish b size) in
     choose (callCrowded c x)
-    (λ q. absurd (other (number-same 17 0 number position (sym (ap (λ (t : Told). t .verdict) (crowded-call c x q .0)) ∙ v))))
+    (λ q. absurd (other (sym (ap number (sym (ap (λ (t : Told). t .verdict) (crowded-call c x q .0)) ∙ v)))))
     (λ q.
-    let f = verdict-final (broughtBy c (x .parcel) .stand .final) number position (sym (ap (λ (t : Told). t .verdict) (told-roomy c (x .parcel) (length (x .lent)) (r .size) q)) ∙ v) in
-    repeats-given (callStore c x) (refused number position) (reached-taken c (x .parcel) (x .lent) r .size)
+    let f = verdict-final (broughtBy c (x .parcel) .stand .final) refusal (sym (ap (λ (t : Told). t .verdict) (told-roomy c (x .parcel) (length (x .lent)) (r .size) q)) ∙ v) in
+    repeats-given (callStore c x) (refused refusal) (reached-taken c (x .parcel) (x .lent) r .size)
     (ap (λ (s : Stand). s .final) (held-taken c (x .parcel) (length (x .lent)) r q) ∙ f))
 
 -- the end of the input, after any calls
-pub end-repeats : (b : List ℕ) (l : List Call) (a : Answer ℕ) → length b ≡ storeSize → finishAnswer (runStore (beginStore b) l) ≡ a
-    → Repeats (finishStore (runStore (beginStore b) l)) (verdictBy (given a)) a
-end-repeats b l a size e =
-    let c = runStore (beginStore b) l in
-    let w = finished c (reached-run (beginStore b) l (reached-begun b size)) in
+pub end-repeats : (wish : Bool) (b : List ℕ) (l : List Call) (a : Answer ℕ) → length b ≡ storeSize → finishAnswer (runStore (beginStore wish b) l) ≡ a
+    → Repeats (finishStore (runStore (beginStore wish b) l)) (verdictBy (given a)) a
+end-repeats wish b l a size e =
+    let c = runStore (beginStore wish b) l in
+    let w = finished c (reached-run (beginStore wish b) l (reached-begun wish b size)) in
     repeats-given (finishStore c) a (w .0) (w .1 ∙ ap given e)
 
 -- so that after an accepted one a parcel has neither row nor fault
-pub accepted-repeats : (b : List ℕ) (l : List Call) (n : ℕ) → length b ≡ storeSize → finishAnswer (runStore (beginStore b) l) ≡ done n
-    → Repeats (finishStore (runStore (beginStore b) l)) accepted (done n)
-accepted-repeats b l n size e = end-repeats b l (done n) size e
+pub accepted-repeats : (wish : Bool) (b : List ℕ) (l : List Call) (n : ℕ) → length b ≡ storeSize → finishAnswer (runStore (beginStore wish b) l) ≡ done n
+    → Repeats (finishStore (runStore (beginStore wish b) l)) accepted (done n)
+accepted-repeats wish b l n size e = end-repeats wish b l (done n) size e
 
-pub refused-repeats : (b : List ℕ) (l : List Call) (number position : ℕ) → length b ≡ storeSize → finishAnswer (runStore (beginStore b) l) ≡ refused number position
-    → Repeats (finishStore (runStore (beginStore b) l)) (refused number position) (refused number position)
-refused-repeats b l number position size e = end-repeats b l (refused number position) size e
+pub refused-repeats : (wish : Bool) (b : List ℕ) (l : List Call) (refusal : Refusal) → length b ≡ storeSize → finishAnswer (runStore (beginStore wish b) l) ≡ refused refusal
+    → Repeats (finishStore (runStore (beginStore wish b) l)) (refused refusal) (refused refusal)
+refused-repeats wish b l refusal size e = end-repeats wish b l (refused refusal) size e
 
 -- any calls then
 pub repeats-run : (b : List ℕ) (v : Verdict) (a : Answer ℕ) → Repeats b v a → (l : List Call)

@@ -1,11 +1,13 @@
 -- What a reading has room for in a store: each number in two bytes, each text in its part, and a final answer that its number tells.
 -- Assumes nothing.
 use mathlib.Core.Path.{_≡_}
+use mathlib.Core.Bool.{true}
 use Prim.Native.Nat.{ℕ, _+_, _<_, _≤_}
 use lib.ListN.{length}
 use Rattle.answers.specs.Answers.{done, refused}
 use Rattle.placing.specs.declared.Place.{Place}
 use Rattle.steps.specs.declared.state.State.{State}
+use Rattle.steps.specs.Parts.{partFits}
 use Rattle.arrival.specs.Arrived.{Final, Stand, awaited, given, bare}
 use Rattle.parcel_store.specs.Store.{partSize}
 
@@ -19,11 +21,11 @@ pub record StateFits (st : State) : Type 0 where
   pub row : st .place .row < 65536
   pub counts : Counted 65535 (st .place)
 
--- the rows of an accepted interchange are those given out; a refusal's number is from 2 to 21
+-- the rows of an accepted interchange are those given out; a refusal's number is from 2 to 21, and its part may stand beside it
 abbrev pub FinalFits : ℕ → Final → Type 0
 FinalFits count awaited = Unit {0}
 FinalFits count (given (done n)) = n ≡ count
-FinalFits count (given (refused number position)) = (2 ≤ number) × (number ≤ 21) × (position < 65536)
+FinalFits count (given (refused x)) = (2 ≤ x .number) × (x .number ≤ 21) × (x .position < 65536) × (partFits x ≡ true)
 
 pub record Fits (x : Stand) : Type 0 where
   pub state : StateFits (x .state)

@@ -8,18 +8,19 @@ use native.Mathlib.Omega.{arith}
 use lib.Dec.{eqb, leb, ltb}
 use borrow.Author.Tests.{eqb-false, leb-true, ltb-false}
 use lib.ListN.{length, getD}
-use Rattle.laws.specs.Choice.{choose}
+use Rattle.laws.specs.Choice.{both, choose, both-parts}
 use Rattle.laws.specs.Lists.{between, length-between}
 use Rattle.laws.specs.Put.{putAt, length-put, put-put}
 use Rattle.laws.specs.Filled.{filledUp}
 use Rattle.answers.specs.Answers.{done, refused}
 use Rattle.steps.specs.declared.state.State.{State}
+use Rattle.steps.specs.Parts.{isPart}
 use Rattle.arrival.specs.Arrived as arrival
 use Rattle.arrival.specs.Arrived.{Stand, Brought, awaited, given, bare}
 use Rattle.parcel_store.specs.declared.Final.{Final}
 use Rattle.parcel_store.specs.declared.Final.the-variants.{Awaited, Accepted, Refused}
 use Rattle.parcel_store.specs.declared.Kept.{Kept}
-use Rattle.parcel_store.specs.Store.{storeSize, dialoguePlace, referencePlace, bodyPlace, partSize, numberIn, finalOf, lengthOf, placeIn, keptIn, finalBy, standOf, heldIn, finalNumber, finalPosition, answerNumber, answerPosition, stateHead, otherHead, otherWith, headOf, putPart, referred, keep}
+use Rattle.parcel_store.specs.Store.{storeSize, dialoguePlace, referencePlace, bodyPlace, partSize, numberIn, finalOf, lengthOf, placeIn, keptIn, finalBy, standOf, heldIn, finalNumber, finalPosition, finalPart, answerNumber, answerPosition, answerPart, stateHead, otherHead, otherWith, headOf, putPart, referred, keep}
 use Rattle.parcel_store.specs.Puts.{before-kept, behind-kept, text-read, length-filled, filled-read, part-read}
 use Rattle.parcel_store.specs.Bounds.{Counted, StateFits, FinalFits, Fits}
 use Rattle.parcel_store.specs.Numbers.{answerOf, keptOf, kept-read}
@@ -39,11 +40,16 @@ final-position Awaited count = refl
 final-position Accepted count = refl
 final-position (Refused x) count = refl
 
--- the eight other numbers, where five of them are known by equations
+final-part : (a : Final) (count : ℕ) → finalPart (finalBy a count) ≡ answerPart a
+final-part Awaited count = refl
+final-part Accepted count = refl
+final-part (Refused x) count = refl
+
+-- the ten other numbers, where most of them are known by equations
 other-is : (x : Stand) (k : Kept) → x .offset ≡ k .offset → length (x .body) ≡ k .body → x .released ≡ k .released → length (x .dialogue) ≡ k .dialogue
     → length (x .reference) ≡ k .reference → x .count ≡ k .count → finalNumber (x .final) ≡ answerNumber (k .answer) → finalPosition (x .final) ≡ answerPosition (k .answer)
-    → otherHead x ≡ otherWith k
-other-is x k a b c d e f g h = rw (a, b, c, d, e, f, g, h)
+    → finalPart (x .final) ≡ answerPart (k .answer) → x .state .wish ≡ k .state .wish → otherHead x ≡ otherWith k
+other-is x k a b c d e f g h i j = rw (a, b, c, d, e, f, g, h, i, j)
 
 module _ (k : Kept) (b : List ℕ) (size : length b ≡ storeSize) (body : k .body ≤ partSize) (dialogue : k .dialogue ≤ partSize) (reference : k .reference ≤ partSize) where
   pub head-is : headOf (standOf k b) ≡ stateHead (k .state) ++ otherWith k
@@ -51,7 +57,7 @@ module _ (k : Kept) (b : List ℕ) (size : length b ≡ storeSize) (body : k .bo
   head-is =
       ap (λ (l : List ℕ). stateHead (k .state) ++ l)
       (other-is (standOf k b) k refl (length-part b bodyPlace (k .body) (omega arith)) refl (length-part b dialoguePlace (k .dialogue) (omega arith))
-      (length-part b referencePlace (k .reference) (omega arith)) refl (final-number (k .answer) (k .count)) (final-position (k .answer) (k .count)))
+      (length-part b referencePlace (k .reference) (omega arith)) refl (final-number (k .answer) (k .count)) (final-position (k .answer) (k .count)) (final-part (k .answer) (k .count)) refl)
 
   pub saved : putAt (putAt b 0 (stateHead (k .state))) 20 (otherWith k) ≡ putAt b 0 (headOf (standOf k b))
   saved = put-put b 0 (stateHead (k .state)) 20 (otherWith k) refl (omega arith) ∙ ap (putAt b 0) (sym head-is)
@@ -70,10 +76,10 @@ narrow h = omega arith
 length-small : (n : ℕ) → lengthOf n ≤ partSize
 length-small n = choose (ltb partSize n) (λ p. rw p (omega arith)) (λ p. rw p (ltb-false partSize n p))
 
-position-small : (n p : ℕ) → p < 65536 → answerPosition (finalOf n p) < 65536
-position-small n p h =
+position-small : (n p q : ℕ) → p < 65536 → answerPosition (finalOf n p q) < 65536
+position-small n p q h =
     choose (eqb n 0) (λ a. rw a (omega arith))
-    (λ a. rw a (choose (eqb n 1) (λ c. rw c (omega arith)) (λ c. rw c (choose (leb n 21) (λ d. rw d h) (λ d. rw d (omega arith))))))
+    (λ a. rw a (choose (eqb n 1) (λ c. rw c (omega arith)) (λ c. rw c (choose (both (leb n 21) (isPart n q)) (λ d. rw d h) (λ d. rw d (omega arith))))))
 
 -- what `load` tells of a store
 pub record Sizes (k : Kept) : Type 0 where
@@ -103,23 +109,24 @@ module _ (b : List ℕ) (bytes : (i : ℕ) → getD b i 0 < 256) where
         dialogue = length-small (numberIn b 26);
         reference = length-small (numberIn b 28);
         count = small 30;
-        position = position-small (numberIn b 32) (numberIn b 34) (small 34);
+        position = position-small (numberIn b 32) (numberIn b 34) (numberIn b 36) (small 34);
       }
 
-final-fits : (n p count : ℕ) → p < 65536 → FinalFits count (finalBy (finalOf n p) count)
-final-fits n p count h =
+final-fits : (n p q count : ℕ) → p < 65536 → FinalFits count (finalBy (finalOf n p q) count)
+final-fits n p q count h =
     choose (eqb n 0) (λ a. rw a tt)
     (λ a.
     rw a
     (choose (eqb n 1) (λ c. rw c refl)
     (λ c.
     rw c
-    (choose (leb n 21)
+    (choose (both (leb n 21) (isPart n q))
     (λ d.
     let z = eqb-false n 0 a in
     let o = eqb-false n 1 c in
-    let l = leb-true n 21 d in
-    rw d (omega arith, l, h))
+    let u = both-parts (leb n 21) (isPart n q) d in
+    let l = leb-true n 21 (u .0) in
+    rw d (omega arith, l, h, u .1))
     (λ d. rw d tt)))))
 
 -- so that what it holds has room in a store
@@ -140,7 +147,7 @@ fits-held b size bytes counted =
       dialogue = subst (λ (n : ℕ). n ≤ partSize) (sym (length-part b dialoguePlace (k .dialogue) (omega arith))) d;
       reference = subst (λ (n : ℕ). n ≤ partSize) (sym (length-part b referencePlace (k .reference) (omega arith))) r;
       count = s .count;
-      final = final-fits (numberIn b 32) (numberIn b 34) (numberIn b 30) (number-small b bytes 34);
+      final = final-fits (numberIn b 32) (numberIn b 34) (numberIn b 36) (numberIn b 30) (number-small b bytes 34);
     }
 
 -- The round trip
@@ -148,7 +155,7 @@ fits-held b size bytes counted =
 final-read : (count : ℕ) (f : arrival.Final) → FinalFits count f → finalBy (answerOf f) count ≡ f
 final-read count awaited h = refl
 final-read count (given (done n)) h = ap (λ (k : ℕ). given (done k)) (sym h)
-final-read count (given (refused number position)) h = refl
+final-read count (given (refused refusal)) h = refl
 
 -- a store with the numbers of a reading, and its texts in their places
 same-stand : (x : Stand) (b : List ℕ) → bare (x .state) ≡ x .state → between b bodyPlace (bodyPlace + length (x .body)) ≡ x .body
@@ -193,7 +200,7 @@ length-keep x b =
     ∙ length-part-put (x .headed) first referencePlace (x .stand .reference)
     ∙ length-part-put (x .opened) b dialoguePlace (x .stand .dialogue)
 
-length-head : (x : Stand) → length (headOf x) ≡ 36
+length-head : (x : Stand) → length (headOf x) ≡ 40
 unfolding headOf
 length-head x = refl
 
@@ -233,7 +240,7 @@ module _ (x : Brought) (b : List ℕ) (size : length b ≡ storeSize) (fits : Fi
   length-third = length-put second bodyPlace body ∙ length-second
 
   -- what stands behind the numbers
-  behind-head : (from to : ℕ) → 36 ≤ from → between (putAt third 0 (headOf (x .stand))) from to ≡ between third from to
+  behind-head : (from to : ℕ) → 40 ≤ from → between (putAt third 0 (headOf (x .stand))) from to ≡ between third from to
   behind-head from to h =
       let n = length-head (x .stand) in
       behind-kept third 0 (headOf (x .stand)) from to (omega arith)

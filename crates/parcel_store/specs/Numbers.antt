@@ -19,12 +19,13 @@ use Rattle.placing.specs.declared.Place.{Place}
 use Rattle.steps.specs.declared.state.Phase.{Phase}
 use Rattle.steps.specs.declared.state.Phase.the-variants.{Opening, Between, Inside, Closed}
 use Rattle.steps.specs.declared.state.State.{State}
+use Rattle.steps.specs.Parts.{part-few}
 use Rattle.arrival.specs.Arrived as arrival
 use Rattle.arrival.specs.Arrived.{Stand, awaited, given, bare}
 use Rattle.parcel_store.specs.declared.Final.{Final}
 use Rattle.parcel_store.specs.declared.Final.the-variants.{Awaited, Accepted, Refused}
 use Rattle.parcel_store.specs.declared.Kept.{Kept}
-use Rattle.parcel_store.specs.Store.{partSize, numberIn, phaseOf, messageOf, finalOf, lengthOf, placeIn, stateIn, keptIn, phaseNumber, messageNumber, flagNumber, finalNumber, finalPosition, headOf}
+use Rattle.parcel_store.specs.Store.{partSize, numberIn, phaseOf, messageOf, finalOf, lengthOf, placeIn, stateIn, keptIn, phaseNumber, messageNumber, flagNumber, finalNumber, finalPosition, finalPart, headOf}
 use Rattle.parcel_store.specs.Puts.{byte-read}
 use Rattle.parcel_store.specs.Bounds.{FinalFits, Fits}
 
@@ -62,13 +63,14 @@ number-read o l b e i h k s =
     let high = ap (λ (x : List ℕ). getD x (suc (i + i)) 0) e ∙ byte-read o (pairs l) (suc (i + i)) (omega arith) (omega arith) ∙ high-pairs l i h in
     rw (add-one, low, high) (omega arith)
 
--- the 18 numbers of a store, in their order
+-- the 20 numbers of a store, in their order
 abbrev numbersOf : Stand → List ℕ
 numbersOf x =
     phaseNumber (x .state .phase) ∷ messageNumber (x .state .message) ∷ x .state .messages ∷ x .state .segments ∷ x .state .place .row
     ∷ x .state .place .c0 ∷ x .state .place .c1 ∷ x .state .place .c2 ∷ x .state .place .c3 ∷ x .state .place .c4
     ∷ x .offset ∷ length (x .body) ∷ flagNumber (x .released) ∷ length (x .dialogue) ∷ length (x .reference)
-    ∷ x .count ∷ finalNumber (x .final) ∷ finalPosition (x .final) ∷ []
+    ∷ x .count ∷ finalNumber (x .final) ∷ finalPosition (x .final) ∷ finalPart (x .final)
+    ∷ flagNumber (x .state .wish) ∷ []
 
 head-pairs : (x : Stand) → headOf x ≡ pairs (numbersOf x)
 unfolding headOf pairs
@@ -110,24 +112,29 @@ length-read n h = rw (le-ltb partSize n h)
 abbrev pub answerOf : arrival.Final → Final
 answerOf awaited = Awaited
 answerOf (given (done n)) = Accepted
-answerOf (given (refused number position)) = Refused (record { number = number; position = position })
+answerOf (given (refused refusal)) = Refused refusal
 
-pub answer-read : (count : ℕ) (f : arrival.Final) → FinalFits count f → finalOf (finalNumber f) (finalPosition f) ≡ answerOf f
+pub answer-read : (count : ℕ) (f : arrival.Final) → FinalFits count f → finalOf (finalNumber f) (finalPosition f) (finalPart f) ≡ answerOf f
 answer-read count awaited h = refl
 answer-read count (given (done n)) h = refl
-answer-read count (given (refused number position)) h =
+answer-read count (given (refused x)) h =
     let a = h .0 in
-    rw (ne-eqb number 0 (λ e. omega arith), ne-eqb number 1 (λ e. omega arith), le-leb number 21 (h .1))
+    rw (ne-eqb (x .number) 0 (λ e. omega arith), ne-eqb (x .number) 1 (λ e. omega arith), le-leb (x .number) 21 (h .1), h .3)
 
 number-small : (count : ℕ) (f : arrival.Final) → FinalFits count f → finalNumber f < 65536
 number-small count awaited h = omega arith
 number-small count (given (done n)) h = omega arith
-number-small count (given (refused number position)) h = let a = h .1 in omega arith
+number-small count (given (refused refusal)) h = let a = h .1 in omega arith
 
 position-small : (count : ℕ) (f : arrival.Final) → FinalFits count f → finalPosition f < 65536
 position-small count awaited h = omega arith
 position-small count (given (done n)) h = omega arith
-position-small count (given (refused number position)) h = h .2
+position-small count (given (refused refusal)) h = h .2
+
+part-small : (count : ℕ) (f : arrival.Final) → FinalFits count f → finalPart f < 65536
+part-small count awaited h = omega arith
+part-small count (given (done n)) h = omega arith
+part-small count (given (refused x)) h = let a = part-few (x .number) (x .part) (h .3) in omega arith
 
 -- what is kept of a reading beside its texts
 abbrev pub keptOf : Stand → Kept
@@ -150,8 +157,8 @@ same-place : {row c0 c1 c2 c3 c4 : ℕ} (p : Place) → row ≡ p .row → c0 �
     → _≡_ {A = Place} (record { row = row; c0 = c0; c1 = c1; c2 = c2; c3 = c3; c4 = c4 }) p
 same-place p a b c d e f = rw (a, b, c, d, e, f)
 
-same-state : {phase : Phase} {message : MessageType} {messages segments : ℕ} {place : Place} (st : State) → phase ≡ st .phase → message ≡ st .message
-    → messages ≡ st .messages → segments ≡ st .segments → place ≡ st .place
+same-state : {phase : Phase} {message : MessageType} {messages segments : ℕ} {place : Place} {wish : Bool} (st : State) → phase ≡ st .phase → message ≡ st .message
+    → messages ≡ st .messages → segments ≡ st .segments → place ≡ st .place → wish ≡ st .wish
     → _≡_ {A = State}
     (record {
       phase = phase;
@@ -163,9 +170,10 @@ same-state : {phase : Phase} {message : MessageType} {messages segments : ℕ} {
       «headed_at» = 0;
       reference = absent;
       place = place;
+      wish = wish;
     })
     (bare st)
-same-state st a b c d e = rw (a, b, c, d, e)
+same-state st a b c d e f = rw (a, b, c, d, e, f)
 
 same-kept : {state : State} {offset body : ℕ} {released : Bool} {dialogue reference count : ℕ} {answer : Final} (k : Kept) → state ≡ k .state
     → offset ≡ k .offset → body ≡ k .body → released ≡ k .released → dialogue ≡ k .dialogue → reference ≡ k .reference → count ≡ k .count
@@ -185,8 +193,8 @@ same-kept : {state : State} {offset body : ℕ} {released : Bool} {dialogue refe
 same-kept k a b c d e f g h = rw (a, b, c, d, e, f, g, h)
 
 -- the numbers of a reading, written at the front of any bytes
-module _ (x : Stand) (fits : Fits x) (o b : List ℕ) (long : 36 ≤ length o) (e : b ≡ putAt o 0 (headOf x)) where
-  nth : (i : ℕ) → i < 18 → getD (numbersOf x) i 0 < 65536 → numberIn b (i + i) ≡ getD (numbersOf x) i 0
+module _ (x : Stand) (fits : Fits x) (o b : List ℕ) (long : 40 ≤ length o) (e : b ≡ putAt o 0 (headOf x)) where
+  nth : (i : ℕ) → i < 20 → getD (numbersOf x) i 0 < 65536 → numberIn b (i + i) ≡ getD (numbersOf x) i 0
   nth i h s = number-read o (numbersOf x) b (e ∙ ap (putAt o 0) (head-pairs x)) i h long s
 
   place-kept : placeIn b ≡ x .state .place
@@ -201,15 +209,18 @@ module _ (x : Stand) (fits : Fits x) (o b : List ℕ) (long : 36 ≤ length o) (
       same-state st (ap phaseOf (nth 0 (omega arith) (phase-small (st .phase))) ∙ phase-read (st .phase))
       (ap messageOf (nth 1 (omega arith) (message-small (st .message))) ∙ message-read (st .message))
       (nth 2 (omega arith) (fits .state .messages)) (nth 3 (omega arith) (fits .state .segments)) place-kept
+      (ap (λ (n : ℕ). eqb n 1) (nth 19 (omega arith) (flag-small (st .wish))) ∙ flag-read (st .wish))
 
-  part-kept : (i n : ℕ) → i < 18 → n ≡ getD (numbersOf x) i 0 → n ≤ partSize → lengthOf (numberIn b (i + i)) ≡ n
+  part-kept : (i n : ℕ) → i < 20 → n ≡ getD (numbersOf x) i 0 → n ≤ partSize → lengthOf (numberIn b (i + i)) ≡ n
   part-kept i n h q l = ap lengthOf (nth i h (subst (λ (k : ℕ). k < 65536) q (omega arith)) ∙ sym q) ∙ length-read n l
 
-  answer-kept : finalOf (numberIn b 32) (numberIn b 34) ≡ answerOf (x .final)
+  answer-kept : finalOf (numberIn b 32) (numberIn b 34) (numberIn b 36) ≡ answerOf (x .final)
   answer-kept =
       let n : numberIn b 32 ≡ finalNumber (x .final) = nth 16 (omega arith) (number-small (x .count) (x .final) (fits .final)) in
       let p : numberIn b 34 ≡ finalPosition (x .final) = nth 17 (omega arith) (position-small (x .count) (x .final) (fits .final)) in
-      ap (λ (k : ℕ). finalOf k (numberIn b 34)) n ∙ ap (finalOf (finalNumber (x .final))) p ∙ answer-read (x .count) (x .final) (fits .final)
+      let q : numberIn b 36 ≡ finalPart (x .final) = nth 18 (omega arith) (part-small (x .count) (x .final) (fits .final)) in
+      ap (λ (k : ℕ). finalOf k (numberIn b 34) (numberIn b 36)) n ∙ ap (λ (k : ℕ). finalOf (finalNumber (x .final)) k (numberIn b 36)) p
+      ∙ ap (finalOf (finalNumber (x .final)) (finalPosition (x .final))) q ∙ answer-read (x .count) (x .final) (fits .final)
 
   pub kept-read : keptIn b ≡ keptOf x
   unfolding keptIn

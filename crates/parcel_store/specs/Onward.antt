@@ -10,7 +10,8 @@ use lib.Dec.{eqb, ltb, leb}
 use lib.ListN.{length, drop, length-append, length-take, length-drop}
 use Rattle.laws.specs.Choice.{pick, both, all, choose, either-parts}
 use Rattle.laws.specs.Lists.{between}
-use Rattle.answers.specs.Answers.{Answer, done, refused, badSize, wrongEnvelope, segmentTooLong}
+use Rattle.answers.specs.declared.Refusal.{Refusal}
+use Rattle.answers.specs.Answers.{Answer, done, refused, naming, badSize, wrongEnvelope, segmentTooLong}
 use Rattle.syntax.specs.Bytes.{terminator, permittedOf, stands}
 use Rattle.syntax.specs.Segment.{tagNumber, wellFormed, permittedRun, bodyAnswer}
 use Rattle.syntax.specs.Firsts.{first-length}
@@ -34,6 +35,7 @@ use Rattle.steps.specs.declared.state.Phase.{Phase}
 use Rattle.steps.specs.declared.state.Phase.the-variants.{Opening, Between, Inside, Closed}
 use Rattle.steps.specs.declared.state.State.{State}
 use Rattle.steps.specs.State.{oneMore, onwardState, endedState}
+use Rattle.steps.specs.Parts.{partFits, step-part}
 use Rattle.steps.specs.Step.{Taken, taken, openedStep, opening, headed, closing, betweenMessages, trailing, judged, placed, settledStep, insideMessage, stepBy, segmentStep}
 use Rattle.interchange.specs.Reader.{isClosed}
 use Rattle.arrival.specs.Arrived.{Final, Stand, Brought, awaited, given, beginning, only, arrivedBytes, answered, longer, opens, heads, passed, arrivedStep, arrivedScan, ending, awaitedByte, byteBy, byteOf, arrivedOn}
@@ -66,7 +68,7 @@ record Led (k : ℕ) (st : State) : Type 0 where
 
 abbrev LedBy : ℕ → Answer Taken → Type 0
 LedBy k (done (taken st r)) = Led k st
-LedBy k (refused number position) = Unit {0}
+LedBy k (refused refusal) = Unit {0}
 
 module _ (k : ℕ) (st : State) (from : Led k st) (at : ℕ) (g : List ℕ) where
   kept-counts : Counted (k + 1) (st .place)
@@ -121,7 +123,7 @@ module _ (k : ℕ) (st : State) (from : Led k st) (at : ℕ) (g : List ℕ) wher
         choose (eqb (tagNumber g) UIT) (λ q. rw q (trailing-led r group))
         (λ q.
         rw q
-        (choose (isPeriod (st .message) (tagNumber g) group) (λ e. rw e (judged-led group (periodOf g)))
+        (choose (isPeriod (st .message) (tagNumber g) group) (λ e. rw e (judged-led group (periodOf (st .wish) g)))
         (λ e. rw e onward-led)))
 
   settled-led : (r : List ℕ) (x : Stepped) → stepOf (tableIn tables (st .message)) (st .place) (tagNumber g) ≡ x
@@ -148,7 +150,7 @@ run-within (b ∷ l) = choose (permittedOf b) (λ q. rw q (let h = run-within l 
 -- a refusal of a segment that has come is 4, 5 or 6, at one of its bytes
 abbrev ScanTold : ℕ → ℕ → Answer ℕ → Type 0
 ScanTold at n (done end) = Unit {0}
-ScanTold at n (refused number position) = (2 ≤ number) × (number ≤ 21) × (position ≤ at + n)
+ScanTold at n (refused x) = (2 ≤ x .number) × (x .number ≤ 21) × (x .position ≤ at + n) × (partFits x ≡ true)
 
 scan-told : (n at : ℕ) (g : List ℕ) → ScanTold at (length g) (bodyAnswer n at g)
 unfolding bodyAnswer
@@ -158,9 +160,9 @@ scan-told n at g =
     (λ a.
     rw a
     (choose (ltb (at + length g) n)
-    (λ b. rw b (choose (wellFormed g) (λ c. rw c tt) (λ c. rw c (omega arith, omega arith, omega arith))))
-    (λ b. rw b (omega arith, omega arith, omega arith))))
-    (λ a. rw a (omega arith, omega arith, omega arith))
+    (λ b. rw b (choose (wellFormed g) (λ c. rw c tt) (λ c. rw c (omega arith, omega arith, omega arith, refl))))
+    (λ b. rw b (omega arith, omega arith, omega arith, refl))))
+    (λ a. rw a (omega arith, omega arith, omega arith, refl))
 
 part-within : (g : List ℕ) (from to : ℕ) → length (between g from to) ≤ length g
 part-within g from to =
@@ -230,11 +232,9 @@ module _ (x : Stand) (fits : Fits x) where
         }
 
     step-fits : (a : Answer Taken) → LedBy (x .offset + 1 + 1) a
-        → ((number position : ℕ) → a ≡ refused number position → (2 ≤ number) × (number ≤ 21) × (position < 65536)) → Fits (arrivedStep x g a .stand)
+        → ((z : Refusal) → a ≡ refused z → (2 ≤ z .number) × (z .number ≤ 21) × (z .position < 65536) × (partFits z ≡ true)) → Fits (arrivedStep x g a .stand)
     step-fits (done (taken st r)) led told = passed-fits st led
-    step-fits (refused number position) led told =
-        let w = told number position refl in
-        answered-fits (refused number position) (w .0, w .1, w .2)
+    step-fits (refused refusal) led told = answered-fits (refused refusal) (told refusal refl)
 
     scan-fits : (a : Answer ℕ) → ScanTold (x .offset) (length g) a → Fits (arrivedScan x g a .stand)
     scan-fits (done end) told =
@@ -242,16 +242,16 @@ module _ (x : Stand) (fits : Fits x) where
         let from : Led (x .offset + 1) (x .state) =
         record { messages = fits .state .messages; segments = fits .state .segments; row = fits .state .row; counts = fits .counted } in
         step-fits answer (step-led (x .offset + 1) (x .state) from (x .offset) g (x .state .phase) (x .dialogue) (x .reference))
-        (λ number position e.
-        let n = step-number tables (x .state) (x .offset) g (x .dialogue) (x .reference) number position e in
-        let p = alike-refused tables (x .state) (x .state) refl (x .offset) (x .offset) g (x .dialogue) (x .reference) number position e in
+        (λ z e.
+        let n = step-number tables (x .state) (x .offset) g (x .dialogue) (x .reference) z e in
+        let p = alike-refused tables (x .state) (x .state) refl (x .offset) (x .offset) g (x .dialogue) (x .reference) z e in
         let a = n .0 in
         let b = n .1 in
         let c = p .0 in
-        (omega arith, omega arith, omega arith))
-    scan-fits (refused number position) told =
+        (omega arith, omega arith, omega arith, step-part tables (x .state) (x .offset) g (x .dialogue) (x .reference) z e))
+    scan-fits (refused refusal) told =
         let p = told .2 in
-        answered-fits (refused number position) (told .0, told .1, omega arith)
+        answered-fits (refused refusal) (told .0, told .1, omega arith, told .3)
 
 -- One byte, and any bytes
 
@@ -259,14 +259,14 @@ awaited-fits : (x : Stand) → Fits x → x .final ≡ awaited → (b : ℕ) →
 unfolding awaitedByte
 awaited-fits x fits none b =
     let o = fits .offset in
-    choose (leb 60000 (arrivedBytes x)) (λ p. rw p (answered-fits x fits badSize (omega arith, omega arith, omega arith)))
+    choose (leb 60000 (arrivedBytes x)) (λ p. rw p (answered-fits x fits badSize (omega arith, omega arith, omega arith, refl)))
     (λ p.
     let early = leb-false 60000 (arrivedBytes x) p in
     rw p
-    (choose (isClosed (x .state .phase)) (λ q. rw q (answered-fits x fits (wrongEnvelope (x .offset)) (omega arith, omega arith, o)))
+    (choose (isClosed (x .state .phase)) (λ q. rw q (answered-fits x fits (wrongEnvelope (x .offset)) (omega arith, omega arith, o, refl)))
     (λ q.
     rw q
-    (choose (leb 4096 (length (x .body))) (λ r. rw r (answered-fits x fits (segmentTooLong (x .offset)) (omega arith, omega arith, o)))
+    (choose (leb 4096 (length (x .body))) (λ r. rw r (answered-fits x fits (segmentTooLong (x .offset)) (omega arith, omega arith, o, refl)))
     (λ r.
     let short = leb-false 4096 (length (x .body)) r in
     let g = ending x in
@@ -286,8 +286,8 @@ fits-on x [] fits = fits
 fits-on x (b ∷ l) fits = fits-on (byteOf x b .stand) l (byte-fits (x .final) x refl fits b)
 
 -- a reading that began at the beginning
-pub fits-beginning : Fits beginning
-fits-beginning =
+pub fits-beginning : (wish : Bool) → Fits (beginning wish)
+fits-beginning wish =
     record {
       state = record { messages = omega arith; segments = omega arith; row = omega arith; counts = (omega arith, omega arith, omega arith, omega arith, omega arith) };
       counted = (omega arith, omega arith, omega arith, omega arith, omega arith);
@@ -316,23 +316,23 @@ step-stays x g (done (taken st r)) =
       dialogue = λ q. ap (λ (p : Bool). pick p (bytesOf g (st .dialogue)) (x .dialogue)) q;
       reference = λ q. ap (λ (p : Bool). pick p (bytesOf g (st .reference)) (x .reference)) q;
     }
-step-stays x g (refused number position) = only-stays x (answered x (refused number position)) refl refl
+step-stays x g (refused refusal) = only-stays x (answered x (refused refusal)) refl refl
 
 scan-stays : (x : Stand) (g : List ℕ) (a : Answer ℕ) → Stays x (arrivedScan x g a)
 scan-stays x g (done end) = step-stays x g (segmentStep tables (x .state) (x .offset) g (x .dialogue) (x .reference))
-scan-stays x g (refused number position) = only-stays x (answered x (refused number position)) refl refl
+scan-stays x g (refused refusal) = only-stays x (answered x (refused refusal)) refl refl
 
 awaited-stays : (x : Stand) (b : ℕ) → Stays x (awaitedByte x b)
 unfolding awaitedByte
 awaited-stays x b =
     let g = ending x in
-    choose (leb 60000 (arrivedBytes x)) (λ p. rw p (only-stays x (answered x (refused 3 0)) refl refl))
+    choose (leb 60000 (arrivedBytes x)) (λ p. rw p (only-stays x (answered x (refused (naming 3 0))) refl refl))
     (λ p.
     rw p
-    (choose (isClosed (x .state .phase)) (λ q. rw q (only-stays x (answered x (refused 7 (x .offset))) refl refl))
+    (choose (isClosed (x .state .phase)) (λ q. rw q (only-stays x (answered x (refused (naming 7 (x .offset)))) refl refl))
     (λ q.
     rw q
-    (choose (leb 4096 (length (x .body))) (λ r. rw r (only-stays x (answered x (refused 21 (x .offset))) refl refl))
+    (choose (leb 4096 (length (x .body))) (λ r. rw r (only-stays x (answered x (refused (naming 21 (x .offset)))) refl refl))
     (λ r.
     rw r
     (choose (stands terminator (x .released) b) (λ s. rw s (scan-stays x g (bodyAnswer (arrivedBytes x + 1) (x .offset) g)))

@@ -1,4 +1,4 @@
--- The store that a reading in parcels is kept in: 18 numbers of two bytes, the lower first, then the dialogue reference, the reference 0340 and the segment that is arriving,
+-- The store that a reading in parcels is kept in: 20 numbers of two bytes, the lower first, then the dialogue reference, the reference 0340 and the segment that is arriving,
 -- 4,096 bytes for each. Any bytes of that length are some reading.
 -- Assumes nothing.
 use Prim.Native.Nat.{ℕ, _+_, _*_, _/_, _%_}
@@ -6,7 +6,7 @@ use mathlib.Core.Bool.{Bool, true, false}
 use mathlib.Core.List.{List, [], _∷_, _++_}
 use lib.Dec.{eqb, leb, ltb}
 use lib.ListN.{length, getD}
-use Rattle.laws.specs.Choice.{pick}
+use Rattle.laws.specs.Choice.{pick, both}
 use Rattle.laws.specs.Lists.{between}
 use Rattle.laws.specs.Put.{putAt}
 use Rattle.laws.specs.Filled.{filledUp}
@@ -18,6 +18,7 @@ use Rattle.placing.specs.declared.Place.{Place}
 use Rattle.steps.specs.declared.state.Phase.{Phase}
 use Rattle.steps.specs.declared.state.Phase.the-variants.{Opening, Between, Inside, Closed}
 use Rattle.steps.specs.declared.state.State.{State}
+use Rattle.steps.specs.Parts.{isPart}
 use Rattle.arrival.specs.Arrived as arrival
 use Rattle.arrival.specs.Arrived.{Stand, Brought, awaited, given, bare}
 use Rattle.parcel_store.specs.declared.Final.{Final}
@@ -25,17 +26,17 @@ use Rattle.parcel_store.specs.declared.Final.the-variants.{Awaited, Acce
 use Rattle.parcel_store.specs.declared.Kept.{Kept}
 
 abbrev pub storeSize : ℕ
-storeSize = 12324
+storeSize = 12328
 
 -- where the references and the segment stand, and the bytes for each
 abbrev pub dialoguePlace : ℕ
-dialoguePlace = 36
+dialoguePlace = 40
 
 abbrev pub referencePlace : ℕ
-referencePlace = 4132
+referencePlace = 4136
 
 abbrev pub bodyPlace : ℕ
-bodyPlace = 8228
+bodyPlace = 8232
 
 abbrev pub partSize : ℕ
 partSize = 4096
@@ -51,12 +52,12 @@ phaseOf n = pick (eqb n 0) Opening (pick (eqb n 1) Between (pick (eqb n 2) Insid
 abbrev pub messageOf : ℕ → MessageType
 messageOf n = pick (eqb n 0) Skdupd Tsdupd
 
--- 0 is none yet, 1 is accepted, any other number of the table a refusal; what is no number of the table is none
-abbrev pub finalOf : ℕ → ℕ → Final
-finalOf number position =
+-- 0 is none yet, 1 is accepted, any other number of the table a refusal, with a part that may stand beside it; what is no such refusal is none
+abbrev pub finalOf : ℕ → ℕ → ℕ → Final
+finalOf number position part =
     pick (eqb number 0) Awaited
     (pick (eqb number 1) Accepted
-    (pick (leb number 21) (Refused (record { number = number; position = position })) Awaited))
+    (pick (both (leb number 21) (isPart number part)) (Refused (record { number = number; position = position; part = part })) Awaited))
 
 abbrev pub lengthOf : ℕ → ℕ
 lengthOf n = pick (ltb partSize n) partSize n
@@ -84,6 +85,7 @@ stateIn b =
       «headed_at» = 0;
       reference = absent;
       place = placeIn b;
+      wish = eqb (numberIn b 38) 1;
     }
 
 unfoldable pub keptIn : List ℕ → Kept
@@ -96,13 +98,13 @@ keptIn b =
       dialogue = lengthOf (numberIn b 26);
       reference = lengthOf (numberIn b 28);
       count = numberIn b 30;
-      answer = finalOf (numberIn b 32) (numberIn b 34);
+      answer = finalOf (numberIn b 32) (numberIn b 34) (numberIn b 36);
     }
 
 abbrev pub finalBy : Final → ℕ → arrival.Final
 finalBy Awaited count = awaited
 finalBy Accepted count = given (done count)
-finalBy (Refused x) count = given (refused (x .number) (x .position))
+finalBy (Refused x) count = given (refused x)
 
 -- the reading whose numbers are k, its texts being in the store b
 abbrev pub standOf : Kept → List ℕ → Stand
@@ -144,12 +146,17 @@ flagNumber false = 0
 abbrev pub finalNumber : arrival.Final → ℕ
 finalNumber awaited = 0
 finalNumber (given (done n)) = 1
-finalNumber (given (refused number position)) = number
+finalNumber (given (refused refusal)) = refusal .number
 
 abbrev pub finalPosition : arrival.Final → ℕ
 finalPosition awaited = 0
 finalPosition (given (done n)) = 0
-finalPosition (given (refused number position)) = position
+finalPosition (given (refused refusal)) = refusal .position
+
+abbrev pub finalPart : arrival.Final → ℕ
+finalPart awaited = 0
+finalPart (given (done n)) = 0
+finalPart (given (refused refusal)) = refusal .part
 
 -- the same of the numbers that are kept
 abbrev pub answerNumber : Final → ℕ
@@ -162,6 +169,11 @@ answerPosition Awaited = 0
 answerPosition Accepted = 0
 answerPosition (Refused x) = x .position
 
+abbrev pub answerPart : Final → ℕ
+answerPart Awaited = 0
+answerPart Accepted = 0
+answerPart (Refused x) = x .part
+
 abbrev pub stateHead : State → List ℕ
 stateHead st =
     pair (phaseNumber (st .phase)) ++ (pair (messageNumber (st .message)) ++ (pair (st .messages) ++ (pair (st .segments) ++ (pair (st .place .row)
@@ -170,12 +182,12 @@ stateHead st =
 abbrev pub otherHead : Stand → List ℕ
 otherHead x =
     pair (x .offset) ++ (pair (length (x .body)) ++ (pair (flagNumber (x .released)) ++ (pair (length (x .dialogue)) ++ (pair (length (x .reference))
-    ++ (pair (x .count) ++ (pair (finalNumber (x .final)) ++ pair (finalPosition (x .final))))))))
+    ++ (pair (x .count) ++ (pair (finalNumber (x .final)) ++ (pair (finalPosition (x .final)) ++ (pair (finalPart (x .final)) ++ pair (flagNumber (x .state .wish))))))))))
 
 abbrev pub otherWith : Kept → List ℕ
 otherWith k =
     pair (k .offset) ++ (pair (k .body) ++ (pair (flagNumber (k .released)) ++ (pair (k .dialogue) ++ (pair (k .reference)
-    ++ (pair (k .count) ++ (pair (answerNumber (k .answer)) ++ pair (answerPosition (k .answer))))))))
+    ++ (pair (k .count) ++ (pair (answerNumber (k .answer)) ++ (pair (answerPosition (k .answer)) ++ (pair (answerPart (k .answer)) ++ pair (flagNumber (k .state .wish))))))))))
 
 unfoldable pub headOf : Stand → List ℕ
 headOf x = stateHead (x .state) ++ otherHead x

@@ -1,5 +1,6 @@
 //! The store of a reading: what it keeps between two parcels, as numbers by value and as bytes.
 
+use answers::Refusal;
 use bytes::number_at;
 use bytes::put_bytes;
 use messages::MessageType;
@@ -7,23 +8,23 @@ use parts::Part;
 use placing::Place;
 use steps::state::Phase;
 use steps::state::State;
-use syntax::segment::Refusal;
 ghost use mathlib.Core.Path.{_≡_};
-ghost use Prim.Native.Nat.{_≤_, _<_, _%_, _/_};
+ghost use Prim.Native.Nat.{_≤_, _%_, _/_};
 ghost use Rattle.laws.specs.Put.{putAt};
-ghost use Rattle.parcel_store.specs.Store.{numberIn, phaseOf, messageOf, finalOf, lengthOf, placeIn, stateIn, keptIn, phaseNumber, messageNumber, flagNumber, answerNumber, answerPosition, stateHead, otherWith};
+ghost use Rattle.parcel_store.specs.Store.{numberIn, phaseOf, messageOf, finalOf, lengthOf, placeIn, stateIn, keptIn, phaseNumber, messageNumber, flagNumber, answerNumber, answerPosition, answerPart, stateHead, otherWith};
+ghost use Rattle.steps.specs.Parts.{isPart};
 
-/// The bytes of a store: 18 numbers, then the dialogue reference, the reference 0340, and the segment that is arriving, 4,096 bytes for each.
-pub const STORE: usize = 12324;
+/// The bytes of a store: 20 numbers, then the dialogue reference, the reference 0340, and the segment that is arriving, 4,096 bytes for each.
+pub const STORE: usize = 12328;
 
 /// Where the dialogue reference stands.
-pub const DIALOGUE: usize = 36;
+pub const DIALOGUE: usize = 40;
 
 /// Where the reference 0340 stands.
-pub const REFERENCE: usize = 4132;
+pub const REFERENCE: usize = 4136;
 
 /// Where the segment that is arriving stands.
-pub const BODY: usize = 8228;
+pub const BODY: usize = 8232;
 
 /// The final answer.
 pub enum Final {
@@ -73,10 +74,22 @@ fn message_of(n: usize) -> MessageType
     MessageType::Tsdupd
 }
 
-// No other number than those of the table is an answer.
-fn final_of(number: usize, position: usize) -> Final
-    requires { ⌜ number < 65536 ⌝ }
-    ensures { λ r. ⌜ r ≡ finalOf number position ⌝ }
+// Whether a part may stand beside a number: one of six beside 10, else 0.
+fn is_part(number: usize, part: usize) -> bool
+    ensures { λ r. ⌜ r ≡ isPart number part ⌝ }
+{
+    if number != 10 {
+        return part == 0;
+    }
+    if part < 1 {
+        return false;
+    }
+    part <= 6
+}
+
+// No other number than those of the table is an answer, and no other part.
+fn final_of(number: usize, position: usize, part: usize) -> Final
+    ensures { λ r. ⌜ r ≡ finalOf number position part ⌝ }
 {
     if number == 0 {
         return Final::Awaited;
@@ -84,13 +97,17 @@ fn final_of(number: usize, position: usize) -> Final
     if number == 1 {
         return Final::Accepted;
     }
-    if number <= 21 {
-        return Final::Refused(Refusal {
-            number: number as u8,
-            position,
-        });
+    if 21 < number {
+        return Final::Awaited;
     }
-    Final::Awaited
+    if !is_part(number, part) {
+        return Final::Awaited;
+    }
+    Final::Refused(Refusal {
+        number: number as u8,
+        position,
+        part: part as u8,
+    })
 }
 
 // No more bytes than there is room for.
@@ -133,6 +150,7 @@ fn state_in(store: &[u8]) -> State
         headed_at: 0,
         reference: Part { from: 0, to: 0 },
         place: place_in(store),
+        wish: number_at(store, 38) == 1,
     }
 }
 
@@ -148,7 +166,11 @@ pub fn load(store: &[u8]) -> Kept
         dialogue: length_of(number_at(store, 26)),
         reference: length_of(number_at(store, 28)),
         count: number_at(store, 30),
-        answer: final_of(number_at(store, 32), number_at(store, 34)),
+        answer: final_of(
+            number_at(store, 32),
+            number_at(store, 34),
+            number_at(store, 36),
+        ),
     }
 }
 
@@ -210,7 +232,17 @@ fn final_position(answer: Final) -> usize
     }
 }
 
-// The ten numbers of a state.
+fn final_part(answer: Final) -> usize
+    ensures { λ r. ⌜ r ≡ answerPart answer ⌝ }
+{
+    match answer {
+        Final::Awaited => 0,
+        Final::Accepted => 0,
+        Final::Refused(refusal) => refusal.part as usize,
+    }
+}
+
+// Ten numbers of a state.
 fn state_head(st: State) -> [u8; 20]
     ensures { λ r. ⌜ r ≡ stateHead st ⌝ }
 {
@@ -248,14 +280,17 @@ fn state_head(st: State) -> [u8; 20]
     ]
 }
 
-// The eight others.
-fn other_head(kept: Kept) -> [u8; 16]
+// The ten others.
+fn other_head(kept: Kept) -> [u8; 20]
     ensures { λ r. ⌜ r ≡ otherWith kept ⌝ }
 {
     let released = flag_number(kept.released);
     let answer = kept.answer;
     let number = final_number(answer);
     let position = final_position(answer);
+    let part = final_part(answer);
+    let st = kept.state;
+    let wish = flag_number(st.wish);
     [
         low(kept.offset),
         high(kept.offset),
@@ -273,6 +308,10 @@ fn other_head(kept: Kept) -> [u8; 16]
         high(number),
         low(position),
         high(position),
+        low(part),
+        high(part),
+        low(wish),
+        high(wish),
     ]
 }
 

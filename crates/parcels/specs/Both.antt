@@ -22,8 +22,8 @@ use Rattle.parcels.specs.Onward.{Sized, Onward, Short, length-referred, 
 -- the references of a stand in a store have room
 stand-short : (k : Kept) (b : List ℕ) → length b ≡ storeSize → Sized k → (y : Brought) → y .stand ≡ standOf k b → Short y
 stand-short k b big w y e =
-    let d = length-between b 36 (36 + k .dialogue) (omega (arith, w .dialogue)) in
-    let r = length-between b 4132 (4132 + k .reference) (omega (arith, w .reference)) in
+    let d = length-between b 40 (40 + k .dialogue) (omega (arith, w .dialogue)) in
+    let r = length-between b 4136 (4136 + k .reference) (omega (arith, w .reference)) in
     let d₁ = ap (λ (s : Stand). length (s .dialogue)) e in
     let r₁ = ap (λ (s : Stand). length (s .reference)) e in
     let d₂ = w .dialogue in

@@ -11,7 +11,7 @@ use borrow.Author.Tests.{eq-eqb, ne-eqb, le-leb, le-ltb, lt-ltb, leb-true, leb-f
 use Rattle.laws.specs.Choice.{pick, both, all, choose, false≢true}
 use Rattle.laws.specs.Lists.{between, length-between, drop-here, drop-past}
 use Rattle.laws.specs.Put.{putAt, put-front, put-none, put-no-room, put-put, length-put}
-use Rattle.answers.specs.Answers.{Answer, done, refused, outputTooShort}
+use Rattle.answers.specs.Answers.{Answer, done, refused, naming, outputTooShort}
 use Rattle.syntax.specs.Bytes.{permittedOf}
 use Rattle.syntax.specs.Segment.{permittedRun, bodyAnswer}
 use Rattle.steps.specs.declared.state.State.{State}
@@ -48,7 +48,7 @@ awaited-is (Refused x) q = absurd (false≢true q)
 given-by : (f : Final) (count : ℕ) → isAwaited f ≡ false → (a : Answer ℕ) × (finalBy f count ≡ given a)
 given-by Awaited count q = absurd (false≢true (sym q))
 given-by Accepted count q = (done count, refl)
-given-by (Refused x) count q = (refused (x .number) (x .position), refl)
+given-by (Refused x) count q = (refused x, refl)
 
 awaited≢given : (a : Answer ℕ) → awaited ≡ given a → ⊥
 awaited≢given a e = let z : _≡_ {A = ℕ} 0 1 = cc in omega arith
@@ -95,12 +95,12 @@ run-short (b ∷ g) q =
     choose (permittedOf b) (λ f. rw f (let h = run-short g (rw f at q) in omega arith)) (λ f. rw f (omega arith))
 
 -- the input is over inside a segment
-pub cut-bad : (g : List ℕ) (at run : ℕ) → run ≡ permittedRun g → run < length g → refused 4 (at + run) ≡ bodyAnswer (at + length g) at g
+pub cut-bad : (g : List ℕ) (at run : ℕ) → run ≡ permittedRun g → run < length g → refused (naming 4 (at + run)) ≡ bodyAnswer (at + length g) at g
 unfolding bodyAnswer
 cut-bad g at run e h =
-    choose (all permittedOf g) (λ f. let k = run-all g f in absurd (omega arith)) (λ f. rw f (ap (λ (n : ℕ). refused 4 (at + n)) e))
+    choose (all permittedOf g) (λ f. let k = run-all g f in absurd (omega arith)) (λ f. rw f (ap (λ (n : ℕ). refused (naming 4 (at + n))) e))
 
-pub cut-good : (g : List ℕ) (at run : ℕ) → run ≡ permittedRun g → length g ≤ run → refused 5 at ≡ bodyAnswer (at + length g) at g
+pub cut-good : (g : List ℕ) (at run : ℕ) → run ≡ permittedRun g → length g ≤ run → refused (naming 5 at) ≡ bodyAnswer (at + length g) at g
 unfolding bodyAnswer
 cut-good g at run e h =
     choose (all permittedOf g) (λ f. rw (f, le-ltb (at + length g) (at + length g) (omega arith)) refl) (λ f. let k = run-short g f in absurd (omega arith))
@@ -113,7 +113,7 @@ module _ (k : Kept) (b : List ℕ) (size : length b ≡ storeSize) (sized : Size
       let s = sized .body in
       length-between b bodyPlace (bodyPlace + k .body) (omega arith) ∙ omega arith
 
-  pub end-none : k .offset + k .body ≡ 0 → given (refused 3 0) ≡ given (awaitedEnd (standOf k b))
+  pub end-none : k .offset + k .body ≡ 0 → given (refused (naming 3 0)) ≡ given (awaitedEnd (standOf k b))
   unfolding awaitedEnd
   end-none h =
       let l = length-body in
@@ -133,7 +133,7 @@ module _ (k : Kept) (b : List ℕ) (size : length b ≡ storeSize) (sized : Size
         let l = length-body in
         rw (ne-eqb (k .offset + length (between b bodyPlace (bodyPlace + k .body))) 0 (λ z. absurd (some (omega arith))), eq-eqb (length (between b bodyPlace (bodyPlace + k .body))) 0 (omega arith), sym e ∙ t) refl
 
-    pub end-early : (q : Bool) → k .body ≤ 0 → q ≡ isClosed (k .state .phase) → q ≡ false → given (refused 7 (k .offset)) ≡ given (awaitedEnd (standOf k b))
+    pub end-early : (q : Bool) → k .body ≤ 0 → q ≡ isClosed (k .state .phase) → q ≡ false → given (refused (naming 7 (k .offset))) ≡ given (awaitedEnd (standOf k b))
     unfolding awaitedEnd
     end-early q h e t =
         let l = length-body in
@@ -158,9 +158,9 @@ room-read k b o parcel none room c y d out e l adv =
 
 -- A store of another length
 
-pub begin-other : (b : List ℕ) (t : Told) → (length b ≡ storeSize → ⊥) → t ≡ telling 0 outputTooShort → (t ≡ beginTold b) × (b ≡ beginStore b)
+pub begin-other : (wish : Bool) (b : List ℕ) (t : Told) → (length b ≡ storeSize → ⊥) → t ≡ telling 0 outputTooShort → (t ≡ beginTold b) × (b ≡ beginStore wish b)
 unfolding beginTold beginStore
-begin-other b t h e = rw (ne-eqb (length b) storeSize h) (e, refl)
+begin-other wish b t h e = rw (ne-eqb (length b) storeSize h) (e, refl)
 
 pub take-other : (b parcel lent : List ℕ) (t : Told) → (length b ≡ storeSize → ⊥) → t ≡ telling 0 outputTooShort
     → (t ≡ takeTold b parcel (length lent)) × ((b ≡ takeStore b parcel (length lent)) × (lent ≡ takeRows b parcel lent))
@@ -186,16 +186,16 @@ keep-head x b e =
 abbrev pub begunKept : State → Kept
 begunKept st = record { state = st; offset = 0; body = 0; released = false; dialogue = 0; reference = 0; count = 0; answer = Awaited }
 
-begun-head : (b : List ℕ) → length b ≡ storeSize → putAt (putAt b 0 (stateHead openingState)) 20 (otherWith (begunKept openingState)) ≡ putAt b 0 (headOf beginning)
+begun-head : (wish : Bool) (b : List ℕ) → length b ≡ storeSize → putAt (putAt b 0 (stateHead (openingState wish))) 20 (otherWith (begunKept (openingState wish))) ≡ putAt b 0 (headOf (beginning wish))
 unfolding headOf
-begun-head b size = put-put b 0 (stateHead openingState) 20 (otherWith (begunKept openingState)) refl (omega arith)
+begun-head wish b size = put-put b 0 (stateHead (openingState wish)) 20 (otherWith (begunKept (openingState wish))) refl (omega arith)
 
-pub begun : (b : List ℕ) (st : State) (c : List ℕ) → length b ≡ storeSize → st ≡ openingState → c ≡ putAt (putAt b 0 (stateHead st)) 20 (otherWith (begunKept st))
-    → (telling 0 accepted ≡ beginTold b) × (c ≡ beginStore b)
+pub begun : (wish : Bool) (b : List ℕ) (st : State) (c : List ℕ) → length b ≡ storeSize → st ≡ openingState wish → c ≡ putAt (putAt b 0 (stateHead st)) 20 (otherWith (begunKept st))
+    → (telling 0 accepted ≡ beginTold b) × (c ≡ beginStore wish b)
 unfolding beginTold beginStore
-begun b st c size s e =
+begun wish b st c size s e =
     rw (eq-eqb (length b) storeSize size)
-    (refl, e ∙ ap (λ (x : State). putAt (putAt b 0 (stateHead x)) 20 (otherWith (begunKept x))) s ∙ begun-head b size ∙ sym (keep-head beginning b refl))
+    (refl, e ∙ ap (λ (x : State). putAt (putAt b 0 (stateHead x)) 20 (otherWith (begunKept x))) s ∙ begun-head wish b size ∙ sym (keep-head (beginning wish) b refl))
 
 -- A parcel
 

@@ -8,7 +8,7 @@ use lib.ListN.{length}
 use Rattle.laws.specs.Choice.{pick, both}
 use Rattle.laws.specs.Put.{putAt}
 use Rattle.answers.specs.Answers.{Answer, done, refused, outputTooShort}
-use Rattle.interchange.specs.Reader.{Verdict, accepted, faulty, numbers}
+use Rattle.interchange.specs.Reader.{Verdict, accepted, numbers}
 use Rattle.arrival.specs.Arrived as arrival
 use Rattle.arrival.specs.Arrived.{Brought, awaited, given, beginning, only, answered, arrivedOn, endOf}
 use Rattle.parcel_store.specs.Store.{storeSize, heldIn, keep}
@@ -25,17 +25,17 @@ telling n v = record { rows = n; verdict = v }
 
 abbrev pub parcelTold : Parcel → Told
 parcelTold (Rows n) = telling n accepted
-parcelTold (Refused n x) = telling n (faulty x)
+parcelTold (Refused n x) = telling n (refused x)
 
 abbrev pub isStore : List ℕ → Bool
 isStore b = eqb (length b) storeSize
 
--- `begin`: the store holds a reading before its first byte
+-- `begin`: the store holds a reading before its first byte, for a caller with a wish
 unfoldable pub beginTold : List ℕ → Told
 beginTold b = pick (isStore b) (telling 0 accepted) (telling 0 outputTooShort)
 
-unfoldable pub beginStore : List ℕ → List ℕ
-beginStore b = pick (isStore b) (keep (only beginning) b) b
+unfoldable pub beginStore : Bool → List ℕ → List ℕ
+beginStore wish b = pick (isStore b) (keep (only (beginning wish)) b) b
 
 -- what a parcel brings to the reading in a store
 abbrev pub broughtBy : List ℕ → List ℕ → Brought
@@ -49,7 +49,7 @@ isCrowded b parcel room = ltb room (3 * length (broughtBy b parcel .rows))
 abbrev pub verdictBy : arrival.Final → Verdict
 verdictBy awaited = accepted
 verdictBy (given (done n)) = accepted
-verdictBy (given (refused number position)) = refused number position
+verdictBy (given (refused refusal)) = refused refusal
 
 abbrev pub isOpen : arrival.Final → Bool
 isOpen awaited = true

@@ -65,7 +65,7 @@ module _ (p : List ℕ) (x : Progress) (b : List ℕ) (big : length b ≡ storeS
       by-answer Accepted e q t = absurd t
       by-answer (Refused r) e q t =
           record {
-            told = arrived-stays (standOf (x .kept) b) (refused (r .number) (r .position)) (ap (λ (a : Final). finalBy a (x .kept .count)) e) (drop (x .at) p);
+            told = arrived-stays (standOf (x .kept) b) (refused r) (ap (λ (a : Final). finalBy a (x .kept .count)) e) (drop (x .at) p);
             store = sym (put-none b bodyPlace) ∙ ap (putAt b bodyPlace) (sym (empty t));
             dialogue = refl;
             reference = refl;
@@ -116,7 +116,7 @@ module _ (p : List ℕ) (x : Progress) (b : List ℕ) (big : length b ≡ storeS
     stand-is =
         let d = w .dialogue in
         let r = w .reference in
-        rw (sym body-is, sym (kept-text 36 (k .dialogue) (omega arith)), sym (kept-text 4132 (k .reference) (omega arith)), sym flag-is, e)
+        rw (sym body-is, sym (kept-text 40 (k .dialogue) (omega arith)), sym (kept-text 4136 (k .reference) (omega arith)), sym flag-is, e)
 
     pub held-on : Held p x b (heldAt x at (length rest) released) c
     held-on =
@@ -126,8 +126,8 @@ module _ (p : List ℕ) (x : Progress) (b : List ℕ) (big : length b ≡ storeS
         record {
           told = tail .1 ∙ ap (λ (l : List ℕ). only (lengthened s l)) (sym is) ∙ ap only stand-is;
           store = onto ∙ ap (putAt b bodyPlace) (sym body-is);
-          dialogue = kept-text 36 (k .dialogue) (omega arith);
-          reference = kept-text 4132 (k .reference) (omega arith);
+          dialogue = kept-text 40 (k .dialogue) (omega arith);
+          reference = kept-text 4136 (k .reference) (omega arith);
           count = refl;
           sized = record { body = h; dialogue = w .dialogue; reference = w .reference; offset = w .offset };
         }

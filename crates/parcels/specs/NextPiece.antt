@@ -11,7 +11,8 @@ use lib.Seq.{length-take-le, take-all, take-at, drop-append-le}
 use borrow.Author.Tests.{le-leb, lt-leb, leb-true, leb-false, lt-ltb, ltb-true, ltb-false}
 use Rattle.laws.specs.Choice.{choose, false≢true}
 use Rattle.laws.specs.Lists.{length-between, between-none, drop-here, drop-past}
-use Rattle.answers.specs.Answers.{Answer, refused, badSize, wrongEnvelope, segmentTooLong}
+use Rattle.answers.specs.declared.Refusal.{Refusal}
+use Rattle.answers.specs.Answers.{Answer, refused, naming, badSize, wrongEnvelope, segmentTooLong}
 use Rattle.syntax.specs.Pieces.{firstPiece}
 use Rattle.syntax.specs.Firsts.{first-length}
 use Rattle.interchange.specs.Reader.{isClosed}
@@ -63,10 +64,10 @@ onward-front n l x b lent y c out o = subst (λ (a : List ℕ). Onward a x b len
 pub unended-halted : (x : Progress) (n left : ℕ) → left ≤ n → unendedAt x n left ≡ haltedAt x
 unended-halted x n left h = rw (le-leb left n h)
 
-pub unended-three : (x : Progress) (n left : ℕ) → n < left → 60000 ≤ x .kept .offset + x .kept .body + n → unendedAt x n left ≡ namedAt x 3 0
+pub unended-three : (x : Progress) (n left : ℕ) → n < left → 60000 ≤ x .kept .offset + x .kept .body + n → unendedAt x n left ≡ namedAt x (naming 3 0)
 unended-three x n left h k = rw (lt-leb left n h, le-leb 60000 (x .kept .offset + x .kept .body + n) k)
 
-pub unended-long : (x : Progress) (n left : ℕ) → n < left → x .kept .offset + x .kept .body + n < 60000 → unendedAt x n left ≡ namedAt x 21 (x .kept .offset)
+pub unended-long : (x : Progress) (n left : ℕ) → n < left → x .kept .offset + x .kept .body + n < 60000 → unendedAt x n left ≡ namedAt x (naming 21 (x .kept .offset))
 unended-long x n left h k = rw (lt-leb left n h, lt-leb 60000 (x .kept .offset + x .kept .body + n) k)
 
 -- A piece in which a segment ends
@@ -208,11 +209,11 @@ module _ (p : List ℕ) (x : Progress) (b lent : List ℕ) (w : Standing x b) wh
         last = λ _. subst (λ (f : Final). TailBy f p (haltedAt x) b) (sym (w .awaits)) (q, a, h);
       }
 
-  went-named : (number position : ℕ) → ((rest : List ℕ) → arrivedOn here (next ++ rest) ≡ only (answered here (refused number position)))
-      → Went p x b lent (namedAt x number position) b lent
-  went-named number position t =
+  went-named : (refusal : Refusal) → ((rest : List ℕ) → arrivedOn here (next ++ rest) ≡ only (answered here (refused refusal)))
+      → Went p x b lent (namedAt x refusal) b lent
+  went-named refusal t =
       record {
-        onward = onward-named next x b lent number position (w .sized) t;
+        onward = onward-named next x b lent refusal (w .sized) t;
         more = λ e. absurd (false≢true (sym e));
         last = λ _. refl;
       }
@@ -234,20 +235,20 @@ module _ (p : List ℕ) (x : Progress) (b lent : List ℕ) (w : Standing x b) wh
     first-byte : (rest : List ℕ) → next ++ rest ≡ getD p (x .at) 0 ∷ (drop (x .at + 1) p ++ rest)
     first-byte rest = ap (λ (l : List ℕ). l ++ rest) (drop-here p (x .at) there)
 
-    pub went-three : 60000 ≤ x .kept .offset + x .kept .body → (y : Progress) → y ≡ namedAt x 3 0 → Went p x b lent y b lent
+    pub went-three : 60000 ≤ x .kept .offset + x .kept .body → (y : Progress) → y ≡ namedAt x (naming 3 0) → Went p x b lent y b lent
     went-three h y e =
         let n = body-long in
         subst (λ (v : Progress). Went p x b lent v b lent) (sym e)
-        (went-named 3 0
+        (went-named (naming 3 0)
         (λ rest.
         ap (arrivedOn here) (first-byte rest)
         ∙ byte-shows here (getD p (x .at) 0) (drop (x .at + 1) p ++ rest) badSize waits (byte-three here (getD p (x .at) 0) (omega arith))))
 
-    pub went-closed : x .kept .offset + x .kept .body < 60000 → isClosed (x .kept .state .phase) ≡ true → (y : Progress) → y ≡ namedAt x 7 (x .kept .offset) → Went p x b lent y b lent
+    pub went-closed : x .kept .offset + x .kept .body < 60000 → isClosed (x .kept .state .phase) ≡ true → (y : Progress) → y ≡ namedAt x (naming 7 (x .kept .offset)) → Went p x b lent y b lent
     went-closed h q y e =
         let n = body-long in
         subst (λ (v : Progress). Went p x b lent v b lent) (sym e)
-        (went-named 7 (x .kept .offset)
+        (went-named (naming 7 (x .kept .offset))
         (λ rest.
         ap (arrivedOn here) (first-byte rest)
         ∙ byte-shows here (getD p (x .at) 0) (drop (x .at + 1) p ++ rest) (wrongEnvelope (x .kept .offset)) waits (byte-closed here (getD p (x .at) 0) (omega arith) q)))
@@ -309,12 +310,12 @@ module _ (p : List ℕ) (x : Progress) (b lent : List ℕ) (w : Standing x b) wh
             (λ u.
             let k = leb-true 60000 (x .kept .offset + x .kept .body + n) u in
             subst (λ (v : Progress). Went p x b lent v b lent) (sym (unended-three x n (length p - x .at) o k))
-            (went-named 3 0 (follows o badSize (λ c. byte-three (lengthened here piece) c (omega arith)))))
+            (went-named (naming 3 0) (follows o badSize (λ c. byte-three (lengthened here piece) c (omega arith)))))
             (λ u.
             let k = leb-false 60000 (x .kept .offset + x .kept .body + n) u in
             let f = most .full o k in
             subst (λ (v : Progress). Went p x b lent v b lent) (sym (unended-long x n (length p - x .at) o k))
-            (went-named 21 (x .kept .offset) (follows o (segmentTooLong (x .kept .offset)) (λ c. byte-long (lengthened here piece) c (omega arith) q (omega arith))))))
+            (went-named (naming 21 (x .kept .offset)) (follows o (segmentTooLong (x .kept .offset)) (λ c. byte-long (lengthened here piece) c (omega arith) q (omega arith))))))
 
         pub went-unended : (y : Progress) → y ≡ unendedAt x n (length p - x .at) → Went p x b lent y b lent
         went-unended y e = subst (λ (v : Progress). Went p x b lent v b lent) (sym e) unended-went

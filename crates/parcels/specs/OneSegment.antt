@@ -12,8 +12,8 @@ use Rattle.laws.specs.Choice.{pick, false≢true}
 use Rattle.laws.specs.Lists.{between, length-between, between-none}
 use Rattle.laws.specs.Put.{putAt, put-front, put-behind, take-put, length-put}
 use Rattle.laws.specs.Filled.{filledUp}
-use Rattle.answers.specs.Answers.{refused}
-use Rattle.syntax.specs.declared.segment.Refusal.{Refusal}
+use Rattle.answers.specs.Answers.{refused, movedTo}
+use Rattle.answers.specs.declared.Refusal.{Refusal}
 use Rattle.syntax.specs.Segment.{segmentAt}
 use Rattle.parts.specs.declared.Part.{Part}
 use Rattle.parts.specs.Places.{bytesOf}
@@ -328,16 +328,16 @@ module _ (x : Progress) (b s : List ℕ) (ready : Ready x b s) where
       bad-within =
           stop-within stand came s (kept .state) final-is (ready .goes .opened) (ready .next .plain) (ready .next .unreleased) within-all within-one refl (ready .is) turn took z bad
 
-      bad-told : (rest : List ℕ) → arrivedOn stand (drop (kept .body) s ++ rest) ≡ only (answered stand (refused (z .number) (kept .offset + z .position)))
+      bad-told : (rest : List ℕ) → arrivedOn stand (drop (kept .body) s ++ rest) ≡ only (answered stand (refused (movedTo (kept .offset + z .position) z)))
       bad-told rest =
           ap (λ (l : List ℕ). arrivedOn stand (l ++ rest)) next-is
           ∙ ap (arrivedOn stand) (append-assoc came (39 ∷ []) rest)
           ∙ one-stop stand came s (kept .state) final-is (ready .goes .opened) (ready .next .plain) (ready .next .unreleased) within-all within-one refl (ready .is) turn took z bad rest
 
-      pub bad-onward : (lent : List ℕ) (y : Progress) → y ≡ namedAt x (z .number) (kept .offset + z .position) → Onward (drop (kept .body) s) x b lent y b lent × Faster x y
+      pub bad-onward : (lent : List ℕ) (y : Progress) → y ≡ namedAt x (movedTo (kept .offset + z .position) z) → Onward (drop (kept .body) s) x b lent y b lent × Faster x y
       bad-onward lent y e =
           subst (λ (y : Progress). Onward (drop (kept .body) s) x b lent y b lent × Faster x y) (sym e) (
-            onward-named (drop (kept .body) s) x b lent (z .number) (kept .offset + z .position) (ready .goes .sized) bad-told,
+            onward-named (drop (kept .body) s) x b lent (movedTo (kept .offset + z .position) z) (ready .goes .sized) bad-told,
             (λ e. absurd (false≢true (sym e)), λ _. refl, λ e. absurd (false≢true (sym e))),
           )
 

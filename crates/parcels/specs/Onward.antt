@@ -10,6 +10,7 @@ use Rattle.laws.specs.Choice.{either}
 use Rattle.laws.specs.Lists.{between-none}
 use Rattle.laws.specs.Put.{putAt, put-none, length-put}
 use Rattle.laws.specs.Filled.{filledUp}
+use Rattle.answers.specs.declared.Refusal.{Refusal}
 use Rattle.answers.specs.Answers.{Answer, refused}
 use Rattle.interchange.specs.Reader.{numbers}
 use Rattle.arrival.specs.Arrived as arrival
@@ -61,11 +62,11 @@ answeredKept k a =
     }
 
 -- a fault is named
-abbrev pub namedKept : Kept → ℕ → ℕ → Kept
-namedKept k number position = answeredKept k (Refused (record { number = number; position = position }))
+abbrev pub namedKept : Kept → Refusal → Kept
+namedKept k refusal = answeredKept k (Refused refusal)
 
-abbrev pub namedAt : Progress → ℕ → ℕ → Progress
-namedAt x number position = record { kept = namedKept (x .kept) number position; at = x .at; numbers = x .numbers; ended = true }
+abbrev pub namedAt : Progress → Refusal → Progress
+namedAt x refusal = record { kept = namedKept (x .kept) refusal; at = x .at; numbers = x .numbers; ended = true }
 
 pub answered-stand : (k : Kept) (b : List ℕ) (last : Final) (a : Answer ℕ) → finalBy last (k .count) ≡ given a → standOf (answeredKept k last) b ≡ answered (standOf k b) a
 answered-stand k b last a e =
@@ -94,25 +95,25 @@ answered-stand k b last a e =
     })
     e
 
-pub named-stand : (k : Kept) (b : List ℕ) (number position : ℕ) → standOf (namedKept k number position) b ≡ answered (standOf k b) (refused number position)
-named-stand k b number position = answered-stand k b (Refused (record { number = number; position = position })) (refused number position) refl
+pub named-stand : (k : Kept) (b : List ℕ) (refusal : Refusal) → standOf (namedKept k refusal) b ≡ answered (standOf k b) (refused refusal)
+named-stand k b refusal = answered-stand k b (Refused refusal) (refused refusal) refl
 
-pub named-sized : (k : Kept) (number position : ℕ) → Sized k → Sized (namedKept k number position)
-named-sized k number position w = record { body = omega arith; dialogue = w .dialogue; reference = w .reference; offset = w .offset }
+pub named-sized : (k : Kept) (refusal : Refusal) → Sized k → Sized (namedKept k refusal)
+named-sized k refusal w = record { body = omega arith; dialogue = w .dialogue; reference = w .reference; offset = w .offset }
 
 pub unfold-referred : (x : Brought) (b : List ℕ) → x .opened ≡ false → x .headed ≡ false → b ≡ referred x b
 unfolding referred
 unfold-referred x b o h = rw (o, h)
 
 -- what some bytes bring that show a fault and no row
-pub onward-named : (l : List ℕ) (x : Progress) (b lent : List ℕ) (number position : ℕ) → Sized (x .kept)
-    → ((rest : List ℕ) → arrivedOn (standOf (x .kept) b) (l ++ rest) ≡ only (answered (standOf (x .kept) b) (refused number position)))
-    → Onward l x b lent (namedAt x number position) b lent
+pub onward-named : (l : List ℕ) (x : Progress) (b lent : List ℕ) (refusal : Refusal) → Sized (x .kept)
+    → ((rest : List ℕ) → arrivedOn (standOf (x .kept) b) (l ++ rest) ≡ only (answered (standOf (x .kept) b) (refused refusal)))
+    → Onward l x b lent (namedAt x refusal) b lent
 unfolding numbers
-onward-named l x b lent number position w t =
-    let a = refused number position in
+onward-named l x b lent refusal w t =
+    let a = refused refusal in
     let s = answered (standOf (x .kept) b) a in
-    let e = named-stand (x .kept) b number position in
+    let e = named-stand (x .kept) b refusal in
     record {
       brought = only s;
       told = λ rest.
@@ -126,7 +127,7 @@ onward-named l x b lent number position w t =
       count = omega arith;
       put = λ _. sym (put-none lent (x .numbers));
       long = refl;
-      sized = named-sized (x .kept) number position w;
+      sized = named-sized (x .kept) refusal w;
       from = omega arith;
       to = omega arith;
       paced = λ h. h;

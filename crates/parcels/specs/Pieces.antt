@@ -14,6 +14,7 @@ use Rattle.parcel_store.specs.declared.Final.{Final}
 use Rattle.parcel_store.specs.declared.Final.the-variants.{Awaited, Accepted, Refused}
 use Rattle.parcel_store.specs.Store.{partSize, storeSize, standOf}
 use Rattle.parcels.specs.declared.passing.Progress.{Progress}
+use Rattle.answers.specs.Answers.{naming}
 use Rattle.parcels.specs.Onward.{Sized, Onward, namedAt}
 use Rattle.parcels.specs.Passing.{Goes}
 
@@ -23,7 +24,7 @@ haltedAt x = record { kept = x .kept; at = x .at; numbers = x .numbers; ended = 
 
 -- no segment ends in the next n of the bytes that are left: where more follow, the first of them is one too many, of the interchange or else of the segment
 abbrev pub unendedAt : Progress → ℕ → ℕ → Progress
-unendedAt x n left = pick (leb left n) (haltedAt x) (pick (leb 60000 (x .kept .offset + x .kept .body + n)) (namedAt x 3 0) (namedAt x 21 (x .kept .offset)))
+unendedAt x n left = pick (leb left n) (haltedAt x) (pick (leb 60000 (x .kept .offset + x .kept .body + n)) (namedAt x (naming 3 0)) (namedAt x (naming 21 (x .kept .offset))))
 
 -- a piece in which a segment ends, at an index
 pub record ReadyEnd (x : Progress) (b p : List ℕ) (end : ℕ) : Type 0 where

@@ -9,7 +9,8 @@ use lib.ListN.{length, take, drop, length-map}
 use Rattle.laws.specs.Choice.{choose, false≢true}
 use Rattle.laws.specs.Lists.{between-none}
 use Rattle.laws.specs.Put.{putAt, length-put, take-put}
-use Rattle.answers.specs.Answers.{Answer, refused}
+use Rattle.answers.specs.declared.Refusal.{Refusal}
+use Rattle.answers.specs.Answers.{Answer, refused, movedTo}
 use Rattle.syntax.specs.Segment.{segmentAt}
 use Rattle.placing.specs.Tables.{tables}
 use Rattle.steps.specs.declared.state.State.{State}
@@ -87,7 +88,7 @@ module _ (x : Progress) (b p : List ℕ) (w : ReadyStretch x b p) (y : Stretched
   pub most : length (y .rows) ≤ roomRows
   most = subst (λ (a : Stretched). length (a .rows) ≤ roomRows) (sym e) (stretch-most roomRows p (here .reference) (x .kept .state) 0)
 
-  pub placed : (number position : ℕ) → y .verdict ≡ refused number position → position ≤ length p
+  pub placed : (u : Refusal) → y .verdict ≡ refused u → u .position ≤ length p
   placed = gone-position here p (x .kept .state) waits bodiless (w .unreleased) refl (w .inside) (w .short) (w .within) roomRows y e
 
   abbrev behind : Progress
@@ -157,21 +158,21 @@ module _ (x : Progress) (b p : List ℕ) (w : ReadyStretch x b p) (y : Stretched
           ((λ _. omega arith), (λ q. absurd (false≢true q)), (λ _. refl)),
         )
 
-    faulted : (number position : ℕ) → y .verdict ≡ refused number position
-        → Onward p x b lent (namedAt behind number (x .kept .offset + position)) b out × Faster x (namedAt behind number (x .kept .offset + position))
-    faulted number position v =
+    faulted : (u : Refusal) → y .verdict ≡ refused u
+        → Onward p x b lent (namedAt behind (movedTo (x .kept .offset + u .position) u)) b out × Faster x (namedAt behind (movedTo (x .kept .offset + u .position) u))
+    faulted u v =
         let g = w .goes .sized in
         let i = within in
         let h = w .within in
         let f = few in
         let m = length-map (y .rows) (raise (x .kept .offset)) in
-        let a : Answer ℕ = refused number (x .kept .offset + position) in
+        let a : Answer ℕ = refused (movedTo (x .kept .offset + u .position) u) in
         let s = stopped (reached here y) a in
-        let z = named-stand (behind .kept) b number (x .kept .offset + position) ∙ ap (λ (t : Stand). answered t a) behind-stand in (
+        let z = named-stand (behind .kept) b (movedTo (x .kept .offset + u .position) u) ∙ ap (λ (t : Stand). answered t a) behind-stand in (
           record {
             brought = s;
             told = λ rest.
-                gone-stop here p (x .kept .state) waits bodiless (w .unreleased) refl (w .inside) (w .short) (w .within) roomRows y e number position v rest
+                gone-stop here p (x .kept .state) waits bodiless (w .unreleased) refl (w .inside) (w .short) (w .within) roomRows y e u v rest
                 ∙ ap (λ (l : List Row). record { stand = s .stand; rows = l; opened = false; headed = false }) (sym (append-nil (s .rows)))
                 ∙ ap (followed s) (sym (arrived-stays (s .stand) a refl (drop (x .at + y .at - x .at) p ++ rest)))
                 ∙ ap (λ (t : Stand). followed s (arrivedOn t (drop (x .at + y .at - x .at) p ++ rest))) (sym z);
@@ -208,8 +209,8 @@ module _ (x : Progress) (b p : List ℕ) (w : ReadyStretch x b p) (y : Stretched
     pub stretch-sound : y .verdict ≡ accepted → Onward p x b lent (beyondAt x st at n count) b out × Faster x (beyondAt x st at n count)
     stretch-sound v = subst (λ (z : Progress). Onward p x b lent z b out × Faster x z) (sym same-behind) (sound lent zeros room out size filled same-put v)
 
-    pub stretch-faulted : (number position : ℕ) → y .verdict ≡ refused number position
-        → Onward p x b lent (namedAt (beyondAt x st at n count) number (x .kept .offset + position)) b out × Faster x (namedAt (beyondAt x st at n count) number (x .kept .offset + position))
-    stretch-faulted number position v =
-        subst (λ (z : Progress). Onward p x b lent (namedAt z number (x .kept .offset + position)) b out × Faster x (namedAt z number (x .kept .offset + position))) (sym same-behind)
-        (faulted lent zeros room out size filled same-put number position v)
+    pub stretch-faulted : (u : Refusal) → y .verdict ≡ refused u
+        → Onward p x b lent (namedAt (beyondAt x st at n count) (movedTo (x .kept .offset + u .position) u)) b out × Faster x (namedAt (beyondAt x st at n count) (movedTo (x .kept .offset + u .position) u))
+    stretch-faulted u v =
+        subst (λ (z : Progress). Onward p x b lent (namedAt z (movedTo (x .kept .offset + u .position) u)) b out × Faster x (namedAt z (movedTo (x .kept .offset + u .position) u))) (sym same-behind)
+        (faulted lent zeros room out size filled same-put u v)

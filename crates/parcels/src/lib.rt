@@ -8,6 +8,7 @@ mod rows;
 use crate::advance::advance;
 use crate::advance::is_awaited;
 use crate::passing::answered;
+use answers::Refusal;
 use bytes::put_bytes;
 use interchange::is_closed;
 use interchange::reader::Reading;
@@ -21,7 +22,6 @@ use parts::Part;
 use parts::bytes_of;
 use steps::state::State;
 use syntax::bytes::permitted;
-use syntax::segment::Refusal;
 ghost use mathlib.Core.Path.{_≡_};
 ghost use mathlib.Core.Bool.{false};
 ghost use Prim.Native.Nat.{_+_, _*_, _≤_, _<_};
@@ -29,7 +29,7 @@ ghost use lib.Dec.{leb};
 ghost use lib.ListN.{length};
 ghost use Rattle.syntax.specs.Segment.{permittedRun, bodyAnswer};
 ghost use Rattle.answers.specs.Answers as answer;
-ghost use Rattle.interchange.specs.Reader.{readAnswer, faulty};
+ghost use Rattle.interchange.specs.Reader.{readAnswer};
 ghost use Rattle.arrival.specs.Arrived.{given, awaitedEnd, arrivedOn};
 ghost use Rattle.parcel_store.specs.declared.Final.the-variants.{Awaited};
 ghost use Rattle.parcel_store.specs.Store.{partSize, storeSize, standOf, finalBy};
@@ -46,20 +46,28 @@ pub enum Parcel {
 }
 
 fn refused(rows: usize, number: u8, position: usize) -> Parcel
-    ensures { λ r. ⌜ parcelTold r ≡ telling rows (answer.refused number position) ⌝ }
+    ensures { λ r. ⌜ parcelTold r ≡ telling rows (answer.refused (answer.naming number position)) ⌝ }
 {
-    Parcel::Refused(rows, Refusal { number, position })
+    Parcel::Refused(
+        rows,
+        Refusal {
+            number,
+            position,
+            part: 0,
+        },
+    )
 }
 
-/// The store holds a reading before its first byte. 17 for a store of another length.
-pub fn begin(store: &mut [u8]) -> Parcel
+/// The store holds a reading before its first byte; the wish is whether the caller asks for the old reading of a POP with neither form in what follows.
+/// 17 for a store of another length.
+pub fn begin(store: &mut [u8], wish: bool) -> Parcel
     ensures told { λ r. ⌜ parcelTold r ≡ beginTold (now (store .entry)) ⌝ }
-    ensures left { λ _. ⌜ now (store .exit) ≡ beginStore (now (store .entry)) ⌝ }
+    ensures left { λ _. ⌜ now (store .exit) ≡ beginStore wish (now (store .entry)) ⌝ }
 {
     if store.len() != STORE {
         return refused(0, 17, 0);
     }
-    let state = State::opening();
+    let state = State::opening(wish);
     let kept = Kept {
         state,
         offset: 0,
@@ -144,18 +152,20 @@ fn permitted_run(text: &[u8]) -> usize
 // The input is over inside a segment: 4, then 5.
 fn cut_answer(body: &[u8], offset: usize) -> Refusal
     requires { ⌜ (length (now body) ≤ partSize) × (offset < 65536) ⌝ }
-    ensures { λ r. ⌜ faulty r ≡ bodyAnswer (offset + length (now (body .entry))) offset (now (body .entry)) ⌝ }
+    ensures { λ r. ⌜ answer.refused r ≡ bodyAnswer (offset + length (now (body .entry))) offset (now (body .entry)) ⌝ }
 {
     let run = permitted_run(body);
     if run < body.len() {
         return Refusal {
             number: 4,
             position: offset + run,
+            part: 0,
         };
     }
     Refusal {
         number: 5,
         position: offset,
+        part: 0,
     }
 }
 
@@ -170,6 +180,7 @@ fn end_answer(store: &[u8], kept: Kept) -> Final
         return Final::Refused(Refusal {
             number: 3,
             position: 0,
+            part: 0,
         });
     }
     if 0 < kept.body {
@@ -188,6 +199,7 @@ fn end_answer(store: &[u8], kept: Kept) -> Final
     Final::Refused(Refusal {
         number: 7,
         position: kept.offset,
+        part: 0,
     })
 }
 
@@ -212,6 +224,7 @@ pub fn finish(store: &mut [u8]) -> Reading
         return Reading::Refused(Refusal {
             number: 17,
             position: 0,
+            part: 0,
         });
     }
     let kept = load(store);

@@ -1,6 +1,7 @@
 //! The segments of a parcel: one by itself, with its references, or a stretch of those of a message.
 
 use crate::rows::put_rows;
+use answers::Refusal;
 use bytes::put_bytes;
 use interchange::counted;
 use interchange::stretch::Halt;
@@ -18,7 +19,6 @@ use placing::tables::tables;
 use steps::state::Phase;
 use steps::state::State;
 use steps::state::one_more;
-use syntax::segment::Refusal;
 ghost use mathlib.Core.Path.{_≡_};
 ghost use Prim.Native.Nat.{_+_, _≤_, _<_};
 ghost use lib.ListN.{length, drop};
@@ -63,13 +63,12 @@ pub(crate) fn answered(kept: Kept, answer: Final) -> Kept
 }
 
 /// A fault is named.
-pub(crate) fn named(x: Progress, number: u8, position: usize) -> Progress
-    ensures { λ r. ⌜ r ≡ namedAt x number position ⌝ }
+pub(crate) fn named(x: Progress, refusal: Refusal) -> Progress
+    ensures { λ r. ⌜ r ≡ namedAt x refusal ⌝ }
 {
     let kept = x.kept;
-    let answer = Final::Refused(Refusal { number, position });
     Progress {
-        kept: answered(kept, answer),
+        kept: answered(kept, Final::Refused(refusal)),
         at: x.at,
         numbers: x.numbers,
         ended: true,
@@ -212,7 +211,14 @@ pub(crate) fn pass_one(store: &mut [u8], x: Progress, segment: &[u8], rows: &mut
                 ended: false,
             }
         }
-        Turn::Stop(refusal) => named(x, refusal.number, kept.offset + refusal.position),
+        Turn::Stop(refusal) => named(
+            x,
+            Refusal {
+                number: refusal.number,
+                position: kept.offset + refusal.position,
+                part: refusal.part,
+            },
+        ),
     }
 }
 
@@ -275,6 +281,13 @@ pub(crate) fn pass_stretch(store: &[u8], x: Progress, piece: &[u8], rows: &mut [
     let halt = stretch.halt;
     match halt {
         Halt::Sound => beyond,
-        Halt::Faulty(refusal) => named(beyond, refusal.number, kept.offset + refusal.position),
+        Halt::Faulty(refusal) => named(
+            beyond,
+            Refusal {
+                number: refusal.number,
+                position: kept.offset + refusal.position,
+                part: refusal.part,
+            },
+        ),
     }
 }

@@ -5,6 +5,7 @@ use crate::passing::named;
 use crate::passing::pass_cut;
 use crate::passing::pass_one;
 use crate::passing::pass_stretch;
+use answers::Refusal;
 use cuts::find_terminator;
 use interchange::is_closed;
 use interchange::is_inside;
@@ -12,6 +13,7 @@ ghost use mathlib.Core.Path.{_≡_};
 ghost use mathlib.Core.Bool.{true};
 ghost use Prim.Native.Nat.{_+_, _≤_, _<_, min};
 ghost use lib.ListN.{length};
+ghost use Rattle.answers.specs.Answers.{naming};
 ghost use Rattle.parcels.specs.Onward.{Onward};
 ghost use Rattle.parcels.specs.Passing.{Faster};
 ghost use Rattle.parcels.specs.Pieces.{haltedAt, unendedAt, ReadyEnd, Standing, Went};
@@ -25,6 +27,17 @@ fn least(a: usize, b: usize) -> usize
     ensures { λ r. ⌜ r ≡ min a b ⌝ }
 {
     if a < b { a } else { b }
+}
+
+// A fault of no period.
+fn fault(number: u8, position: usize) -> Refusal
+    ensures { λ r. ⌜ r ≡ naming number position ⌝ }
+{
+    Refusal {
+        number,
+        position,
+        part: 0,
+    }
 }
 
 // Nothing more is read.
@@ -50,9 +63,9 @@ fn unended(x: Progress, n: usize, left: usize) -> Progress
         return halted(x);
     }
     if INTERCHANGE <= kept.offset + kept.body + n {
-        return named(x, 3, 0);
+        return named(x, fault(3, 0));
     }
-    named(x, 21, kept.offset)
+    named(x, fault(21, kept.offset))
 }
 
 // A piece in which a segment ends, at an index.
@@ -90,10 +103,10 @@ pub(crate) fn go_on(store: &mut [u8], x: Progress, parcel: &[u8], rows: &mut [u3
     }
     let arrived = kept.offset + kept.body;
     if INTERCHANGE <= arrived {
-        return named(x, 3, 0);
+        return named(x, fault(3, 0));
     }
     if is_closed(phase) {
-        return named(x, 7, kept.offset);
+        return named(x, fault(7, kept.offset));
     }
     let n = least(left, least(SEGMENT - kept.body, INTERCHANGE - arrived));
     let piece = &parcel[at..at + n];

@@ -20,11 +20,11 @@ use Rattle.calendar.specs.Written.{dayCount, goodPeriod, daysSpan}
 use Rattle.calendar.specs.declared.Span.{Span}
 use Rattle.calendar.specs.declared.Span.the-variants.{Days, Bad}
 use Rattle.period.specs.declared.Form.{Form}
-use Rattle.period.specs.declared.Fault.the-variants.{BadDayString, BadWeekdays, BothForms}
+use Rattle.period.specs.declared.Fault.the-variants.{BadDayString, BadWeekdays, BothForms, NeitherForm}
 use Rattle.period.specs.declared.Period.the-variants.{Good}
 use Rattle.period.specs.declared.forms.Formed.{Formed}
 use Rattle.period.specs.declared.forms.Formed.the-variants.{Told, Faulty}
-use Rattle.period.specs.Period.{firstLast, dayText, weekText, madeSpan, spanIn, fitsDays, risingDays, formOf, formedOf, restGood, periodBy, periodOn, periodOf}
+use Rattle.period.specs.Period.{firstLast, dayText, weekText, madeSpan, spanIn, fitsDays, risingDays, formOf, lacksForm, formedOf, restGood, periodBy, periodOn, periodOf}
 
 -- two dates give the numbers
 pub record Spans (f n : ℕ) : Type 0 where
@@ -71,21 +71,24 @@ pub record Forms (n : ℕ) (d w : List ℕ) (form : Form) : Type 0 where
   pub rises : risingDays 48 w ≡ true
   pub is : formOf d w ≡ form
 
-forms-by : (p q r : Bool) (n : ℕ) (d w : List ℕ) (form : Form) → fitsDays n d ≡ p → risingDays 48 w ≡ q
-    → pick p (pick q (pick r (Faulty BothForms) (Told (formOf d w))) (Faulty BadWeekdays)) (Faulty BadDayString) ≡ Told form → Forms n d w form
-forms-by false q r n d w form a b e = let z : _≡_ {A = ℕ} 0 1 = cc in absurd (omega arith)
-forms-by true false r n d w form a b e = let z : _≡_ {A = ℕ} 0 1 = cc in absurd (omega arith)
-forms-by true true true n d w form a b e = let z : _≡_ {A = ℕ} 0 1 = cc in absurd (omega arith)
-forms-by true true false n d w form a b e = record { fits = a; rises = b; is = cc }
+forms-by : (p q r l : Bool) (n : ℕ) (d w : List ℕ) (form : Form) → fitsDays n d ≡ p → risingDays 48 w ≡ q
+    → pick p (pick q (pick r (Faulty BothForms) (pick l (Faulty NeitherForm) (Told (formOf d w)))) (Faulty BadWeekdays)) (Faulty BadDayString) ≡ Told form
+    → Forms n d w form
+forms-by false q r l n d w form a b e = let z : _≡_ {A = ℕ} 0 1 = cc in absurd (omega arith)
+forms-by true false r l n d w form a b e = let z : _≡_ {A = ℕ} 0 1 = cc in absurd (omega arith)
+forms-by true true true l n d w form a b e = let z : _≡_ {A = ℕ} 0 1 = cc in absurd (omega arith)
+forms-by true true false true n d w form a b e = let z : _≡_ {A = ℕ} 0 1 = cc in absurd (omega arith)
+forms-by true true false false n d w form a b e = record { fits = a; rises = b; is = cc }
 
-pub form-told : (n : ℕ) (d w : List ℕ) (form : Form) → formedOf n d w ≡ Told form → Forms n d w form
+pub form-told : (wish : Bool) (n : ℕ) (d w : List ℕ) (form : Form) → formedOf wish n d w ≡ Told form → Forms n d w form
 unfolding formedOf
-form-told n d w form e = forms-by (fitsDays n d) (risingDays 48 w) (both (present d) (present w)) n d w form refl refl e
+form-told wish n d w form e =
+    forms-by (fitsDays n d) (risingDays 48 w) (both (present d) (present w)) (lacksForm wish d w) n d w form refl refl e
 
 -- a good period: its dates, its form and the rest
-pub record Goods (g : List ℕ) (f n : ℕ) (form : Form) : Type 0 where
+pub record Goods (wish : Bool) (g : List ℕ) (f n : ℕ) (form : Form) : Type 0 where
   pub span : spanIn (firstLast g) ≡ Days f n
-  pub told : formedOf n (dayText g) (weekText g) ≡ Told form
+  pub told : formedOf wish n (dayText g) (weekText g) ≡ Told form
   pub rest : restGood g ≡ true
 
 by-told : (x : Formed) (r : Bool) (a b f n : ℕ) (form : Form) → periodBy x r a b ≡ Good f n form → (a ≡ f) × (b ≡ n) × (x ≡ Told form) × (r ≡ true)
@@ -93,15 +96,15 @@ by-told (Faulty x) r a b f n form e = let z : _≡_ {A = ℕ} 0 1 = cc in absurd
 by-told (Told y) false a b f n form e = let z : _≡_ {A = ℕ} 0 1 = cc in absurd (omega arith)
 by-told (Told y) true a b f n form e = (cc, cc, cc, refl)
 
-on-told : (s : Span) (g : List ℕ) (f n : ℕ) (form : Form) → spanIn (firstLast g) ≡ s → periodOn s g ≡ Good f n form → Goods g f n form
-on-told Bad g f n form q e = let z : _≡_ {A = ℕ} 0 1 = cc in absurd (omega arith)
-on-told (Days a b) g f n form q e =
-    let r = by-told (formedOf b (dayText g) (weekText g)) (restGood g) a b f n form e in
-    record { span = q ∙ ap (λ (x : ℕ). Days x b) (r .0) ∙ ap (Days f) (r .1); told = ap (λ (x : ℕ). formedOf x (dayText g) (weekText g)) (sym (r .1)) ∙ r .2; rest = r .3 }
+on-told : (wish : Bool) (s : Span) (g : List ℕ) (f n : ℕ) (form : Form) → spanIn (firstLast g) ≡ s → periodOn wish s g ≡ Good f n form → Goods wish g f n form
+on-told wish Bad g f n form q e = let z : _≡_ {A = ℕ} 0 1 = cc in absurd (omega arith)
+on-told wish (Days a b) g f n form q e =
+    let r = by-told (formedOf wish b (dayText g) (weekText g)) (restGood g) a b f n form e in
+    record { span = q ∙ ap (λ (x : ℕ). Days x b) (r .0) ∙ ap (Days f) (r .1); told = ap (λ (x : ℕ). formedOf wish x (dayText g) (weekText g)) (sym (r .1)) ∙ r .2; rest = r .3 }
 
-pub good-told : (g : List ℕ) (f n : ℕ) (form : Form) → periodOf g ≡ Good f n form → Goods g f n form
+pub good-told : (wish : Bool) (g : List ℕ) (f n : ℕ) (form : Form) → periodOf wish g ≡ Good f n form → Goods wish g f n form
 unfolding periodOf
-good-told g f n form e = on-told (spanIn (firstLast g)) g f n form refl e
+good-told wish g f n form e = on-told wish (spanIn (firstLast g)) g f n form refl e
 
 -- its days are dates
 pub record Bounds (f n : ℕ) : Type 0 where
@@ -109,9 +112,9 @@ pub record Bounds (f n : ℕ) : Type 0 where
   pub few : n ≤ 512
   pub inside : f + n ≤ 40177
 
-pub good-bounds : (g : List ℕ) (f n : ℕ) (form : Form) → periodOf g ≡ Good f n form → Bounds f n
-good-bounds g f n form e =
-    let s = span-told (firstLast g) f n (good-told g f n form e .span) in
+pub good-bounds : (wish : Bool) (g : List ℕ) (f n : ℕ) (form : Form) → periodOf wish g ≡ Good f n form → Bounds f n
+good-bounds wish g f n form e =
+    let s = span-told (firstLast g) f n (good-told wish g f n form e .span) in
     let b = number-below (s .last) (s .last-date) in
     let p = s .first-number in
     let q = s .count in
@@ -119,5 +122,5 @@ good-bounds g f n form e =
     let l = s .not-long in
     record { some = omega arith; few = omega arith; inside = omega arith }
 
-pub good-rising : (g : List ℕ) (f n : ℕ) (form : Form) → periodOf g ≡ Good f n form → risingDays 48 (weekText g) ≡ true
-good-rising g f n form e = form-told n (dayText g) (weekText g) form (good-told g f n form e .told) .rises
+pub good-rising : (wish : Bool) (g : List ℕ) (f n : ℕ) (form : Form) → periodOf wish g ≡ Good f n form → risingDays 48 (weekText g) ≡ true
+good-rising wish g f n form e = form-told wish n (dayText g) (weekText g) form (good-told wish g f n form e .told) .rises

@@ -9,3 +9,4 @@ pub mod Second
 pub mod Facts
 pub mod Written
 pub mod Pops
+pub mod Wishes

@@ -74,18 +74,26 @@ risingDays before [] = true
 risingDays before (b ∷ l) = both (both (ltb before b) (leb b 55)) (risingDays b l)
 
 -- "Giving neither means every day."
-abbrev pub formWithout : List ℕ → Form
-formWithout weekdays = pick (present weekdays) ByWeekdays Every
-
 abbrev pub formOf : List ℕ → List ℕ → Form
-formOf days weekdays = pick (present days) ByString (formWithout weekdays)
+formOf days weekdays = pick (present days) ByString (pick (present weekdays) ByWeekdays Every)
 
--- each part by itself, then "Giving both is wrong."
-unfoldable pub formedOf : ℕ → List ℕ → List ℕ → Formed
-formedOf n days weekdays =
+-- Document 02, A2: "From now on a POP with neither form is refused unless the caller asks for the old reading." The wish is true where he asks.
+abbrev pub lacksForm : Bool → List ℕ → List ℕ → Bool
+lacksForm wish days weekdays = both (not wish) (both (not (present days)) (not (present weekdays)))
+
+-- so a form tells the days: one that is given always, none at all where the caller asks
+abbrev pub suffices : Bool → Form → Bool
+suffices wish Every = wish
+suffices wish ByString = true
+suffices wish ByWeekdays = true
+
+-- each part by itself, then "Giving both is wrong", then neither
+unfoldable pub formedOf : Bool → ℕ → List ℕ → List ℕ → Formed
+formedOf wish n days weekdays =
     pick (fitsDays n days)
     (pick (risingDays 48 weekdays)
-    (pick (both (present days) (present weekdays)) (Faulty BothForms) (Told (formOf days weekdays)))
+    (pick (both (present days) (present weekdays)) (Faulty BothForms)
+    (pick (lacksForm wish days weekdays) (Faulty NeitherForm) (Told (formOf days weekdays))))
     (Faulty BadWeekdays))
     (Faulty BadDayString)
 
@@ -98,19 +106,19 @@ abbrev pub periodBy : Formed → Bool → ℕ → ℕ → Period
 periodBy (Faulty x) rest f n = Wrong x
 periodBy (Told form) rest f n = pick rest (Good f n form) (Wrong BadRest)
 
-abbrev pub periodOn : Span → List ℕ → Period
-periodOn Bad g = Wrong BadDates
-periodOn (Days f n) g = periodBy (formedOf n (dayText g) (weekText g)) (restGood g) f n
+abbrev pub periodOn : Bool → Span → List ℕ → Period
+periodOn wish Bad g = Wrong BadDates
+periodOn wish (Days f n) g = periodBy (formedOf wish n (dayText g) (weekText g)) (restGood g) f n
 
-unfoldable pub periodOf : List ℕ → Period
-periodOf g = periodOn (spanIn (firstLast g)) g
+unfoldable pub periodOf : Bool → List ℕ → Period
+periodOf wish g = periodOn wish (spanIn (firstLast g)) g
 
 -- whether a POP says a period, so that it is no 10
 abbrev pub isGood : Period → Bool
 isGood (Good first days form) = true
 isGood (Wrong x) = false
 
--- the part's number: dates 1, day string 2, weekdays 3, both 4, neither 5, anything else 6
+-- the part's number: "dates 1, day string 2, weekdays 3, both forms 4, neither form 5, anything else 6"
 unfoldable pub faultNumber : Fault → ℕ
 faultNumber BadDates = 1
 faultNumber BadDayString = 2
@@ -128,19 +136,19 @@ pub record Given : Type 0 where
 -- what each case answers, of a POP at an offset
 abbrev pub periodAnswer : ℕ → Period → Answer Given
 periodAnswer at (Good f n form) = done (record { first = f; count = n; form = form })
-periodAnswer at (Wrong x) = wrongPeriod at
+periodAnswer at (Wrong x) = wrongPeriod at (faultNumber x)
 
--- 10, "POP contents", at the POP, whichever part is wrong; else its days
+-- 10, "POP contents", at the POP, with "the lowest that applies" of its parts; else its days
 abbrev pub popBy : ℕ → Formed → Bool → ℕ → ℕ → Answer Given
-popBy at (Faulty x) rest f n = wrongPeriod at
-popBy at (Told form) rest f n = pick rest (done (record { first = f; count = n; form = form })) (wrongPeriod at)
+popBy at (Faulty x) rest f n = wrongPeriod at (faultNumber x)
+popBy at (Told form) rest f n = pick rest (done (record { first = f; count = n; form = form })) (wrongPeriod at 6)
 
-abbrev pub popOn : ℕ → Span → List ℕ → Answer Given
-popOn at Bad g = wrongPeriod at
-popOn at (Days f n) g = popBy at (formedOf n (dayText g) (weekText g)) (restGood g) f n
+abbrev pub popOn : Bool → ℕ → Span → List ℕ → Answer Given
+popOn wish at Bad g = wrongPeriod at 1
+popOn wish at (Days f n) g = popBy at (formedOf wish n (dayText g) (weekText g)) (restGood g) f n
 
-unfoldable pub popAnswer : ℕ → List ℕ → Answer Given
-popAnswer at g = popOn at (spanIn (firstLast g)) g
+unfoldable pub popAnswer : Bool → ℕ → List ℕ → Answer Given
+popAnswer wish at g = popOn wish at (spanIn (firstLast g)) g
 
 -- whether the day k days after the first runs, f the number of the first; a string that has no character for it reads as 0 there, which is no `1`
 unfoldable pub runsBy : List ℕ → Form → ℕ → ℕ → Bool
@@ -153,8 +161,8 @@ unfoldable pub runsIn : List ℕ → Period → ℕ → Bool
 runsIn g (Good f n form) k = both (ltb k n) (runsBy g form f k)
 runsIn g (Wrong x) k = false
 
-abbrev pub runs : List ℕ → ℕ → Bool
-runs g k = runsIn g (periodOf g) k
+abbrev pub runs : Bool → List ℕ → ℕ → Bool
+runs wish g k = runsIn g (periodOf wish g) k
 
 -- A segment at an offset of an input that is whole and says a good period: where its terminator stands, and the period. Whatever else stands there is no
 -- such POP: "4, 5, 6" are the segment's, 10 is the period's.
@@ -165,5 +173,5 @@ popOf (NotPermitted i) p = Other
 popOf Unended p = Other
 popOf Malformed p = Other
 
-unfoldable pub popAt : List ℕ → ℕ → Pop
-popAt s at = popOf (segmentAt s at) (periodOf (bodyAt s at))
+unfoldable pub popAt : Bool → List ℕ → ℕ → Pop
+popAt wish s at = popOf (segmentAt s at) (periodOf wish (bodyAt s at))

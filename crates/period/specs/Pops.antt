@@ -2,7 +2,7 @@
 -- what it says tells where it ends.
 -- Assumes nothing.
 use mathlib.Core.Path.{_≡_, refl, sym, ap, subst, _∙_}
-use mathlib.Core.Bool.{true, false}
+use mathlib.Core.Bool.{Bool, true, false}
 use mathlib.Core.List.{List, [], _∷_, _++_, append-assoc}
 use Prim.Native.Nat.{ℕ, suc, _+_, _-_, _≤_, _<_}
 use native.Mathlib.Omega.{arith}
@@ -34,32 +34,32 @@ use Rattle.period.specs.Facts.{span-told}
 use Rattle.period.specs.Written.{cut-good, Begins}
 
 -- by what stands there
-pub pop-is : (s : List ℕ) (at : ℕ) {x : Scanned} {p : Period} → segmentAt s at ≡ x → periodOf (bodyAt s at) ≡ p → popAt s at ≡ popOf x p
+pub pop-is : (wish : Bool) (s : List ℕ) (at : ℕ) {x : Scanned} {p : Period} → segmentAt s at ≡ x → periodOf wish (bodyAt s at) ≡ p → popAt wish s at ≡ popOf x p
 unfolding popAt
-pop-is s at a b = rw (a, b)
+pop-is wish s at a b = rw (a, b)
 
 -- and what is known where there is one
-pub record PopKnown (s : List ℕ) (at e f n : ℕ) (form : Form) : Type 0 where
+pub record PopKnown (wish : Bool) (s : List ℕ) (at e f n : ℕ) (form : Form) : Type 0 where
   pub segment : segmentAt s at ≡ End e
-  pub period : periodOf (bodyAt s at) ≡ Good f n form
+  pub period : periodOf wish (bodyAt s at) ≡ Good f n form
 
-pop-by : (s : List ℕ) (at : ℕ) (x : Scanned) (p : Period) {e f n : ℕ} {form : Form} → segmentAt s at ≡ x → periodOf (bodyAt s at) ≡ p → popOf x p ≡ Whole e f n form → PopKnown s at e f n form
-pop-by s at (End e) (Good f n form) a b q = record { segment = a ∙ cc; period = b ∙ cc }
-pop-by s at (End e) (Wrong x) a b q = let z : _≡_ {A = ℕ} 0 1 = cc in absurd (omega arith)
-pop-by s at (NotPermitted i) p a b q = let z : _≡_ {A = ℕ} 0 1 = cc in absurd (omega arith)
-pop-by s at Unended p a b q = let z : _≡_ {A = ℕ} 0 1 = cc in absurd (omega arith)
-pop-by s at Malformed p a b q = let z : _≡_ {A = ℕ} 0 1 = cc in absurd (omega arith)
+pop-by : (wish : Bool) (s : List ℕ) (at : ℕ) (x : Scanned) (p : Period) {e f n : ℕ} {form : Form} → segmentAt s at ≡ x → periodOf wish (bodyAt s at) ≡ p → popOf x p ≡ Whole e f n form → PopKnown wish s at e f n form
+pop-by wish s at (End e) (Good f n form) a b q = record { segment = a ∙ cc; period = b ∙ cc }
+pop-by wish s at (End e) (Wrong x) a b q = let z : _≡_ {A = ℕ} 0 1 = cc in absurd (omega arith)
+pop-by wish s at (NotPermitted i) p a b q = let z : _≡_ {A = ℕ} 0 1 = cc in absurd (omega arith)
+pop-by wish s at Unended p a b q = let z : _≡_ {A = ℕ} 0 1 = cc in absurd (omega arith)
+pop-by wish s at Malformed p a b q = let z : _≡_ {A = ℕ} 0 1 = cc in absurd (omega arith)
 
-pub pop-told : (s : List ℕ) (at : ℕ) {e f n : ℕ} {form : Form} → popAt s at ≡ Whole e f n form → PopKnown s at e f n form
+pub pop-told : (wish : Bool) (s : List ℕ) (at : ℕ) {e f n : ℕ} {form : Form} → popAt wish s at ≡ Whole e f n form → PopKnown wish s at e f n form
 unfolding popAt
-pop-told s at q = pop-by s at (segmentAt s at) (periodOf (bodyAt s at)) refl refl q
+pop-told wish s at q = pop-by wish s at (segmentAt s at) (periodOf wish (bodyAt s at)) refl refl q
 
--- where a POP was found it is the one at the offset; where none was found nothing is said
+-- where a POP was found it is the one at the offset in the old reading; where none was found nothing is said
 abbrev pub popTold : List ℕ → ℕ → Pop → Type 0
-popTold s at (Whole e f n form) = Whole e f n form ≡ popAt s at
+popTold s at (Whole e f n form) = Whole e f n form ≡ popAt true s at
 popTold s at Other = Unit
 
-pub pop-known : (s : List ℕ) (at : ℕ) {r : Pop} {e f n : ℕ} {form : Form} → popTold s at r → r ≡ Whole e f n form → Whole e f n form ≡ popAt s at
+pub pop-known : (s : List ℕ) (at : ℕ) {r : Pop} {e f n : ℕ} {form : Form} → popTold s at r → r ≡ Whole e f n form → Whole e f n form ≡ popAt true s at
 pop-known s at t q = subst (popTold s at) q t
 
 -- the characters of the forms
@@ -117,15 +117,15 @@ some-text [] h = absurd (omega arith)
 some-text (b ∷ l) h = refl
 
 module _ (n : ℕ) (l : List ℕ) (k : present l ≡ true) where
-  told-weekdays : risingDays 48 l ≡ true → formedOf n [] l ≡ Told ByWeekdays
+  told-weekdays : risingDays 48 l ≡ true → formedOf true n [] l ≡ Told ByWeekdays
   unfolding formedOf
   told-weekdays r = rw (r, k)
 
-  told-string : length l ≤ n → all zeroOrOne l ≡ true → formedOf n l [] ≡ Told ByString
+  told-string : length l ≤ n → all zeroOrOne l ≡ true → formedOf true n l [] ≡ Told ByString
   unfolding formedOf risingDays dayString
   told-string e z = rw (k, le-leb (length l) n e, z)
 
-told-every : (n : ℕ) → formedOf n [] [] ≡ Told Every
+told-every : (n : ℕ) → formedOf true n [] [] ≡ Told Every
 unfolding formedOf risingDays
 told-every n = refl
 
@@ -138,10 +138,10 @@ cut-at g a e h k q =
 
 -- a written POP with its terminator behind it, at an offset of a text
 module _ (t : List ℕ) (at : ℕ) (g d s w rest : List ℕ) (p : Parts g d s w) (pd : all numeric d ≡ true) (ps : all numeric s ≡ true) (pw : all numeric w ≡ true) where
-  pub whole-pop : drop at t ≡ g ++ (39 ∷ rest) → {f n : ℕ} {form : Form} → spanIn d ≡ Days f n → formedOf n s w ≡ Told form → Whole (at + length g) f n form ≡ popAt t at
+  pub whole-pop : drop at t ≡ g ++ (39 ∷ rest) → {f n : ℕ} {form : Form} → spanIn d ≡ Days f n → formedOf true n s w ≡ Told form → Whole (at + length g) f n form ≡ popAt true t at
   whole-pop e a b =
       let v = p .whole t at rest e in
-      sym (pop-is t at (v .1) (ap periodOf (v .0) ∙ sym (cut-good g d s w (p .cut) pd ps pw a b)))
+      sym (pop-is true t at (v .1) (ap (periodOf true) (v .0) ∙ sym (cut-good g d s w (p .cut) pd ps pw true a b)))
 
 -- weekdays, and a day string of at most n characters, behind the dates and before a terminator
 pub record WeekIn (g : List ℕ) (e : ℕ) : Type 0 where
@@ -170,13 +170,13 @@ module _ (t : List ℕ) (at : ℕ) (g : List ℕ) (here : drop at t ≡ g) {f n 
   few : length (b .dates) ≤ 512
   few = let l = b .counted in omega arith
 
-  pub alone-pop : 29 < length g → getD g 29 0 ≡ 39 → Whole (at + 29) f n Every ≡ popAt t at
+  pub alone-pop : 29 < length g → getD g 29 0 ≡ 39 → Whole (at + 29) f n Every ≡ popAt true t at
   alone-pop h q =
       ap (λ (k : ℕ). Whole (at + k) f n Every) (sym (ap (λ (k : ℕ). suc (suc (suc (suc (suc (suc (suc (suc k)))))))) (b .counted)))
       ∙ whole-pop t at (oneElement (withoutString dates)) dates [] [] (drop 30 g) (alone-parts dates (b .numerics) few) (b .numerics) refl refl
       (behind (39 ∷ drop 30 g) (drop-here g 29 h ∙ rw q)) (b .span) (told-every n)
 
-  pub weekdays-pop : (e : ℕ) → WeekIn g e → getD g 29 0 ≡ 43 → Whole (at + e) f n ByWeekdays ≡ popAt t at
+  pub weekdays-pop : (e : ℕ) → WeekIn g e → getD g 29 0 ≡ 43 → Whole (at + e) f n ByWeekdays ≡ popAt true t at
   weekdays-pop e i p =
       let r = i .is in
       let h = i .some in
@@ -196,7 +196,7 @@ module _ (t : List ℕ) (at : ℕ) (g : List ℕ) (here : drop at t ≡ g) {f n 
       ∙ sym (ap (λ (j : List ℕ). 80 ∷ 79 ∷ 80 ∷ 43 ∷ 50 ∷ 55 ∷ 51 ∷ 58 ∷ j) (append-assoc dates (43 ∷ between g 30 e) (39 ∷ drop (e + 1) g))))
       (b .span) (told-weekdays n (between g 30 e) (some-text (between g 30 e) (omega arith)) u)
 
-  pub string-pop : (e : ℕ) → StringIn g n e → Whole (at + e) f n ByString ≡ popAt t at
+  pub string-pop : (e : ℕ) → StringIn g n e → Whole (at + e) f n ByString ≡ popAt true t at
   string-pop e i =
       let r = i .some in
       let o = i .few in
@@ -226,10 +226,10 @@ module _ (t : List ℕ) (at : ℕ) (g : List ℕ) (here : drop at t ≡ g) {f n 
         ap (firstPiece 39 false) (behind (43 ∷ 43 ∷ drop 31 g) (drop-here g 29 (omega arith) ∙ rw p (ap (λ (j : List ℕ). 43 ∷ j) (drop-here g 30 h ∙ rw q))))
         ∙ first-front 39 (oneElement (withoutString dates)) (43 ∷ 43 ∷ drop 31 g) (dates-quiet dates (b .numerics) 39 refl refl (no-quote dates (b .numerics)))
 
-    pub passed-pop : (e : ℕ) → segmentAt t at ≡ End e → Whole e f n Every ≡ popAt t at
+    pub passed-pop : (e : ℕ) → segmentAt t at ≡ End e → Whole e f n Every ≡ popAt true t at
     passed-pop e w =
-        sym (pop-is t at w (ap periodOf passed-body
-        ∙ sym (cut-good (twoElements (withoutString dates) (43 ∷ firstPiece 39 false (drop 31 g))) dates [] [] (passed-cut dates (b .numerics) (firstPiece 39 false (drop 31 g))) (b .numerics) refl refl (b .span) (told-every n))))
+        sym (pop-is true t at w (ap (periodOf true) passed-body
+        ∙ sym (cut-good (twoElements (withoutString dates) (43 ∷ firstPiece 39 false (drop 31 g))) dates [] [] (passed-cut dates (b .numerics) (firstPiece 39 false (drop 31 g))) (b .numerics) refl refl true (b .span) (told-every n))))
 
     -- it begins with a tag and a mark
     pub passed-tag : tagAhead (drop at t) ≡ true

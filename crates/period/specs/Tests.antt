@@ -1,7 +1,7 @@
 -- The tests of a period, in the order of the code.
 -- Assumes nothing.
 use mathlib.Core.Path.{_≡_, ap, _∙_}
-use mathlib.Core.Bool.{Bool, true, false}
+use mathlib.Core.Bool.{Bool, true, false, not}
 use mathlib.Core.List.{List}
 use Prim.Native.Nat.{ℕ, _+_, _%_, _<_, _≤_}
 use native.Mathlib.Omega.{arith}
@@ -11,7 +11,7 @@ use native.Mathlib.Decide.{decLt}
 use Rattle.laws.specs.Put.{putAt, length-put, take-put}
 use Rattle.values.specs.declared.Copied.the-variants.{Bytes, NoRoom}
 use borrow.Author.Tests.{eq-eqb, ne-eqb, lt-ltb, le-ltb}
-use Rattle.laws.specs.Choice.{pick, among}
+use Rattle.laws.specs.Choice.{pick, among, both-false}
 use Rattle.parts.specs.Places.{present}
 use Rattle.dates.specs.Days.{weekdayOf}
 use Rattle.dates.specs.Text.{dateAt}
@@ -22,12 +22,12 @@ use Rattle.calendar.specs.declared.Span.the-variants.{Days, Bad}
 use Rattle.values.specs.Values.{copiedOf}
 use Rattle.period.specs.declared.Form.{Form}
 use Rattle.period.specs.declared.Form.the-variants.{Every, ByString, ByWeekdays}
-use Rattle.period.specs.declared.Fault.the-variants.{BadDates, BadDayString, BadWeekdays, BothForms, BadRest}
+use Rattle.period.specs.declared.Fault.the-variants.{BadDates, BadDayString, BadWeekdays, BothForms, NeitherForm, BadRest}
 use Rattle.period.specs.declared.forms.Formed.the-variants.{Told, Faulty}
 use Rattle.period.specs.declared.Fault.{Fault}
 use Rattle.period.specs.declared.Period.{Period}
 use Rattle.period.specs.declared.Period.the-variants.{Good, Wrong}
-use Rattle.period.specs.Period.{firstLast, dayText, weekText, spanIn, dayString, fitsDays, risingDays, formWithout, formedOf, restGood, periodOf, runsBy, runsIn}
+use Rattle.period.specs.Period.{firstLast, dayText, weekText, spanIn, dayString, fitsDays, risingDays, formedOf, restGood, periodOf, runsBy, runsIn}
 
 -- the text of the two dates
 module _ (t : List ℕ) where
@@ -54,28 +54,36 @@ module _ (t : List ℕ) where
       two-dates p q = rw (eq-eqb (length t) 21 h, eq-eqb (getD t 10 0) 47 e, p, q)
 
 -- the forms
-module _ (n : ℕ) (d w : List ℕ) where
-  pub bad-string : fitsDays n d ≡ false → Faulty BadDayString ≡ formedOf n d w
+module _ (wish : Bool) (n : ℕ) (d w : List ℕ) where
+  pub bad-string : fitsDays n d ≡ false → Faulty BadDayString ≡ formedOf wish n d w
   unfolding formedOf
   bad-string p = rw p
 
   module _ (p : fitsDays n d ≡ true) where
-    pub bad-weekdays : risingDays 48 w ≡ false → Faulty BadWeekdays ≡ formedOf n d w
+    pub bad-weekdays : risingDays 48 w ≡ false → Faulty BadWeekdays ≡ formedOf wish n d w
     unfolding formedOf
     bad-weekdays q = rw (p, q)
 
     module _ (q : risingDays 48 w ≡ true) where
-      pub no-string : present d ≡ false → Told (formWithout w) ≡ formedOf n d w
+      pub by-weekdays : present d ≡ false → present w ≡ true → Told ByWeekdays ≡ formedOf wish n d w
       unfolding formedOf
-      no-string a = rw (p, q, a)
+      by-weekdays a b = rw (p, q, a, b, both-false (not wish))
 
-      pub both-forms : present d ≡ true → present w ≡ true → Faulty BothForms ≡ formedOf n d w
+      pub by-wish : present d ≡ false → present w ≡ false → wish ≡ true → Told Every ≡ formedOf wish n d w
+      unfolding formedOf
+      by-wish a b e = rw (p, q, a, b, e)
+
+      pub neither-form : present d ≡ false → present w ≡ false → wish ≡ false → Faulty NeitherForm ≡ formedOf wish n d w
+      unfolding formedOf
+      neither-form a b e = rw (p, q, a, b, e)
+
+      pub both-forms : present d ≡ true → present w ≡ true → Faulty BothForms ≡ formedOf wish n d w
       unfolding formedOf
       both-forms a b = rw (p, q, a, b)
 
-      pub by-string : present d ≡ true → present w ≡ false → Told ByString ≡ formedOf n d w
+      pub by-string : present d ≡ true → present w ≡ false → Told ByString ≡ formedOf wish n d w
       unfolding formedOf
-      by-string a b = rw (p, q, a, b)
+      by-string a b = rw (p, q, a, b, both-false (not wish))
 
 module _ (n : ℕ) (t : List ℕ) where
   pub fits-present : present t ≡ true → dayString n t ≡ fitsDays n t
@@ -84,32 +92,28 @@ module _ (n : ℕ) (t : List ℕ) where
   pub fits-absent : present t ≡ false → true ≡ fitsDays n t
   fits-absent p = rw p
 
-pub some-weekdays : (w : List ℕ) → present w ≡ true → ByWeekdays ≡ formWithout w
-some-weekdays w p = rw p
-
-pub no-weekdays : (w : List ℕ) → present w ≡ false → Every ≡ formWithout w
-no-weekdays w p = rw p
-
 -- the whole segment
-module _ (g : List ℕ) where
-  pub wrong-dates : spanIn (firstLast g) ≡ Bad → Wrong BadDates ≡ periodOf g
+module _ (wish : Bool) (g : List ℕ) where
+  pub wrong-dates : spanIn (firstLast g) ≡ Bad → Wrong BadDates ≡ periodOf wish g
   unfolding periodOf
   wrong-dates p = rw p
 
   module _ {f n : ℕ} (p : spanIn (firstLast g) ≡ Days f n) where
-    pub wrong-form : {x : Fault} → formedOf n (dayText g) (weekText g) ≡ Faulty x → Wrong x ≡ periodOf g
+    pub wrong-form : {x : Fault} → formedOf wish n (dayText g) (weekText g) ≡ Faulty x → Wrong x ≡ periodOf wish g
     unfolding periodOf
     wrong-form q = rw (p, q)
 
-    module _ {form : Form} (q : formedOf n (dayText g) (weekText g) ≡ Told form) where
-      pub wrong-rest : restGood g ≡ false → Wrong BadRest ≡ periodOf g
+    module _ {form : Form} (q : formedOf wish n (dayText g) (weekText g) ≡ Told form) where
+      pub wrong-rest : restGood g ≡ false → Wrong BadRest ≡ periodOf wish g
       unfolding periodOf
       wrong-rest r = rw (p, q, r)
 
-      pub good-period : restGood g ≡ true → Good f n form ≡ periodOf g
+      pub good-period : restGood g ≡ true → Good f n form ≡ periodOf wish g
       unfolding periodOf
       good-period r = rw (p, q, r)
 
+-- the days that run
+module _ (g : List ℕ) where
   pub runs-every : (f k : ℕ) {form : Form} → form ≡ Every → true ≡ runsBy g form f k
   unfolding runsBy
   runs-every f k e = rw e

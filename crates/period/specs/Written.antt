@@ -1,7 +1,7 @@
 -- A POP as most are written, `POP+273:first/last` and then a form of days or neither: what its bytes say is its period.
 -- Assumes nothing.
 use mathlib.Core.Path.{_≡_, refl, sym, ap, subst, _∙_}
-use mathlib.Core.Bool.{true}
+use mathlib.Core.Bool.{Bool, true}
 use mathlib.Core.List.{List, [], _∷_, _++_}
 use Prim.Native.Nat.{ℕ, zero, suc, _+_, _-_, _*_, _≤_}
 use native.Mathlib.Omega.{arith}
@@ -44,10 +44,10 @@ module _ (g d s w : List ℕ) (p : Cut g d s w) (pd : all numeric d ≡ true) (p
       rw (p .first-once, p .second-once)
       (ap (λ (x : List ℕ). both (sameText (plain x) (bytes "273")) true) (p .qualifier-is))
 
-  pub cut-good : {f n : ℕ} {form : Form} → spanIn d ≡ Days f n → formedOf n s w ≡ Told form → Good f n form ≡ periodOf g
-  cut-good {f} {n} {form} a b =
-      good-period g (ap spanIn dates-plain ∙ a)
-      (ap (λ (x : List ℕ). formedOf n x (weekText g)) string-plain ∙ ap (formedOf n s) weekdays-plain ∙ b)
+  pub cut-good : (wish : Bool) {f n : ℕ} {form : Form} → spanIn d ≡ Days f n → formedOf wish n s w ≡ Told form → Good f n form ≡ periodOf wish g
+  cut-good wish {f} {n} {form} a b =
+      good-period wish g (ap spanIn dates-plain ∙ a)
+      (ap (λ (x : List ℕ). formedOf wish n x (weekText g)) string-plain ∙ ap (formedOf wish n s) weekdays-plain ∙ b)
       rest-read
 
 -- the n elements from index k on, where there are so many

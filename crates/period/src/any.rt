@@ -31,8 +31,8 @@ fn is_rest_good(s: &[u8], first: Element, second: Element) -> bool
 }
 
 // The period of a POP written in any way, part by part.
-pub(crate) fn read_any(s: &[u8], segment: Part) -> Period
-    ensures { λ r. ⌜ r ≡ periodOf (bytesOf (now (s .entry)) segment) ⌝ }
+pub(crate) fn read_any(s: &[u8], segment: Part, wish: bool) -> Period
+    ensures { λ r. ⌜ r ≡ periodOf wish (bytesOf (now (s .entry)) segment) ⌝ }
 {
     let first = find_element(s, segment, 1);
     let Span::Days(from, count) = read_dates(text_in(s, first, 2)) else {
@@ -41,7 +41,7 @@ pub(crate) fn read_any(s: &[u8], segment: Part) -> Period
     let second = find_second(s, segment, first);
     let days = text_in(s, first, 4);
     let weekdays = text_in(s, second, 1);
-    match read_form(days, weekdays, count) {
+    match read_form(days, weekdays, count, wish) {
         Formed::Faulty(fault) => Period::Wrong(fault),
         Formed::Told(form) => {
             if is_rest_good(s, first, second) {

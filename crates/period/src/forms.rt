@@ -7,7 +7,7 @@ use values::next_byte;
 ghost use mathlib.Core.Path.{_≡_};
 ghost use Rattle.syntax.specs.Bytes.{plain};
 ghost use Rattle.parts.specs.Places.{present};
-ghost use Rattle.period.specs.Period.{dayString, fitsDays, risingDays, formWithout, formedOf};
+ghost use Rattle.period.specs.Period.{dayString, fitsDays, risingDays, formedOf};
 
 // The form in which the days are told, or what is wrong with it.
 pub(crate) enum Formed {
@@ -90,19 +90,9 @@ fn is_rising(part: &[u8]) -> bool
     true
 }
 
-// The form of a period that has no day string.
-fn form_without(weekdays: &[u8]) -> Form
-    ensures { λ r. ⌜ r ≡ formWithout (plain (now (weekdays .entry))) ⌝ }
-{
-    if is_present(weekdays) {
-        return Form::ByWeekdays;
-    }
-    Form::Every
-}
-
-// What tells the days of a period of n days.
-pub(crate) fn read_form(days: &[u8], weekdays: &[u8], n: usize) -> Formed
-    ensures { λ r. ⌜ r ≡ formedOf n (plain (now (days .entry))) (plain (now (weekdays .entry))) ⌝ }
+// What tells the days of a period of n days; where neither form is given, the caller's wish decides.
+pub(crate) fn read_form(days: &[u8], weekdays: &[u8], n: usize, wish: bool) -> Formed
+    ensures { λ r. ⌜ r ≡ formedOf wish n (plain (now (days .entry))) (plain (now (weekdays .entry))) ⌝ }
 {
     if !fits_days(days, n) {
         return Formed::Faulty(Fault::BadDayString);
@@ -110,11 +100,17 @@ pub(crate) fn read_form(days: &[u8], weekdays: &[u8], n: usize) -> Formed
     if !is_rising(weekdays) {
         return Formed::Faulty(Fault::BadWeekdays);
     }
-    if !is_present(days) {
-        return Formed::Told(form_without(weekdays));
+    if is_present(days) {
+        if is_present(weekdays) {
+            return Formed::Faulty(Fault::BothForms);
+        }
+        return Formed::Told(Form::ByString);
     }
     if is_present(weekdays) {
-        return Formed::Faulty(Fault::BothForms);
+        return Formed::Told(Form::ByWeekdays);
     }
-    Formed::Told(Form::ByString)
+    if wish {
+        return Formed::Told(Form::Every);
+    }
+    Formed::Faulty(Fault::NeitherForm)
 }

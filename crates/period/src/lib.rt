@@ -21,16 +21,29 @@ ghost use mathlib.Core.Path.{_≡_};
 ghost use Prim.Native.Nat.{ℕ};
 ghost use Rattle.syntax.specs.Segment.{segmentAt};
 ghost use Rattle.parts.specs.Places.{bytesOf};
-ghost use Rattle.period.specs.Period.{periodOf, periodAnswer, popAnswer, faultNumber, popAt};
+ghost use Rattle.period.specs.Period.{suffices, periodOf, periodAnswer, popAnswer, faultNumber, popAt};
 
 /// What tells the days of a period.
 pub enum Form {
-    /// Neither form is given: every day runs.
+    /// Neither form is given and the caller asks for the old reading: every day runs.
     Every,
     /// The day string, 4440.
     ByString,
     /// The weekdays, 2160.
     ByWeekdays,
+}
+
+impl Form {
+    // Whether it tells the days to a caller with a wish: a form that is given does, and none at all to one who asks for the old reading.
+    fn suffices(self, wish: bool) -> bool
+        ensures { λ r. ⌜ r ≡ suffices wish self ⌝ }
+    {
+        match self {
+            Form::Every => wish,
+            Form::ByString => true,
+            Form::ByWeekdays => true,
+        }
+    }
 }
 
 /// Which part of a POP is wrong; where several are, the first of these.
@@ -39,7 +52,7 @@ pub enum Fault {
     BadDayString,
     BadWeekdays,
     BothForms,
-    /// Kept for a caller who wants one of the forms; no function here answers it.
+    /// Where the caller does not ask for the old reading.
     NeitherForm,
     BadRest,
 }
@@ -76,31 +89,32 @@ pub enum Pop {
     Other,
 }
 
-/// The period that a POP gives, the segment without its terminator.
-pub fn read_period(s: &[u8], segment: Part) -> Period
-    ensures period { λ r. ⌜ r ≡ periodOf (bytesOf (now (s .entry)) segment) ⌝ }
-    ensures said { λ r. ⌜ ((at : ℕ) → periodAnswer at r ≡ popAnswer at (bytesOf (now (s .entry)) segment)) ⌝ }
+/// The period that a POP gives, the segment without its terminator. The wish is whether the caller asks for the old reading, in which a POP
+/// with neither form means every day.
+pub fn read_period(s: &[u8], segment: Part, wish: bool) -> Period
+    ensures period { λ r. ⌜ r ≡ periodOf wish (bytesOf (now (s .entry)) segment) ⌝ }
+    ensures said { λ r. ⌜ ((at : ℕ) → periodAnswer at r ≡ popAnswer wish at (bytesOf (now (s .entry)) segment)) ⌝ }
 {
-    read_any(s, segment)
+    read_any(s, segment, wish)
 }
 
 // The POP of a whole segment, written in any way.
-fn read_whole(s: &[u8], at: usize, end: usize) -> Pop
+fn read_whole(s: &[u8], at: usize, end: usize, wish: bool) -> Pop
     requires { ⌜ segmentAt (now s) at ≡ Scanned.End end ⌝ }
-    ensures { λ r. ⌜ r ≡ popAt (now (s .entry)) at ⌝ }
+    ensures { λ r. ⌜ r ≡ popAt wish (now (s .entry)) at ⌝ }
 {
-    match read_any(s, Part { from: at, to: end }) {
+    match read_any(s, Part { from: at, to: end }, wish) {
         Period::Good(first, count, form) => Pop::Whole(end, first, count, form),
         Period::Wrong(_) => Pop::Other,
     }
 }
 
 // The POP at an offset, written in any way.
-fn read_pop(s: &[u8], at: usize) -> Pop
-    ensures { λ r. ⌜ r ≡ popAt (now (s .entry)) at ⌝ }
+fn read_pop(s: &[u8], at: usize, wish: bool) -> Pop
+    ensures { λ r. ⌜ r ≡ popAt wish (now (s .entry)) at ⌝ }
 {
     match read_segment(s, at) {
-        Scanned::End(end) => read_whole(s, at, end),
+        Scanned::End(end) => read_whole(s, at, end, wish),
         Scanned::NotPermitted(_) => Pop::Other,
         Scanned::Unended => Pop::Other,
         Scanned::Malformed => Pop::Other,
@@ -109,11 +123,16 @@ fn read_pop(s: &[u8], at: usize) -> Pop
 
 /// The POP at an offset, where a whole segment stands there that says a good period. What a POP in a usual form says tells where it ends, so
 /// that its bytes are looked at once.
-pub fn pop_at(s: &[u8], at: usize) -> Pop
-    ensures { λ r. ⌜ r ≡ popAt (now (s .entry)) at ⌝ }
+pub fn pop_at(s: &[u8], at: usize, wish: bool) -> Pop
+    ensures { λ r. ⌜ r ≡ popAt wish (now (s .entry)) at ⌝ }
 {
     match read_written(s, at) {
-        Pop::Whole(end, first, count, form) => Pop::Whole(end, first, count, form),
-        Pop::Other => read_pop(s, at),
+        Pop::Whole(end, first, count, form) => {
+            if form.suffices(wish) {
+                return Pop::Whole(end, first, count, form);
+            }
+            Pop::Other
+        }
+        Pop::Other => read_pop(s, at, wish),
     }
 }

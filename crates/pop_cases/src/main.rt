@@ -1,6 +1,7 @@
 //! Reads POPs, a line each, and writes what they say: `period` POP, or `join` DATE POP POP .., parted by tabs,
 //! where the POPs to join stand one behind the other. A period is written as its first date, its last date and a `0` or `1` for each day;
-//! after joining stand the days of the window of 512 days from the date on.
+//! after joining stand the days of the window of 512 days from the date on. `ask`, a tab and 0 or 1: whether the lines below ask for the old
+//! reading of a POP with neither form; those before the first such line do.
 
 use dates::Date;
 use dates::Made;
@@ -69,8 +70,8 @@ fn refuse(fault: Fault) {
     say_number(fault.number() as usize);
 }
 
-fn answer_period(line: &[u8], segment: Part) {
-    let period = period::read_period(line, segment);
+fn answer_period(line: &[u8], segment: Part, wish: bool) {
+    let period = period::read_period(line, segment, wish);
     match period {
         Period::Wrong(fault) => refuse(fault),
         Period::Good(first, n, _) => {
@@ -121,12 +122,12 @@ fn print_window(days: [u8; 64]) {
 }
 
 // Joins the POPs that stand one behind the other from an offset on.
-fn join_all(days: &mut [u8], origin: usize, line: &[u8], from: usize) {
+fn join_all(days: &mut [u8], origin: usize, line: &[u8], from: usize, wish: bool) {
     let mut at = from;
     while at < line.len() {
         let segment = segment_at(line, at);
         let to = segment.to;
-        answer_joined(joining::join_period(days, origin, line, segment));
+        answer_joined(joining::join_period(days, origin, line, segment, wish));
         if to < at {
             return;
         }
@@ -137,18 +138,18 @@ fn join_all(days: &mut [u8], origin: usize, line: &[u8], from: usize) {
     }
 }
 
-fn answer_join(line: &[u8], origin: usize) {
+fn answer_join(line: &[u8], origin: usize, wish: bool) {
     let mut days = [0u8; 64];
-    join_all(&mut days, origin, line, 16);
+    join_all(&mut days, origin, line, 16, wish);
     print_window(days);
 }
 
-fn answer_pop(line: &[u8]) {
+fn answer_pop(line: &[u8], wish: bool) {
     if line.len() == 0 {
         return;
     }
     if line[0] == b'p' {
-        answer_period(line, segment_at(line, 7));
+        answer_period(line, segment_at(line, 7), wish);
         say(b"\n");
         return;
     }
@@ -158,14 +159,28 @@ fn answer_pop(line: &[u8]) {
     let Number::Day(origin) = date.day_number() else {
         return;
     };
-    answer_join(line, origin);
+    answer_join(line, origin, wish);
     say(b"\n");
 }
 
+// Whether the lines below a line ask.
+fn wish_after(line: &[u8], wish: bool) -> bool {
+    if line.len() < 5 {
+        return wish;
+    }
+    if line[0] != b'a' {
+        return wish;
+    }
+    line[4] == b'1'
+}
+
 fn answer_all(text: &[u8]) {
+    let mut wish = true;
     let mut at = 0;
     while at < text.len() {
-        answer_pop(piece_at(text, at, b'\n'));
+        let line = piece_at(text, at, b'\n');
+        answer_pop(line, wish);
+        wish = wish_after(line, wish);
         at = past(text, at, b'\n');
     }
 }

@@ -1,6 +1,7 @@
 //! Reads an interchange from standard input and prints its rows, or the refusal (document 01, "Printed whole").
-//! The text is gathered and written at once.
+//! The text is gathered and written at once. The program asks for the old reading of a POP with neither form (document 02, A2).
 
+use answers::Refusal;
 use interchange::reader::Reading;
 use interchange::reader::read;
 use lines::read_input;
@@ -24,9 +25,9 @@ fn print_rows(rows: &[u32], n: usize) {
     }
 }
 
-fn print_refusal(number: u8, position: usize) {
-    let mut out = [0u8; 64];
-    match write_refusal(number, position, &mut out) {
+fn print_refusal(refusal: Refusal) {
+    let mut out = [0u8; 72];
+    match write_refusal(refusal, &mut out) {
         Written::Bytes(k) => print(&out, k),
         Written::NoRoom => {}
     }
@@ -36,8 +37,8 @@ fn main() {
     let mut input = [0u8; 60001];
     let n = read_input(&mut input);
     let mut rows = [0u32; 45000];
-    match read(&input[..n], &mut rows) {
+    match read(&input[..n], true, &mut rows) {
         Reading::Rows(k) => print_rows(&rows, k),
-        Reading::Refused(refusal) => print_refusal(refusal.number, refusal.position),
+        Reading::Refused(refusal) => print_refusal(refusal),
     }
 }

@@ -1,6 +1,7 @@
 //! Reads an interchange from standard input as it comes, each read a parcel, and prints its rows parcel by parcel, then the refusal if
 //! there is one (document 01, "Printed whole"; document 02, A1). Of an accepted interchange it prints what `print` prints.
 
+use answers::Refusal;
 use interchange::reader::Reading;
 use libc::STDIN_FILENO;
 use lines::say;
@@ -26,9 +27,9 @@ fn print(out: &[u8], from: usize, written: Written) -> bool {
     }
 }
 
-fn print_refusal(number: u8, position: usize) {
-    let mut line = [0u8; 64];
-    let written = write_refusal(number, position, &mut line);
+fn print_refusal(refusal: Refusal) {
+    let mut line = [0u8; 72];
+    let written = write_refusal(refusal, &mut line);
     print(&line, 0, written);
 }
 
@@ -43,13 +44,17 @@ fn print_rows(rows: &[u32], n: usize) -> bool {
     if print(&out, 17, written) {
         return true;
     }
-    print_refusal(17, 0);
+    print_refusal(Refusal {
+        number: 17,
+        position: 0,
+        part: 0,
+    });
     false
 }
 
-fn print_last(rows: &[u32], n: usize, number: u8, position: usize) {
+fn print_last(rows: &[u32], n: usize, refusal: Refusal) {
     if print_rows(rows, n) {
-        print_refusal(number, position);
+        print_refusal(refusal);
     }
 }
 
@@ -59,7 +64,7 @@ fn print_parcel(store: &mut [u8], parcel: &[u8]) -> bool {
     match take(store, parcel, &mut rows) {
         Parcel::Rows(n) => print_rows(&rows, n),
         Parcel::Refused(n, refusal) => {
-            print_last(&rows, n, refusal.number, refusal.position);
+            print_last(&rows, n, refusal);
             false
         }
     }
@@ -68,7 +73,7 @@ fn print_parcel(store: &mut [u8], parcel: &[u8]) -> bool {
 fn print_end(store: &mut [u8]) {
     match finish(store) {
         Reading::Rows(_) => {}
-        Reading::Refused(refusal) => print_refusal(refusal.number, refusal.position),
+        Reading::Refused(refusal) => print_refusal(refusal),
     }
 }
 
@@ -95,6 +100,6 @@ fn read_all(store: &mut [u8]) {
 fn main() {
     say(b"offset\tgroup\ttag\n");
     let mut store = [0u8; STORE];
-    begin(&mut store);
+    begin(&mut store, true);
     read_all(&mut store);
 }

@@ -2,6 +2,7 @@
 -- Assumes nothing.
 use mathlib.Core.Path.{_≡_, refl}
 use mathlib.Core.List.{List, _++_}
+use mathlib.Core.Bool.{true}
 use Prim.Native.Nat.{ℕ}
 use lib.ListN.{length}
 use Rattle.laws.specs.Decimal.{decimalOn}
@@ -26,13 +27,14 @@ use Rattle.text.specs.Text.{rowText, rowsText, tableText, refusalText}
 -- the table of the rows, or the line of the refusal
 abbrev pub textBy : List Row → Verdict → List ℕ
 textBy rows (done _) = tableText (length rows) (numbers rows)
-textBy rows (refused number position) = refusalText number position
+textBy rows (refused refusal) = refusalText refusal
 
 abbrev pub textOf : Outcome → List ℕ
 textOf o = textBy (o .rows) (o .verdict)
 
+-- "the printing program must ask" (document 02, A2): its reading is the old one
 unfoldable pub printedOf : List ℕ → List ℕ
-printedOf s = textOf (readingOf s)
+printedOf s = textOf (readingOf true s)
 
 -- "standard input is the 63 bytes", and what "the printing program writes"
 pub printed-whole : printedOf (bytes "UIB+UNOB:4+7'UIH+TSDUPD:D:04A::UN+1'MSD+AAR:61'UIT+1+3'UIZ+7+1'")
@@ -46,7 +48,7 @@ unfolding printedOf permittedOf plainOn firstPiece laterPieces partOf tagged com
 printed-whole = refl
 
 -- "With `UIT+1+4'` it is 7 at 47. A newline added at the end is 7 at 63."
-pub printed-refusals : (printedOf (bytes "UIB+UNOB:4+7'UIH+TSDUPD:D:04A::UN+1'MSD+AAR:61'UIT+1+4'UIZ+7+1'") ≡ bytes "refused\t7\t47\n")
-    × (printedOf (bytes "UIB+UNOB:4+7'UIH+TSDUPD:D:04A::UN+1'MSD+AAR:61'UIT+1+3'UIZ+7+1'\n") ≡ bytes "refused\t7\t63\n")
+pub printed-refusals : (printedOf (bytes "UIB+UNOB:4+7'UIH+TSDUPD:D:04A::UN+1'MSD+AAR:61'UIT+1+4'UIZ+7+1'") ≡ bytes "refused\t7\t47\t0\n")
+    × (printedOf (bytes "UIB+UNOB:4+7'UIH+TSDUPD:D:04A::UN+1'MSD+AAR:61'UIT+1+3'UIZ+7+1'\n") ≡ bytes "refused\t7\t63\t0\n")
 unfolding printedOf permittedOf plainOn firstPiece laterPieces partOf tagged componentFits occurrenceFits elementFits withinLimits wellFormed scanOf permittedRun spanOf countedAt elementAt sameText entryOf afterOf endOf placesOn reachable firstFit inGroup again laterOnes choicesFrom firstOf stepOf skdupdTable tsdupdTable tables tableIn decimalOn uibOf uihOf trailerOf opening betweenMessages closing trailing placed insideMessage stepBy turnAt readOn readingOf numbers rowText rowsText refusalText
 printed-refusals = (refl, refl)

@@ -22,12 +22,12 @@ use Rattle.joining.specs.Union.{no-days, no-day, no-byte, length-none, length-j
 use Rattle.joining.specs.Bytes.{AreBytes, joined-bytes}
 use Rattle.read_back.specs.Written.{ReadsBack}
 
-module _ (text c : List ℕ) (first last : Date) (form : Form) (r : ReadsBack text c first last form) (good : goodCalendar c first last ≡ true) (a : AreBytes c) where
+module _ (wish : Bool) (text c : List ℕ) (first last : Date) (form : Form) (r : ReadsBack wish text c first last form) (good : goodCalendar c first last ≡ true) (a : AreBytes c) where
   abbrev empty : List ℕ
   empty = no-days 64
 
   -- the period lies in the window
-  pub joined-done : answered 64 (number first) (r .body) ≡ Done
+  pub joined-done : answered wish 64 (number first) (r .body) ≡ Done
   unfolding answered windowAnswer
   joined-done =
       let f = good-facts c first last good in
@@ -35,7 +35,7 @@ module _ (text c : List ℕ) (first last : Date) (form : Form) (r : ReadsBack te
       rw (r .period, le-leb (number first) (number first) (omega arith), le-leb (number first - number first + dayCount first last) (8 * 64) (omega arith))
 
   -- it selects the calendar's days
-  day-back : (k : ℕ) → k < 512 → selects (r .body) (number first + k) ≡ day c k
+  day-back : (k : ℕ) → k < 512 → selects wish (r .body) (number first + k) ≡ day c k
   unfolding selects runsIn
   day-back k h =
       let f = good-facts c first last good in
@@ -49,19 +49,19 @@ module _ (text c : List ℕ) (first last : Date) (form : Form) (r : ReadsBack te
             (sym (f .none-past k (omega arith) h))
       ]
 
-  pub joined-same : daysJoined empty (number first) (r .body) ≡ c
+  pub joined-same : daysJoined wish empty (number first) (r .body) ≡ c
   joined-same =
       let f = good-facts c first last good in
       let n = length-none 64 in
-      let j = length-joined empty (number first) (r .body) in
+      let j = length-joined wish empty (number first) (r .body) in
       let b = f .bytes in
-      let d = ap (λ (x : ℕ). answered x (number first) (r .body)) n ∙ joined-done in
-      days-same (daysJoined empty (number first) (r .body)) c (j ∙ n ∙ sym (f .bytes))
-      (λ i l. joined-bytes empty (number first) (r .body) none i)
+      let d = ap (λ (x : ℕ). answered wish x (number first) (r .body)) n ∙ joined-done in
+      days-same (daysJoined wish empty (number first) (r .body)) c (j ∙ n ∙ sym (f .bytes))
+      (λ i l. joined-bytes wish empty (number first) (r .body) none i)
       (λ i l. a i)
       (λ k l.
-      joined-day empty (number first) (r .body) d k
-      ∙ ap (λ (x : Bool). either x (selects (r .body) (number first + k))) (no-day 64 k)
+      joined-day wish empty (number first) (r .body) d k
+      ∙ ap (λ (x : Bool). either x (selects wish (r .body) (number first + k))) (no-day 64 k)
       ∙ day-back k (omega arith))
     where
       none : AreBytes (no-days 64)

@@ -1,8 +1,8 @@
 -- Each written form of a calendar, read back and joined into an empty one, is that calendar: for all calendars and all dates in range.
--- "All three forms of a calendar read back the same." (document 02, A3)
+-- "All three forms of a calendar read back the same." (document 02, A3) Each gives a form of days, so that the caller's wish changes nothing.
 -- Assumes nothing.
 use mathlib.Core.Path.{_≡_, ap, _∙_}
-use mathlib.Core.Bool.{true, false}
+use mathlib.Core.Bool.{Bool, true, false}
 use mathlib.Core.List.{List}
 use Prim.Native.Nat.{ℕ}
 use Rattle.syntax.specs.Segment.{bodyAt}
@@ -24,15 +24,15 @@ tells allCharacters = ByString
 tells shortForm = ByString
 tells weekdays = ByWeekdays
 
-module _ (c : List ℕ) (first last : Date) (good : goodCalendar c first last ≡ true) where
-  pub written-back : (form : WrittenForm) → formExists form c first last ≡ true → ReadsBack (formText form c first last) c first last (tells form)
-  written-back allCharacters e = day-string-back false c first last good
-  written-back shortForm e = day-string-back true c first last good
-  written-back weekdays e = weekdays-back c first last good e
+module _ (wish : Bool) (c : List ℕ) (first last : Date) (good : goodCalendar c first last ≡ true) where
+  pub written-back : (form : WrittenForm) → formExists form c first last ≡ true → ReadsBack wish (formText form c first last) c first last (tells form)
+  written-back allCharacters e = day-string-back wish false c first last good
+  written-back shortForm e = day-string-back wish true c first last good
+  written-back weekdays e = weekdays-back wish c first last good e
 
   pub written-same : AreBytes c → (form : WrittenForm) → formExists form c first last ≡ true
-      → daysJoined (no-days 64) (number first) (bodyAt (formText form c first last) 0) ≡ c
+      → daysJoined wish (no-days 64) (number first) (bodyAt (formText form c first last) 0) ≡ c
   written-same a form e =
       let r = written-back form e in
-      ap (daysJoined (no-days 64) (number first)) (r .cut)
-      ∙ joined-same (formText form c first last) c first last (tells form) r good a
+      ap (daysJoined wish (no-days 64) (number first)) (r .cut)
+      ∙ joined-same wish (formText form c first last) c first last (tells form) r good a

@@ -118,7 +118,7 @@ module _ (c : List ℕ) (f n : ℕ) (h : HasForm c f n) where
       let s = h .some in
       some-digit (48 + weekdayOf (f + s .0)) digits (week-runs (s .0) (s .1) ∙ s .2)
 
-module _ (c : List ℕ) (first last : Date) (good : goodCalendar c first last ≡ true) (form : weekdayForm c (number first) (dayCount first last) ≡ true) where
+module _ (wish : Bool) (c : List ℕ) (first last : Date) (good : goodCalendar c first last ≡ true) (form : weekdayForm c (number first) (dayCount first last) ≡ true) where
   abbrev names : List ℕ
   names = digitsFrom (named c (number first) (dayCount first last)) 1 7
 
@@ -131,7 +131,7 @@ module _ (c : List ℕ) (first last : Date) (good : goodCalendar c first last �
       sym (ap (λ (l : List ℕ). 80 ∷ 79 ∷ 80 ∷ 43 ∷ 50 ∷ 55 ∷ 51 ∷ 58 ∷ l) (append-assoc (dates first last) (43 ∷ names) (39 ∷ [])))
 
   -- the weekday form, where the calendar has one, reads back as the same calendar
-  pub weekdays-back : ReadsBack (weekdayText c first last) c first last ByWeekdays
+  pub weekdays-back : ReadsBack wish (weekdayText c first last) c first last ByWeekdays
   unfolding runsIn runsBy
   weekdays-back =
       let f = good-facts c first last good in
@@ -143,7 +143,7 @@ module _ (c : List ℕ) (first last : Date) (good : goodCalendar c first last �
       let p = week-parts (dates first last) names (numeric-dates first last) w (omega arith) (omega arith) in
       let x = week-present c (number first) (dayCount first last) h in
       let e =
-      period-read c first last f weekBody [] names p refl w refl (digits-rise (named c (number first) (dayCount first last)) 48 1 7 (omega arith) (omega arith)) refl
+      period-read c first last f weekBody [] names p refl w wish refl (digits-rise (named c (number first) (dayCount first last)) 48 1 7 (omega arith) (omega arith)) refl (rw x)
       ∙ ap (λ (b : Bool). Good (number first) (dayCount first last) (pick b ByWeekdays Every)) x in
       record {
         body = weekBody;

@@ -9,7 +9,7 @@ use native.Mathlib.Decide.{decLt}
 use lib.Dec.{eqb}
 use lib.ListN.{length, getD, take, drop, List·getD-eq-default}
 use borrow.Author.Tests.{le-leb, lt-ltb}
-use Rattle.laws.specs.Choice.{pick, both, either, all}
+use Rattle.laws.specs.Choice.{pick, both, either, all, both-false}
 use Rattle.laws.specs.Text.{bytes}
 use Rattle.syntax.specs.Segment.{bodyAt, segmentAt}
 use Rattle.syntax.specs.declared.segment.Scanned.the-variants.{End}
@@ -78,13 +78,13 @@ module _ (c : List ℕ) (a b : Date) (good : GoodCalendar c a b) where
 
   -- a POP whose parts are these dates and a form that is told is a good period
   module _ (g s w : List ℕ) (p : Parts g (dates a b) s w) (ns : all numeric s ≡ true) (nw : all numeric w ≡ true) where
-    pub period-read : fitsDays (dayCount a b) s ≡ true → risingDays 48 w ≡ true → both (present s) (present w) ≡ false
-        → periodOf g ≡ Good (number a) (dayCount a b) (formOf s w)
+    pub period-read : (wish : Bool) → fitsDays (dayCount a b) s ≡ true → risingDays 48 w ≡ true → both (present s) (present w) ≡ false
+        → both (not (present s)) (not (present w)) ≡ false → periodOf wish g ≡ Good (number a) (dayCount a b) (formOf s w)
     unfolding daysSpan formedOf
-    period-read f r n =
-        sym (cut-good g (dates a b) s w (p .cut) (numeric-dates a b) ns nw
+    period-read wish f r n l =
+        sym (cut-good g (dates a b) s w (p .cut) (numeric-dates a b) ns nw wish
         (sym (two-dates (dates a b) (length-dates a b) (stroke-in a b) (read-text a (good .first-date) (dates a b) 0 (first-in a b)) (read-text b (good .last-date) (dates a b) 11 (last-in a b))) ∙ rw good-span)
-        (rw (f, r, n)))
+        (rw (f, r, n, l, both-false (not wish))))
 
 -- the day string
 numeric-characters : (c : List ℕ) (k n : ℕ) → all numeric (dayCharacters c k n) ≡ true
@@ -136,16 +136,16 @@ string-runs c n m o k h =
       | no u ↦ ap (λ (x : ℕ). eqb x 49) (List·getD-eq-default (dayCharacters c 0 m) 0 (omega arith)) ∙ sym (o .past k (omega arith) h)
     ]
 
--- what reading a text back is to give: one whole segment, the same dates, and the days of the calendar
-pub record ReadsBack (text c : List ℕ) (first last : Date) (form : Form) : Type 0 where
+-- what reading a text back is to give, with or without the wish: one whole segment, the same dates, and the days of the calendar
+pub record ReadsBack (wish : Bool) (text c : List ℕ) (first last : Date) (form : Form) : Type 0 where
   pub body : List ℕ
   pub ended : text ≡ body ++ (39 ∷ [])
   pub cut : bodyAt text 0 ≡ body
   pub segment : segmentAt text 0 ≡ End (length body)
-  pub period : periodOf body ≡ Good (number first) (dayCount first last) form
-  pub days : (k : ℕ) → k < dayCount first last → runs body k ≡ day c k
+  pub period : periodOf wish body ≡ Good (number first) (dayCount first last) form
+  pub days : (k : ℕ) → k < dayCount first last → runs wish body k ≡ day c k
 
-module _ (short : Bool) (c : List ℕ) (first last : Date) (good : goodCalendar c first last ≡ true) where
+module _ (wish short : Bool) (c : List ℕ) (first last : Date) (good : goodCalendar c first last ≡ true) where
   abbrev count : ℕ
   count = characterCount short c (dayCount first last)
 
@@ -161,7 +161,7 @@ module _ (short : Bool) (c : List ℕ) (first last : Date) (good : goodCalendar 
       sym (ap (λ (l : List ℕ). 80 ∷ 79 ∷ 80 ∷ 43 ∷ 50 ∷ 55 ∷ 51 ∷ 58 ∷ l) (append-assoc (dates first last) (58 ∷ 58 ∷ string) (39 ∷ [])))
 
   -- the day string reads back as the same calendar
-  pub day-string-back : ReadsBack (stringText short c first last) c first last ByString
+  pub day-string-back : ReadsBack wish (stringText short c first last) c first last ByString
   unfolding runsIn runsBy
   day-string-back =
       let f = good-facts c first last good in
@@ -175,7 +175,7 @@ module _ (short : Bool) (c : List ℕ) (first last : Date) (good : goodCalendar 
       let p = string-parts (dates first last) string (numeric-dates first last) s (omega arith) (omega arith) in
       let x = some-characters c count (omega arith) in
       let e =
-      period-read c first last f stringBody string [] p s refl (string-fits c (dayCount first last) count few) no-weekdays (rw x)
+      period-read c first last f stringBody string [] p s refl wish (string-fits c (dayCount first last) count few) no-weekdays (rw x) (rw x)
       ∙ ap (λ (t : Bool). Good (number first) (dayCount first last) (pick t ByString Every)) x in
       record {
         body = stringBody;

@@ -1,9 +1,11 @@
 //! Reads cases, a line each, and writes for each the text that the printing program prints.
 //! A line is how many numbers the row buffer holds, a tab, and an interchange. In it `~` and two hexadecimal digits stand
-//! for a byte, and `{3|text}` for a text three times. A line that begins with `#` is copied.
+//! for a byte, and `{3|text}` for a text three times. A line that begins with `#` is copied. `ask`, a tab and 0 or 1: whether the lines below
+//! ask for the old reading of a POP with neither form; those before the first such line do.
 //! A table of more than 1,000 bytes is told by `long`, its rows, its bytes, and the remainder by 65,521 of the number that
 //! its bytes are.
 
+use answers::Refusal;
 use interchange::reader::Reading;
 use interchange::reader::read;
 use lines::number;
@@ -151,51 +153,58 @@ fn answer_rows(rows: &[u32], n: usize) {
     }
 }
 
-fn answer_refusal(number: u8, position: usize) {
-    let mut out = [0u8; 64];
-    match write_refusal(number, position, &mut out) {
+fn answer_refusal(refusal: Refusal) {
+    let mut out = [0u8; 72];
+    match write_refusal(refusal, &mut out) {
         Written::Bytes(k) => say(bytes_of(&out, Part { from: 0, to: k })),
         Written::NoRoom => say(b"no room\n"),
     }
 }
 
-fn answer_case(interchange: &[u8], rows: &mut [u32]) {
-    match read(interchange, rows) {
+fn answer_case(interchange: &[u8], wish: bool, rows: &mut [u32]) {
+    match read(interchange, wish, rows) {
         Reading::Rows(n) => answer_rows(rows, n),
-        Reading::Refused(refusal) => answer_refusal(refusal.number, refusal.position),
+        Reading::Refused(refusal) => answer_refusal(refusal),
     }
 }
 
-fn answer_in(interchange: &[u8], rows: &mut [u32], room: usize) {
+fn answer_in(interchange: &[u8], wish: bool, rows: &mut [u32], room: usize) {
     if rows.len() < room {
         return;
     }
     let from = rows.len() - room;
-    answer_case(interchange, &mut rows[from..]);
+    answer_case(interchange, wish, &mut rows[from..]);
 }
 
-fn answer_line(line: &[u8]) {
+// Whether the lines below ask.
+fn answer_line(line: &[u8], wish: bool) -> bool {
     if line.len() == 0 {
-        return;
+        return wish;
     }
     if line[0] == b'#' {
         say_line(line);
-        return;
+        return wish;
+    }
+    if line[0] == b'a' {
+        return number(line, past(line, 0, b'\t')) == 1;
     }
     let mut interchange = [0u8; 60001];
     let n = expand(line, past(line, 0, b'\t'), &mut interchange);
     let mut rows = [0u32; 45000];
     answer_in(
         bytes_of(&interchange, Part { from: 0, to: n }),
+        wish,
         &mut rows,
         number(line, 0),
     );
+    wish
 }
 
 fn answer_all(text: &[u8]) {
+    let mut wish = true;
     let mut at = 0;
     while at < text.len() {
-        answer_line(piece_at(text, at, b'\n'));
+        wish = answer_line(piece_at(text, at, b'\n'), wish);
         at = past(text, at, b'\n');
     }
 }
@@ -205,6 +214,10 @@ fn main() {
     let n = read_input(&mut buffer);
     answer_all(&buffer[..n]);
     // The largest numbers that are printed; and rows that the buffer does not hold are none.
-    answer_refusal(255, 18446744073709551615);
+    answer_refusal(Refusal {
+        number: 255,
+        position: 18446744073709551615,
+        part: 255,
+    });
     answer_rows(&[55, 0, 0x55495A, 63], 15000);
 }

@@ -3,9 +3,10 @@
 //!
 //! `open` year month day and eight quotas; `stage` account interchange; `flat` account n, which stages n bytes `A`; `release` account;
 //! `withdraw` account number; `print` account k room, which shows; `is` answers 1 for a register. `byte` offset value sets a byte of the
-//! store; `noise` seed from to fills a part of it; `lend` n lends the first n bytes from now on. A line that begins with `#` is copied.
+//! store; `noise` seed from to fills a part of it; `lend` n lends the first n bytes from now on; `given` account interchange stages without asking for the
+//! old reading of a POP with neither form, which `stage` asks for. A line that begins with `#` is copied.
 //!
-//! A command writes a line: number, position, value and a digest of the whole store. A show adds a digest of its whole
+//! A command writes a line: number, position, part, value and a digest of the whole store. A show adds a digest of its whole
 //! output buffer, and what was written below the line.
 
 use checking::is_register;
@@ -30,6 +31,7 @@ use staging::Staged;
 struct Told {
     number: usize,
     position: usize,
+    part: usize,
     value: usize,
 }
 
@@ -37,6 +39,7 @@ fn done(value: usize) -> Told {
     Told {
         number: 0,
         position: 0,
+        part: 0,
         value,
     }
 }
@@ -45,6 +48,7 @@ fn refused(number: usize) -> Told {
     Told {
         number,
         position: 0,
+        part: 0,
         value: 0,
     }
 }
@@ -107,18 +111,20 @@ fn told_staged(staged: Staged) -> Told {
         Staged::Refused(refusal) => Told {
             number: refusal.number as usize,
             position: refusal.position,
+            part: refusal.part as usize,
             value: 0,
         },
     }
 }
 
-fn stage(b: &mut [u8], line: &[u8]) -> Told {
+fn stage(b: &mut [u8], line: &[u8], wish: bool) -> Told {
     let mut interchange = [0u8; 60001];
     let n = expand(line, 2, &mut interchange);
     told_staged(staging::stage(
         b,
         number(line, 1),
         bytes_of(&interchange, Part { from: 0, to: n }),
+        wish,
     ))
 }
 
@@ -129,6 +135,7 @@ fn stage_flat(b: &mut [u8], line: &[u8]) -> Told {
         b,
         number(line, 1),
         bytes_of(&interchange, Part { from: 0, to: n }),
+        true,
     ))
 }
 
@@ -203,6 +210,8 @@ fn print_told(told: Told, store: &[u8]) {
     say(b"\t");
     say_number(told.position);
     say(b"\t");
+    say_number(told.part);
+    say(b"\t");
     say_number(told.value);
     say(b"\t");
     say_number(digest(store));
@@ -230,7 +239,8 @@ fn answer_show(store: &[u8], lent: usize, line: &[u8]) {
 fn call(b: &mut [u8], line: &[u8], command: u8) -> Told {
     match command {
         b'o' => open(b, line),
-        b's' => stage(b, line),
+        b's' => stage(b, line, true),
+        b'g' => stage(b, line, false),
         b'f' => stage_flat(b, line),
         b'r' => release(b, line),
         b'w' => withdraw(b, line),

@@ -1,5 +1,5 @@
 //! Walks inputs, a line each, from segment to segment with the reader over the lent interchange. Writes each segment's
-//! offset and tag, and how the walk ends: over at an offset, or refused with number and position.
+//! offset and tag, and how the walk ends: over at an offset, or refused with number, position and part.
 
 use lent::Found;
 use lent::found_past;
@@ -39,7 +39,7 @@ fn walk(line: &[u8]) {
                 return;
             }
             Found::Refused(refusal) => {
-                say_refusal(refusal.number, refusal.position);
+                say_refusal(refusal.number, refusal.position, refusal.part);
                 return;
             }
         }

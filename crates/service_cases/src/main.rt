@@ -1,6 +1,6 @@
 //! Reads interchanges, a line each, and writes their services and what the tests 11 and 12 come to.
 //! A service is a line: the offset of its PRD, its number as written, `put` or `del`, and the offsets of its POPs.
-//! Below its services stands the answer: `services` and how many, or `refused`, number and position.
+//! Below its services stands the answer: `services` and how many, or `refused`, number, position and part.
 
 use interchange::reader::Reading;
 use interchange::reader::read;
@@ -85,15 +85,15 @@ fn answer_rows(s: &[u8], rows: &[u32], n: usize) {
             say_number(k);
             say(b"\n");
         }
-        Counted::Refused(refusal) => say_refusal(refusal.number, refusal.position),
+        Counted::Refused(refusal) => say_refusal(refusal.number, refusal.position, refusal.part),
     }
 }
 
 fn answer_interchange(s: &[u8]) {
     let mut rows = [0u32; 45000];
-    match read(s, &mut rows) {
+    match read(s, true, &mut rows) {
         Reading::Rows(n) => answer_rows(s, &rows, n),
-        Reading::Refused(refusal) => say_refusal(refusal.number, refusal.position),
+        Reading::Refused(refusal) => say_refusal(refusal.number, refusal.position, refusal.part),
     }
 }
 

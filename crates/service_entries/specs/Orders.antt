@@ -2,7 +2,7 @@
 -- Assumes nothing.
 use Prim.Native.Nat.{ℕ, zero, suc, _+_, _-_, _*_, _/_, _≤_, _<_}
 use mathlib.Core.Path.{_≡_, refl, sym, ap, _∙_}
-use mathlib.Core.Bool.{Bool}
+use mathlib.Core.Bool.{Bool, true}
 use mathlib.Core.List.{List, _∷_, _++_, append-nil}
 use native.Mathlib.Omega.{arith}
 use native.Mathlib.Decide.{decLt}
@@ -25,7 +25,7 @@ flagOf removal = pick removal 2 1
 
 -- what is kept of a service
 abbrev pub orderOf : ℕ → List ℕ → List ℕ → Service → List ℕ
-orderOf first s rows v = numberBytes (numberIn s v) ++ (flagOf (v .removal) ∷ daysOf first s (periodsOf rows v))
+orderOf first s rows v = numberBytes (numberIn s v) ++ (flagOf (v .removal) ∷ daysOf true first s (periodsOf rows v))
 
 -- a buffer with order k set, where it has room for it
 unfoldable pub ordered : List ℕ → ℕ → List ℕ → List ℕ
@@ -139,15 +139,15 @@ module _ (first : ℕ) (s rows : List ℕ) (v : Service) where
   pub order-size : length (orderOf first s rows v) ≡ 75
   order-size =
       let n = number-length (numberIn s v) in
-      let m = days-length first s (periodsOf rows v) in
-      length-append (numberBytes (numberIn s v)) (flagOf (v .removal) ∷ daysOf first s (periodsOf rows v)) ∙ (omega arith)
+      let m = days-length true first s (periodsOf rows v) in
+      length-append (numberBytes (numberIn s v)) (flagOf (v .removal) ∷ daysOf true first s (periodsOf rows v)) ∙ (omega arith)
 
   -- an order enters as its service does
   pub order-enters : (room : List ℕ) → putOrder (orderOf first s rows v) room ≡ putBytes first s rows v room
   unfolding putOrder
   order-enters room =
       let x = numberBytes (numberIn s v) in
-      let e = flagOf (v .removal) ∷ daysOf first s (periodsOf rows v) in
+      let e = flagOf (v .removal) ∷ daysOf true first s (periodsOf rows v) in
       let n = number-length (numberIn s v) in
       let k : length x + 0 ≡ 10 = omega arith in
       let f : getD (x ++ e) 10 0 ≡ flagOf (v .removal) = ap (λ (i : ℕ). getD (x ++ e) i 0) (sym k) ∙ getD-append-add x e 0 0 in

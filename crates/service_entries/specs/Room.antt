@@ -74,7 +74,7 @@ abbrev pub removeBytes : List ℕ → Service → List ℕ → List ℕ
 removeBytes s v room = pick (v .removal) (removeIn room (numberBytes (numberIn s v))) room
 
 abbrev pub putBytes : ℕ → List ℕ → List ℕ → Service → List ℕ → List ℕ
-putBytes first s rows v room = pick (v .removal) room (putIn room (numberBytes (numberIn s v)) (putEntry (daysOf first s (periodsOf rows v))))
+putBytes first s rows v room = pick (v .removal) room (putIn room (numberBytes (numberIn s v)) (putEntry (daysOf true first s (periodsOf rows v))))
 
 unfoldable pub removesIn : List ℕ → List Service → List ℕ → List ℕ
 removesIn s [] room = room

@@ -2,7 +2,7 @@
 -- Assumes nothing.
 use Prim.Native.Nat.{ℕ, _+_, _-_, _*_, _/_, _≤_, _<_}
 use mathlib.Core.Path.{_≡_, refl, sym, ap, subst, _∙_}
-use mathlib.Core.Bool.{true, false, not}
+use mathlib.Core.Bool.{Bool, true, false, not}
 use mathlib.Core.List.{List, [], _∷_, map, append-nil}
 use native.Mathlib.Omega.{arith}
 use lib.Dec.{eqb}
@@ -26,19 +26,19 @@ use Rattle.service_entries.specs.Room.{numberBytes, knownAt, knownBy, he
 
 -- ---- the days of a service
 
-module _ (first : ℕ) (s l days : List ℕ) where
-  pub join-none : l ≡ [] → joinAll days first (map (bodyAt s) l) ≡ days
+module _ (wish : Bool) (first : ℕ) (s l days : List ℕ) where
+  pub join-none : l ≡ [] → joinAll wish days first (map (bodyAt s) l) ≡ days
   unfolding joinAll
   join-none e = rw e
 
-  pub join-on : (at : ℕ) (rest : List ℕ) → l ≡ at ∷ rest → (last : List ℕ) → last ≡ daysJoined days first (bodyAt s at)
-      → joinAll last first (map (bodyAt s) rest) ≡ joinAll days first (map (bodyAt s) l)
+  pub join-on : (at : ℕ) (rest : List ℕ) → l ≡ at ∷ rest → (last : List ℕ) → last ≡ daysJoined wish days first (bodyAt s at)
+      → joinAll wish last first (map (bodyAt s) rest) ≡ joinAll wish days first (map (bodyAt s) l)
   unfolding joinAll
   join-on at rest e last b = rw (e, b)
 
-pub days-are : (first : ℕ) (s l last : List ℕ) → last ≡ joinAll (replicate 64 0) first (map (bodyAt s) l) → last ≡ daysOf first s l
+pub days-are : (wish : Bool) (first : ℕ) (s l last : List ℕ) → last ≡ joinAll wish (replicate 64 0) first (map (bodyAt s) l) → last ≡ daysOf wish first s l
 unfolding daysOf
-days-are first s l last q = q
+days-are wish first s l last q = q
 
 -- ---- numbers and slots
 
@@ -120,7 +120,7 @@ module _ (first : ℕ) (s rows : List ℕ) (v : Service) (room : List ℕ) where
   pub puts-not : v .removal ≡ true → room ≡ putBytes first s rows v room
   puts-not q = rw q
 
-  pub puts-one : v .removal ≡ false → (x days entry last : List ℕ) → x ≡ numberBytes (numberIn s v) → days ≡ daysOf first s (periodsOf rows v) → entry ≡ 1 ∷ days
+  pub puts-one : v .removal ≡ false → (x days entry last : List ℕ) → x ≡ numberBytes (numberIn s v) → days ≡ daysOf true first s (periodsOf rows v) → entry ≡ 1 ∷ days
       → last ≡ putIn room x entry → last ≡ putBytes first s rows v room
   puts-one q x days entry last a b d e = rw (q, ← a, ← b) (e ∙ ap (putIn room x) d)
 

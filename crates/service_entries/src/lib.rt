@@ -58,31 +58,23 @@ pub fn held(room: &[u8], number: [u8; 10]) -> Known
     }
 }
 
-// Joins the days of the POPs among rows into a calendar of the window.
-fn join_periods(days: &mut [u8], first: usize, s: &[u8], rows: &[u32], from: usize, to: usize)
-    ensures { λ _. ⌜ now (days .exit) ≡ joinAll (now (days .entry)) first (map (bodyAt (now (s .entry))) (periodsFrom (now (rows .entry)) from to)) ⌝ }
+/// The days of the POPs among rows, over the window; the wish is whether the caller asks for the old reading of a POP with neither form.
+pub fn days_of(first: usize, s: &[u8], rows: &[u32], from: usize, to: usize, wish: bool) -> [u8; 64]
+    ensures { λ r. ⌜ r ≡ daysOf wish first (now (s .entry)) (periodsFrom (now (rows .entry)) from to) ⌝ }
 {
+    let mut days = [0u8; 64];
     let mut i = from;
     loop {
         match next_period(rows, i, to) {
             FoundPeriod::Pop(k, at) => {
-                join_at(days, first, s, at);
+                join_at(&mut days, first, s, at, wish);
                 i = k + 1;
             }
             FoundPeriod::NoMore => {
-                return;
+                return days;
             }
         }
     }
-}
-
-/// The days of the POPs among rows, over the window.
-pub fn days_of(first: usize, s: &[u8], rows: &[u32], from: usize, to: usize) -> [u8; 64]
-    ensures { λ r. ⌜ r ≡ daysOf first (now (s .entry)) (periodsFrom (now (rows .entry)) from to) ⌝ }
-{
-    let mut days = [0u8; 64];
-    join_periods(&mut days, first, s, rows, from, to);
-    days
 }
 
 // A pending entry: its flag, and its calendar.
@@ -221,7 +213,8 @@ fn put_one(
         return end;
     }
     let number = service.number;
-    let days = days_of(first, s, rows, service.from, service.to);
+    // The POPs of an accepted reading are good, so that the old reading says the same of them.
+    let days = days_of(first, s, rows, service.from, service.to, true);
     put_service(room, number_of(s, number), entry_of(1, days), end)
 }
 

@@ -33,7 +33,7 @@ first-same f g i n h = of-same f g (n - i) i (λ j a b. h j a (omega arith))
 -- a count that goes on in the same way
 after-same : (f g : ℕ → Answer ℕ) → ((c : ℕ) → f c ≡ g c) → (count : ℕ) (t : Answer (Unit {0})) → afterTest f count t ≡ afterTest g count t
 after-same f g h count (done _) = h (count + 1)
-after-same f g h count (refused number position) = refl
+after-same f g h count (refused refusal) = refl
 
 module _ (l m : List ℕ) (n : ℕ) (h : 3 * n ≤ length l) where
   -- so many rows are held, with more behind them or not

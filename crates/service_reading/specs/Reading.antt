@@ -2,7 +2,7 @@
 -- Assumes nothing.
 use Prim.Native.Nat.{ℕ, zero, suc, _+_, _*_, _/_, _≤_, _<_}
 use mathlib.Core.Path.{_≡_, refl, ap, _∙_}
-use mathlib.Core.Bool.{true}
+use mathlib.Core.Bool.{Bool, true}
 use mathlib.Core.List.{List, [], _∷_, _++_}
 use native.Mathlib.Omega.{arith}
 use lib.Dec.{eqb, ltb}
@@ -60,33 +60,33 @@ stands-by rows lent n (done _) q =
     let h = ltb-false (length lent) (3 * length rows) p in
     let e = length-numbers rows in
     (done-is (rw p at q), put-front lent (numbers rows) (omega arith)))
-stands-by rows lent n (refused number position) q = absurd (refused≢done q)
+stands-by rows lent n (refused refusal) q = absurd (refused≢done q)
 
-module _ (s lent : List ℕ) (n : ℕ) (q : outcomeAnswer (readingOf s) (length lent) ≡ done n) where
+module _ (wish : Bool) (s lent : List ℕ) (n : ℕ) (q : outcomeAnswer (readingOf wish s) (length lent) ≡ done n) where
   abbrev rows : List ℕ
-  rows = numbers (readingOf s .rows)
+  rows = numbers (readingOf wish s .rows)
 
   abbrev past : List ℕ
-  past = drop (length (numbers (readingOf s .rows))) lent
+  past = drop (length (numbers (readingOf wish s .rows))) lent
 
-  stands : (length (readingOf s .rows) ≡ n) × (rowsAfter (readingOf s) lent ≡ numbers (readingOf s .rows) ++ drop (length (numbers (readingOf s .rows))) lent)
+  stands : (length (readingOf wish s .rows) ≡ n) × (rowsAfter (readingOf wish s) lent ≡ numbers (readingOf wish s .rows) ++ drop (length (numbers (readingOf wish s .rows))) lent)
   unfolding outcomeAnswer rowsAfter
-  stands = stands-by (readingOf s .rows) lent n (readingOf s .verdict) q
+  stands = stands-by (readingOf wish s .rows) lent n (readingOf wish s .verdict) q
 
-  enough : 3 * n ≤ length (numbers (readingOf s .rows))
+  enough : 3 * n ≤ length (numbers (readingOf wish s .rows))
   enough =
-      let a = length-numbers (readingOf s .rows) in
+      let a = length-numbers (readingOf wish s .rows) in
       let b = stands .0 in
       omega arith
 
-  pub next-read : (i : ℕ) → nextService s (rowsAfter (readingOf s) lent) n i ≡ nextService s rows n i
+  pub next-read : (i : ℕ) → nextService s (rowsAfter (readingOf wish s) lent) n i ≡ nextService s rows n i
   next-read i = ap (λ (x : List ℕ). nextService s x n i) (stands .1) ∙ next-front rows past n enough s i
 
-  pub period-read : (i to : ℕ) → to ≤ n → nextPeriod (rowsAfter (readingOf s) lent) i to ≡ nextPeriod rows i to
+  pub period-read : (i to : ℕ) → to ≤ n → nextPeriod (rowsAfter (readingOf wish s) lent) i to ≡ nextPeriod rows i to
   period-read i to a = ap (λ (x : List ℕ). nextPeriod x i to) (stands .1) ∙ period-front rows past n enough i to a
 
-  pub tested-read : (v : Service) → v .from ≤ n → v .to ≤ n → testedOf s (rowsAfter (readingOf s) lent) v ≡ testedOf s rows v
+  pub tested-read : (v : Service) → v .from ≤ n → v .to ≤ n → testedOf s (rowsAfter (readingOf wish s) lent) v ≡ testedOf s rows v
   tested-read v a b = ap (λ (x : List ℕ). testedOf s x v) (stands .1) ∙ tested-front rows past n enough s v a b
 
-  pub counted-read : countedOf s (rowsAfter (readingOf s) lent) n ≡ countedOf s rows n
+  pub counted-read : countedOf s (rowsAfter (readingOf wish s) lent) n ≡ countedOf s rows n
   counted-read = ap (λ (x : List ℕ). countedOf s x n) (stands .1) ∙ counted-front rows past n enough s

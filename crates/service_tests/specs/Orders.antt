@@ -5,6 +5,7 @@ use mathlib.Core.Path.{_≡_, refl, sym, ap, _∙_}
 use mathlib.Core.Bool.{Bool, true, false}
 use mathlib.Core.List.{List, [], _∷_, map}
 use mathlib.Core.Option.{none, some}
+use Rattle.answers.specs.declared.Refusal.{Refusal}
 use native.Mathlib.Omega.{arith}
 use lib.ListN.{length}
 use Rattle.laws.specs.Choice.{choose}
@@ -29,7 +30,7 @@ use Rattle.service_tests.specs.Passed.{passed}
 -- the orders of the services up to the first that is refused
 abbrev pub thenOrder : (Totals → List ℕ) → List ℕ → Answer Totals → List ℕ
 thenOrder more d (done t) = more t
-thenOrder more d (refused n at) = d
+thenOrder more d (refused refusal) = d
 
 unfoldable pub ordersAll : ℕ → List ℕ → List ℕ → (List ℕ → Known) → List Service → Totals → List ℕ → List ℕ
 ordersAll first s rows look [] t d = d
@@ -48,16 +49,16 @@ unfolding windowAnswer
 outside-by first (Wrong x) = refl
 outside-by first (Good f n form) = choose (inWindow 512 first f n) (λ q. rw q) (λ q. rw q)
 
-pub outside-told : (first : ℕ) (g : List ℕ) (m : ℕ) (r : Joined) → m ≡ 64 → r ≡ answered m first g → isOutside r ≡ outsideBy first (periodOf g)
+pub outside-told : (first : ℕ) (g : List ℕ) (m : ℕ) (r : Joined) → m ≡ 64 → r ≡ answered true m first g → isOutside r ≡ outsideBy first (periodOf true g)
 unfolding answered
-outside-told first g m r l e = ap isOutside (e ∙ ap (λ (k : ℕ). windowAnswerBy k first (periodOf g)) l) ∙ outside-by first (periodOf g)
+outside-told first g m r l e = ap isOutside (e ∙ ap (λ (k : ℕ). windowAnswerBy k first (periodOf true g)) l) ∙ outside-by first (periodOf true g)
 
-pub join-told : (first : ℕ) (g c last : List ℕ) (r : Joined) → length c ≡ 64 → (r ≡ answered (length c) first g) × (last ≡ daysJoined c first g)
-    → (isOutside r ≡ outsideBy first (periodOf g)) × (last ≡ daysJoined c first g)
+pub join-told : (first : ℕ) (g c last : List ℕ) (r : Joined) → length c ≡ 64 → (r ≡ answered true (length c) first g) × (last ≡ daysJoined true c first g)
+    → (isOutside r ≡ outsideBy first (periodOf true g)) × (last ≡ daysJoined true c first g)
 join-told first g c last r l e = (outside-told first g (length c) r l (e .0), e .1)
 
-pub join-next : (first : ℕ) (s l c last : List ℕ) (at : ℕ) (rest : List ℕ) → l ≡ at ∷ rest → last ≡ daysJoined c first (bodyAt s at)
-    → joinAll last first (map (bodyAt s) rest) ≡ joinAll c first (map (bodyAt s) l)
+pub join-next : (first : ℕ) (s l c last : List ℕ) (at : ℕ) (rest : List ℕ) → l ≡ at ∷ rest → last ≡ daysJoined true c first (bodyAt s at)
+    → joinAll true last first (map (bodyAt s) rest) ≡ joinAll true c first (map (bodyAt s) l)
 unfolding joinAll
 join-next first s l c last at rest e b = rw (e, b)
 
@@ -77,9 +78,9 @@ module _ (first : ℕ) (s rows : List ℕ) (look : List ℕ → Known) (l : List
     unfolding ordersAll
     orders-on u last q a = rw (e, ← q, a)
 
-    pub orders-stop : (m at : ℕ) → refused m at ≡ testOne first s rows look v t → ordersAll first s rows look l t d ≡ d
+    pub orders-stop : (x : Refusal) → refused x ≡ testOne first s rows look v t → ordersAll first s rows look l t d ≡ d
     unfolding ordersAll
-    orders-stop m at q = rw (e, ← q)
+    orders-stop x q = rw (e, ← q)
 
 -- ---- the orders put what the services put
 
@@ -95,7 +96,7 @@ module _ (first : ℕ) (s rows : List ℕ) (look : List ℕ → Known) where
     where
       count-by : ((w : Totals) → testAll first s rows look vs w ≡ done u → u .services ≡ w .services + length vs) → (x : Answer Totals) → testOne first s rows look v t ≡ x
           → thenTest (testAll first s rows look vs) x ≡ done u → u .services ≡ t .services + suc (length vs)
-      count-by again (refused m at) q r = absurd (refused≢done r)
+      count-by again (refused refusal) q r = absurd (refused≢done r)
       count-by again (done w) q r =
           let c = count-more v t w q in
           let b = again w r in
@@ -109,7 +110,7 @@ module _ (first : ℕ) (s rows : List ℕ) (look : List ℕ → Known) where
     where
       keep-by : ((w : Totals) (b : List ℕ) → j < w .services → orderAt (ordersAll first s rows look vs w b) j ≡ orderAt b j) → (x : Answer Totals) → testOne first s rows look v t ≡ x
           → orderAt (thenOrder (λ u. ordersAll first s rows look vs u (ordered d (t .services) (orderOf first s rows v))) d x) j ≡ orderAt d j
-      keep-by again (refused m at) e = refl
+      keep-by again (refused refusal) e = refl
       keep-by again (done w) e =
           let c = count-more v t w e in
           again w (ordered d (t .services) (orderOf first s rows v)) (omega arith) ∙ order-other d (t .services) (orderOf first s rows v) j h
@@ -125,7 +126,7 @@ module _ (first : ℕ) (s rows : List ℕ) (look : List ℕ → Known) where
           → (x : Answer Totals) → testOne first s rows look v t ≡ x → thenTest (testAll first s rows look vs) x ≡ done u
           → putOrders (thenOrder (λ w. ordersAll first s rows look vs w (ordered d (t .services) (orderOf first s rows v))) d x) (t .services) (suc (length vs)) room
           ≡ putsIn first s rows vs (putBytes first s rows v room)
-      put-by again (refused m at) q r = absurd (refused≢done r)
+      put-by again (refused refusal) q r = absurd (refused≢done r)
       put-by again (done w) q r =
           let c = count-more v t w q in
           let o = orderOf first s rows v in

@@ -21,7 +21,7 @@ use Rattle.stages.specs.Stage.{numberIn, firstOutside}
 -- "What each number means"
 abbrev pub totalsAnswer : Tested → Answer Totals
 totalsAnswer (Passed t) = done t
-totalsAnswer (Refused x) = refused (x .number) (x .position)
+totalsAnswer (Refused x) = refused x
 
 -- where the first period outside stands
 abbrev pub windowFound : Window → Option ℕ
@@ -69,11 +69,11 @@ unfoldable pub testOne : ℕ → List ℕ → List ℕ → (List ℕ → Known) 
 testOne first s rows look v t =
     pick (isWrong s rows v) (wrongService (v .prd))
     (pick (isTwice s rows (bytesOf s (v .number)) (v .from)) (numberTwice (v .prd))
-    (testInside (firstOutside first s (periodsOf rows v)) (testKnown (v .removal) (v .prd) (look (numberIn s v)) t)))
+    (testInside (firstOutside true first s (periodsOf rows v)) (testKnown (v .removal) (v .prd) (look (numberIn s v)) t)))
 
 abbrev pub thenTest : (Totals → Answer Totals) → Answer Totals → Answer Totals
 thenTest more (done t) = more t
-thenTest more (refused n at) = refused n at
+thenTest more (refused refusal) = refused refusal
 
 -- "services in order", all against what the account holds at the start
 unfoldable pub testAll : ℕ → List ℕ → List ℕ → (List ℕ → Known) → List Service → Totals → Answer Totals

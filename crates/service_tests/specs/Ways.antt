@@ -5,12 +5,13 @@ use mathlib.Core.Path.{_≡_, refl, sym, ap, _∙_}
 use mathlib.Core.Bool.{Bool, true, false, not}
 use mathlib.Core.List.{List, [], _∷_}
 use mathlib.Core.Option.{Option, none, some}
+use Rattle.answers.specs.declared.Refusal.{Refusal}
 use native.Mathlib.Omega.{arith}
 use lib.Dec.{ltb}
 use lib.ListN.{length}
 use borrow.Author.Tests.{lt-leb, le-leb, ltb-true, ltb-false}
 use Rattle.laws.specs.Choice.{both, both-true, either, either-true, choose}
-use Rattle.answers.specs.Answers.{done, refused}
+use Rattle.answers.specs.Answers.{done, refused, naming}
 use Rattle.answers.specs.Laws.{refused≢done}
 use Rattle.syntax.specs.Segment.{bodyAt}
 use Rattle.parts.specs.declared.Part.{Part}
@@ -32,8 +33,8 @@ use Rattle.service_tests.specs.Passed.{refused-again, passed}
 
 -- ---- periods and their window
 
-pub period-read : (s : List ℕ) (at : ℕ) (p : Part) (y z : Period) → p ≡ segmentOf s at → y ≡ periodOf (bytesOf s p) → y ≡ z → periodOf (bodyAt s at) ≡ z
-period-read s at p y z a b e = sym (b ∙ ap periodOf (segment-body s at p a)) ∙ e
+pub period-read : (wish : Bool) (s : List ℕ) (at : ℕ) (p : Part) (y z : Period) → p ≡ segmentOf s at → y ≡ periodOf wish (bytesOf s p) → y ≡ z → periodOf wish (bodyAt s at) ≡ z
+period-read wish s at p y z a b e = sym (b ∙ ap (periodOf wish) (segment-body s at p a)) ∙ e
 
 module _ (first from n : ℕ) where
   pub past-before : from < first → true ≡ not (inWindow 512 first from n)
@@ -49,17 +50,17 @@ module _ (first from n : ℕ) where
         (λ p. let l = ltb-true (512 - n) (from - first) p in rw (p, le-leb first from h, lt-leb (from - first + n) 512 (omega arith)))
         (λ p. let l = ltb-false (512 - n) (from - first) p in rw (p, le-leb first from h, le-leb (from - first + n) 512 (omega arith)))
 
-module _ (first : ℕ) (s l : List ℕ) where
-  pub outside-none : l ≡ [] → none ≡ firstOutside first s l
+module _ (wish : Bool) (first : ℕ) (s l : List ℕ) where
+  pub outside-none : l ≡ [] → none ≡ firstOutside wish first s l
   unfolding firstOutside
   outside-none e = rw e
 
   module _ (at : ℕ) (rest : List ℕ) (e : l ≡ at ∷ rest) where
-    pub outside-here : outsideBy first (periodOf (bodyAt s at)) ≡ true → some at ≡ firstOutside first s l
+    pub outside-here : outsideBy first (periodOf wish (bodyAt s at)) ≡ true → some at ≡ firstOutside wish first s l
     unfolding firstOutside
     outside-here q = rw (e, q)
 
-    pub outside-on : outsideBy first (periodOf (bodyAt s at)) ≡ false → firstOutside first s rest ≡ firstOutside first s l
+    pub outside-on : outsideBy first (periodOf wish (bodyAt s at)) ≡ false → firstOutside wish first s rest ≡ firstOutside wish first s l
     unfolding firstOutside
     outside-on q = rw (e, q)
 
@@ -115,7 +116,7 @@ wrong-is s rows v x n carries e a b = e ∙ rw (a, b)
 
 module _ (removal : Bool) (prd : ℕ) (k : Known) (t : Totals) where
   module _ (h : Known) (e : h ≡ k) (b : Bool) (q : b ≡ both removal (unknownBy h)) where
-    pub known-refused : b ≡ true → refused 14 prd ≡ testKnown removal prd k t
+    pub known-refused : b ≡ true → refused (naming 14 prd) ≡ testKnown removal prd k t
     unfolding testKnown
     known-refused p = rw (← e, ← q, p)
 
@@ -165,18 +166,18 @@ module _ (s rows : List ℕ) (v : Service) where
       (λ p. choose (isTwice s rows (bytesOf s (v .number)) (v .from)) (λ r. absurd (refused≢done (rw (p, r) at q))) (λ r. (p, r)))
 
   module _ (first : ℕ) (look : List ℕ → Known) (t : Totals) where
-    pub one-refused : (m at : ℕ) → refused m at ≡ testedOf s rows v → refused m at ≡ testOne first s rows look v t
+    pub one-refused : (x : Refusal) → refused x ≡ testedOf s rows v → refused x ≡ testOne first s rows look v t
     unfolding testedOf testOne
-    one-refused m at q =
+    one-refused x q =
         choose (isWrong s rows v)
-        (λ p. rw p (refused-again (Unit {0}) Totals m at 11 (v .prd) (rw p at q)))
+        (λ p. rw p (refused-again (Unit {0}) Totals x (naming 11 (v .prd)) (rw p at q)))
         (λ p.
         choose (isTwice s rows (bytesOf s (v .number)) (v .from))
-        (λ r. rw (p, r) (refused-again (Unit {0}) Totals m at 12 (v .prd) (rw (p, r) at q)))
+        (λ r. rw (p, r) (refused-again (Unit {0}) Totals x (naming 12 (v .prd)) (rw (p, r) at q)))
         (λ r. absurd (refused≢done (rw (p, r) at q))))
 
     module _ (g : done tt ≡ testedOf s rows v) where
-      pub one-tested : (w : Option ℕ) → w ≡ firstOutside first s (periodsOf rows v) → testInside w (testKnown (v .removal) (v .prd) (look (numberIn s v)) t) ≡ testOne first s rows look v t
+      pub one-tested : (w : Option ℕ) → w ≡ firstOutside true first s (periodsOf rows v) → testInside w (testKnown (v .removal) (v .prd) (look (numberIn s v)) t) ≡ testOne first s rows look v t
       unfolding testOne
       one-tested w o =
           let k = tested-good (sym g) in
@@ -222,6 +223,6 @@ module _ (first : ℕ) (s rows : List ℕ) (look : List ℕ → Known) where
       unfolding testAll
       all-on u q = rw (e, ← q)
 
-      pub all-stop : (m at : ℕ) → refused m at ≡ testOne first s rows look v t → refused m at ≡ testAll first s rows look l t
+      pub all-stop : (x : Refusal) → refused x ≡ testOne first s rows look v t → refused x ≡ testAll first s rows look l t
       unfolding testAll
-      all-stop m at q = rw (e, ← q)
+      all-stop x q = rw (e, ← q)

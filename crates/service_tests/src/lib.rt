@@ -4,6 +4,7 @@ mod numbers;
 
 use crate::numbers::mark_of;
 use crate::numbers::set_mark;
+use answers::Refusal;
 use joining::Joined;
 use joining::join_at;
 use parts::segment_at;
@@ -22,9 +23,8 @@ use services::Service;
 use services::next_period;
 use services::next_service;
 use services::test_service;
-use syntax::segment::Refusal;
 ghost use mathlib.Core.Path.{_≡_};
-ghost use mathlib.Core.Bool.{not};
+ghost use mathlib.Core.Bool.{true, not};
 ghost use mathlib.Core.List.{map};
 ghost use mathlib.Core.Option.{none};
 ghost use Prim.Native.Nat.{_≤_, _<_};
@@ -33,7 +33,7 @@ ghost use Rattle.syntax.specs.Segment.{bodyAt};
 ghost use Rattle.period.specs.Period.{periodOf};
 ghost use Rattle.joining.specs.Joined.{inWindow, daysJoined, joinAll};
 ghost use lib.ListN.{length, set};
-ghost use Rattle.answers.specs.Answers.{refused};
+ghost use Rattle.answers.specs.Answers.{refused, naming};
 ghost use Rattle.services.specs.Services as services;
 ghost use Rattle.services.specs.Services.{numberFits, periodsFit, periodsFrom, hasPeriod, servicesOf};
 ghost use Rattle.stages.specs.Stage.{numberIn, outsideBy, firstOutside, daysOf};
@@ -81,34 +81,41 @@ fn is_past(first: usize, from: usize, n: usize) -> bool
 }
 
 // 13: whether the POP at an offset, whatever it says and wherever it ends, is not wholly in the window.
-fn is_any_outside(first: usize, s: &[u8], at: usize) -> bool
-    ensures { λ r. ⌜ r ≡ outsideBy first (periodOf (bodyAt (now (s .entry)) at)) ⌝ }
+fn is_any_outside(first: usize, s: &[u8], at: usize, wish: bool) -> bool
+    ensures { λ r. ⌜ r ≡ outsideBy first (periodOf wish (bodyAt (now (s .entry)) at)) ⌝ }
 {
-    match read_period(s, segment_at(s, at)) {
+    match read_period(s, segment_at(s, at), wish) {
         Period::Wrong(_) => false,
         Period::Good(from, n, _) => is_past(first, from, n),
     }
 }
 
 // 13: whether the POP at an offset is not wholly in the window.
-fn is_outside(first: usize, s: &[u8], at: usize) -> bool
-    ensures { λ r. ⌜ r ≡ outsideBy first (periodOf (bodyAt (now (s .entry)) at)) ⌝ }
+fn is_outside(first: usize, s: &[u8], at: usize, wish: bool) -> bool
+    ensures { λ r. ⌜ r ≡ outsideBy first (periodOf wish (bodyAt (now (s .entry)) at)) ⌝ }
 {
-    match pop_at(s, at) {
+    match pop_at(s, at, wish) {
         Pop::Whole(_, from, n, _) => is_past(first, from, n),
-        Pop::Other => is_any_outside(first, s, at),
+        Pop::Other => is_any_outside(first, s, at, wish),
     }
 }
 
-/// 13: the first POP among rows that is not wholly in the window.
-pub fn test_window(first: usize, s: &[u8], rows: &[u32], from: usize, to: usize) -> Window
-    ensures { λ r. ⌜ windowFound r ≡ firstOutside first (now (s .entry)) (periodsFrom (now (rows .entry)) from to) ⌝ }
+/// 13: the first POP among rows that is not wholly in the window; the wish is whether the caller asks for the old reading of a POP with neither form.
+pub fn test_window(
+    first: usize,
+    s: &[u8],
+    rows: &[u32],
+    from: usize,
+    to: usize,
+    wish: bool,
+) -> Window
+    ensures { λ r. ⌜ windowFound r ≡ firstOutside wish first (now (s .entry)) (periodsFrom (now (rows .entry)) from to) ⌝ }
 {
     let mut i = from;
     loop {
         match next_period(rows, i, to) {
             FoundPeriod::Pop(k, at) => {
-                if is_outside(first, s, at) {
+                if is_outside(first, s, at, wish) {
                     return Window::Outside(at);
                 }
                 i = k + 1;
@@ -132,13 +139,14 @@ struct Days {
     days: [u8; 64],
 }
 
-// 13: joins the days of the POP at an offset into a calendar of the window; whether it is not wholly in the window.
+// 13: joins the days of the POP at an offset into a calendar of the window; whether it is not wholly in the window. The POPs of an accepted reading
+// are good, so that the old reading says the same of them.
 fn join_one(days: &mut [u8], first: usize, s: &[u8], at: usize) -> bool
     requires { ⌜ length (now days) ≡ 64 ⌝ }
-    ensures told { λ r. ⌜ r ≡ outsideBy first (periodOf (bodyAt (now (s .entry)) at)) ⌝ }
-    ensures left { λ _. ⌜ now (days .exit) ≡ daysJoined (now (days .entry)) first (bodyAt (now (s .entry)) at) ⌝ }
+    ensures told { λ r. ⌜ r ≡ outsideBy first (periodOf true (bodyAt (now (s .entry)) at)) ⌝ }
+    ensures left { λ _. ⌜ now (days .exit) ≡ daysJoined true (now (days .entry)) first (bodyAt (now (s .entry)) at) ⌝ }
 {
-    match join_at(days, first, s, at) {
+    match join_at(days, first, s, at, true) {
         Joined::Outside => true,
         Joined::Done => false,
         Joined::WrongPeriod(_) => false,
@@ -155,8 +163,8 @@ fn join_window(
     to: usize,
 ) -> Walk
     requires { ⌜ length (now days) ≡ 64 ⌝ }
-    ensures told { λ r. ⌜ (windowFound (r .window) ≡ firstOutside first (now (s .entry)) (periodsFrom (now (rows .entry)) from to)) × (r .carries ≡ hasPeriod (now (rows .entry)) from to) ⌝ }
-    ensures left { λ r. ⌜ (windowFound (r .window) ≡ none → now (days .exit) ≡ joinAll (now (days .entry)) first (map (bodyAt (now (s .entry))) (periodsFrom (now (rows .entry)) from to))) ⌝ }
+    ensures told { λ r. ⌜ (windowFound (r .window) ≡ firstOutside true first (now (s .entry)) (periodsFrom (now (rows .entry)) from to)) × (r .carries ≡ hasPeriod (now (rows .entry)) from to) ⌝ }
+    ensures left { λ r. ⌜ (windowFound (r .window) ≡ none → now (days .exit) ≡ joinAll true (now (days .entry)) first (map (bodyAt (now (s .entry))) (periodsFrom (now (rows .entry)) from to))) ⌝ }
 {
     let mut i = from;
     let mut carries = false;
@@ -184,8 +192,8 @@ fn join_window(
 
 // The same into a calendar of its own.
 fn join_days(first: usize, s: &[u8], rows: &[u32], from: usize, to: usize) -> Days
-    ensures told { λ r. ⌜ (windowFound (r .walk .window) ≡ firstOutside first (now (s .entry)) (periodsFrom (now (rows .entry)) from to)) × (r .walk .carries ≡ hasPeriod (now (rows .entry)) from to) ⌝ }
-    ensures left { λ r. ⌜ (windowFound (r .walk .window) ≡ none → r .days ≡ daysOf first (now (s .entry)) (periodsFrom (now (rows .entry)) from to)) ⌝ }
+    ensures told { λ r. ⌜ (windowFound (r .walk .window) ≡ firstOutside true first (now (s .entry)) (periodsFrom (now (rows .entry)) from to)) × (r .walk .carries ≡ hasPeriod (now (rows .entry)) from to) ⌝ }
+    ensures left { λ r. ⌜ (windowFound (r .walk .window) ≡ none → r .days ≡ daysOf true first (now (s .entry)) (periodsFrom (now (rows .entry)) from to)) ⌝ }
 {
     let mut days = [0u8; 64];
     let walk = join_window(&mut days, first, s, rows, from, to);
@@ -194,9 +202,13 @@ fn join_days(first: usize, s: &[u8], rows: &[u32], from: usize, to: usize) -> Da
 
 // What a refusal is.
 fn refuse(number: u8, position: usize) -> Tested
-    ensures { λ r. ⌜ totalsAnswer r ≡ refused number position ⌝ }
+    ensures { λ r. ⌜ totalsAnswer r ≡ refused (naming number position) ⌝ }
 {
-    Tested::Refused(Refusal { number, position })
+    Tested::Refused(Refusal {
+        number,
+        position,
+        part: 0,
+    })
 }
 
 // How many records a service adds: a put of a number that has none.
@@ -296,6 +308,7 @@ fn test_number(
         return services::Tested::Refused(Refusal {
             number: 11,
             position: service.prd,
+            part: 0,
         });
     }
     services::Tested::Good

@@ -76,7 +76,7 @@ module _ (s rows : List ℕ) (v : Service) where
 -- what the tests answer fixes their case
 abbrev testedCase : Answer (Unit {0}) → Tested
 testedCase (done _) = Good
-testedCase (refused number position) = Refused (record { number = number; position = position })
+testedCase (refused refusal) = Refused refusal
 
 tested-back : (x : Tested) → testedCase (testedAnswer x) ≡ x
 tested-back Good = refl
@@ -87,7 +87,7 @@ tested-same = one-case testedAnswer testedCase tested-back
 
 abbrev countedCase : Answer ℕ → Counted
 countedCase (done n) = counted.Services n
-countedCase (refused number position) = counted.Refused (record { number = number; position = position })
+countedCase (refused refusal) = counted.Refused refusal
 
 counted-back : (x : Counted) → countedCase (countedAnswer x) ≡ x
 counted-back (counted.Services n) = refl

@@ -131,7 +131,7 @@ servicesOf s rows n = servicesFrom s rows (rowCount rows n) 0
 -- `more` counts on from the number of services so far
 abbrev pub afterTest : (ℕ → Answer ℕ) → ℕ → Answer (Unit {0}) → Answer ℕ
 afterTest more count (done _) = more (count + 1)
-afterTest more count (refused number position) = refused number position
+afterTest more count (refused refusal) = refused refusal
 
 -- the first refusal, or the number of services
 unfoldable pub countOn : List ℕ → List ℕ → List Service → ℕ → Answer ℕ
@@ -141,11 +141,11 @@ countOn s rows (v ∷ l) count = afterTest (countOn s rows l) count (testedOf s 
 unfoldable pub countedOf : List ℕ → List ℕ → ℕ → Answer ℕ
 countedOf s rows n = countOn s rows (servicesOf s rows n) 0
 
--- what each case answers: nothing, or the number of services, where all is good; else number and position
+-- what each case answers: nothing, or the number of services, where all is good; else the refusal
 abbrev pub testedAnswer : Tested → Answer (Unit {0})
 testedAnswer Good = done tt
-testedAnswer (Refused x) = refused (x .number) (x .position)
+testedAnswer (Refused x) = refused x
 
 abbrev pub countedAnswer : Counted → Answer ℕ
 countedAnswer (counted.Services k) = done k
-countedAnswer (counted.Refused x) = refused (x .number) (x .position)
+countedAnswer (counted.Refused x) = refused x

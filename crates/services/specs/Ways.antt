@@ -10,7 +10,7 @@ use lib.Dec.{ltb}
 use lib.ListN.{length}
 use Rattle.laws.specs.Choice.{both-parts, choose}
 use Rattle.answers.specs.Answers.{done, refused, wrongService, numberTwice}
-use Rattle.syntax.specs.declared.segment.Refusal.{Refusal}
+use Rattle.answers.specs.declared.Refusal.{Refusal}
 use Rattle.syntax.specs.Bytes.{plain}
 use Rattle.syntax.specs.Pieces.{partOf}
 use Rattle.parts.specs.declared.Part.{Part}
@@ -276,7 +276,7 @@ module _ (s rows : List ℕ) (l : List Service) (count : ℕ) where
     unfolding countOn
     count-good q = rw (e, q)
 
-    pub count-stop : (x : Refusal) → testedOf s rows v ≡ refused (x .number) (x .position) → countOn s rows l count ≡ refused (x .number) (x .position)
+    pub count-stop : (x : Refusal) → testedOf s rows v ≡ refused x → countOn s rows l count ≡ refused x
     unfolding countOn
     count-stop x q = rw (e, q)
 

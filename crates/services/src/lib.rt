@@ -15,11 +15,11 @@ use crate::rows::row_count;
 use crate::segments::number_at;
 use crate::segments::says_number;
 use crate::segments::says_removal;
+use answers::Refusal;
 use messages::MSD;
 use messages::PRD;
 use parts::Part;
 use parts::bytes_of;
-use syntax::segment::Refusal;
 ghost use mathlib.Core.Path.{_≡_};
 ghost use Prim.Native.Nat.{_/_, _≤_, _<_};
 ghost use lib.ListN.{length};
@@ -170,6 +170,7 @@ pub fn test_service(s: &[u8], rows: &[u32], service: Service) -> Tested
         return Tested::Refused(Refusal {
             number: 11,
             position: prd,
+            part: 0,
         });
     }
     let number = service.number;
@@ -177,6 +178,7 @@ pub fn test_service(s: &[u8], rows: &[u32], service: Service) -> Tested
         return Tested::Refused(Refusal {
             number: 12,
             position: prd,
+            part: 0,
         });
     }
     Tested::Good

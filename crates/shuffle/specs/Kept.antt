@@ -10,7 +10,7 @@ use Rattle.shuffle.specs.Register.{Ask, stage, release, withdraw, show, 
 
 pub keeps : (x : Ask) (v : View) → goodAccount (v .quota) (v .records) ≡ true → goodAccount (v .quota) (recordsBy x v) ≡ true
 unfolding releaseOf
-keeps (stage s) v g = stage-kept s v g
+keeps (stage wish s) v g = stage-kept wish s v g
 keeps release v g = released-good (v .quota) (v .records) g
 keeps (withdraw x) v g = withdrawn-good (v .quota) x v g
 keeps (show k out) v g = g

@@ -4,15 +4,16 @@
 -- Here: what a call is, and what comes of it, by the definitions that the functions' contracts cite. specs/Theorems.antt has the demand.
 -- Assumes nothing.
 use Prim.Native.Nat.{ℕ}
+use mathlib.Core.Bool.{Bool}
 use mathlib.Core.List.{List, []}
 use Rattle.answers.specs.Answers.{Answer}
 use Rattle.contents.specs.Contents.{Record}
 use Rattle.contents.specs.Calls.{View, releaseOf, withdrawOf, showAnswer, showBytes, answerOn, bytesAfter, outputAfter}
 use Rattle.stages.specs.Stage.{stageOf}
 
--- which of the four, with its arguments: an interchange; a number; the number of a record and the output as it is lent
+-- which of the four, with its arguments: the wish, true where the account asks for the old reading, and an interchange; a number; the number of a record and the output as it is lent
 pub data Ask : Type 0 where
-  stage : List ℕ → Ask
+  stage : Bool → List ℕ → Ask
   release : Ask
   withdraw : List ℕ → Ask
   show : ℕ → List ℕ → Ask
@@ -24,25 +25,25 @@ pub record Reply : Type 0 where
 
 -- each on the account's view
 abbrev pub askedAnswer : Ask → View → Answer ℕ
-askedAnswer (stage s) v = stageOf s v .answer
+askedAnswer (stage wish s) v = stageOf wish s v .answer
 askedAnswer release v = releaseOf v .answer
 askedAnswer (withdraw x) v = withdrawOf x v .answer
 askedAnswer (show k out) v = showAnswer k out v
 
 abbrev pub recordsBy : Ask → View → List Record
-recordsBy (stage s) v = stageOf s v .records
+recordsBy (stage wish s) v = stageOf wish s v .records
 recordsBy release v = releaseOf v .records
 recordsBy (withdraw x) v = withdrawOf x v .records
 recordsBy (show k out) v = v .records
 
 abbrev pub lentBy : Ask → List ℕ
-lentBy (stage s) = []
+lentBy (stage wish s) = []
 lentBy release = []
 lentBy (withdraw x) = []
 lentBy (show k out) = out
 
 abbrev pub outputBy : Ask → View → List ℕ
-outputBy (stage s) v = []
+outputBy (stage wish s) v = []
 outputBy release v = []
 outputBy (withdraw x) v = []
 outputBy (show k out) v = showBytes k out v

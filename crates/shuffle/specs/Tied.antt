@@ -2,6 +2,7 @@
 -- what its contract answers: `stagedAnswer`, `releasedAnswer`, `withdrawnAnswer` or `recordAnswer` of its result.
 -- Assumes nothing.
 use mathlib.Core.Path.{_≡_}
+use mathlib.Core.Bool.{Bool}
 use mathlib.Core.List.{List, []}
 use Prim.Native.Nat.{ℕ}
 use Rattle.laws.specs.Choice.{both, choose}
@@ -26,10 +27,10 @@ same-register b account =
     (λ p. rw p)
 
 module _ (b : List ℕ) (account : ℕ) where
-  pub stage-is : (s after : List ℕ) (a : Answer ℕ) → a ≡ answerOn b account (λ v. stageOf s v .answer) → after ≡ bytesAfter b account (λ v. stageOf s v .records)
-      → called b (account, stage s) ≡ (after, record { answer = a; output = [] })
+  pub stage-is : (wish : Bool) (s after : List ℕ) (a : Answer ℕ) → a ≡ answerOn b account (λ v. stageOf wish s v .answer) → after ≡ bytesAfter b account (λ v. stageOf wish s v .records)
+      → called b (account, stage wish s) ≡ (after, record { answer = a; output = [] })
   unfolding called
-  stage-is s after a p q = rw (called, p, q, no-output b account)
+  stage-is wish s after a p q = rw (called, p, q, no-output b account)
 
   pub release-is : (after : List ℕ) (a : Answer ℕ) → a ≡ answerOn b account (λ v. releaseOf v .answer) → after ≡ bytesAfter b account (λ v. releaseOf v .records)
       → called b (account, release) ≡ (after, record { answer = a; output = [] })

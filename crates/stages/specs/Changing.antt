@@ -62,6 +62,6 @@ pub entry-keeps : (first : ℕ) (s rows : List ℕ) (v : Service) → KeepsNumbe
 unfolding entry
 entry-keeps first s rows v = by-kind (v .removal)
   where
-    by-kind : (b : Bool) → KeepsNumber (numberIn s v) (pick b removed (putOver (numberIn s v) (daysOf first s (periodsOf rows v))))
+    by-kind : (b : Bool) → KeepsNumber (numberIn s v) (pick b removed (putOver (numberIn s v) (daysOf true first s (periodsOf rows v))))
     by-kind true = removed-keeps (numberIn s v)
-    by-kind false = put-keeps (numberIn s v) (daysOf first s (periodsOf rows v))
+    by-kind false = put-keeps (numberIn s v) (daysOf true first s (periodsOf rows v))

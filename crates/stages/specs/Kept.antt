@@ -71,22 +71,22 @@ right-number s rows v p q =
     let w = both-parts (numberFits n) f (not-false (both (numberFits n) f) q) in
     rw (w .0, p)
 
-module _ (s : List ℕ) (n : ℕ) where
+module _ (wish : Bool) (s : List ℕ) (n : ℕ) where
   abbrev rows : List ℕ
-  rows = numbers (readingOf s .rows)
+  rows = numbers (readingOf wish s .rows)
 
-  named-from : (k i : ℕ) → i + k ≤ length (readingOf s .rows) → Named s (numbers (readingOf s .rows)) (listOf (isService (numbers (readingOf s .rows))) (serviceAt s (numbers (readingOf s .rows)) n) k i)
+  named-from : (k i : ℕ) → i + k ≤ length (readingOf wish s .rows) → Named s (numbers (readingOf wish s .rows)) (listOf (isService (numbers (readingOf wish s .rows))) (serviceAt s (numbers (readingOf wish s .rows)) n) k i)
   unfolding listOf
   named-from zero i h = tt
   named-from (suc k) i h =
       choose (isService rows i)
-      (λ q. rw q (right-number s rows (serviceAt s rows n i) (number-permitted s n i (omega arith)), named-from k (i + 1) (omega arith)))
+      (λ q. rw q (right-number s rows (serviceAt s rows n i) (number-permitted wish s n i (omega arith)), named-from k (i + 1) (omega arith)))
       (λ q. rw q (named-from k (i + 1) (omega arith)))
 
-pub reading-named : (s : List ℕ) (m : ℕ) → Named s (numbers (readingOf s .rows)) (servicesOf s (numbers (readingOf s .rows)) m)
-reading-named s m =
-    let l = length-numbers (readingOf s .rows) in
-    named-from s (rowCount (numbers (readingOf s .rows)) m) (rowCount (numbers (readingOf s .rows)) m - 0) 0 (omega arith)
+pub reading-named : (wish : Bool) (s : List ℕ) (m : ℕ) → Named s (numbers (readingOf wish s .rows)) (servicesOf s (numbers (readingOf wish s .rows)) m)
+reading-named wish s m =
+    let l = length-numbers (readingOf wish s .rows) in
+    named-from wish s (rowCount (numbers (readingOf wish s .rows)) m) (rowCount (numbers (readingOf wish s .rows)) m - 0) 0 (omega arith)
 
 -- ---- one service after the other: records in order, each good
 
@@ -98,9 +98,9 @@ module _ (first : ℕ) (s rows : List ℕ) where
   unfolding entry
   entry-good v x o q = by-kind (v .removal)
     where
-      by-kind : (b : Bool) → passes goodRecord (pick b removed (putOver (numberIn s v) (daysOf first s (periodsOf rows v))) o) ≡ true
+      by-kind : (b : Bool) → passes goodRecord (pick b removed (putOver (numberIn s v) (daysOf true first s (periodsOf rows v))) o) ≡ true
       by-kind true = removed-good o q
-      by-kind false = put-good (numberIn s v) (daysOf first s (periodsOf rows v)) x (days-calendar first s (periodsOf rows v)) o q
+      by-kind false = put-good (numberIn s v) (daysOf true first s (periodsOf rows v)) x (days-calendar true first s (periodsOf rows v)) o q
 
   module _ (v : Service) (named : isWrong s rows v ≡ false → goodNumber (numberIn s v) ≡ true) (rs : List Record) (g : Sound rs) (new : List Record) where
     entered-known : goodNumber (numberIn s v) ≡ true → enterKnown first s rows v rs ≡ done new → Sound new
@@ -125,12 +125,12 @@ module _ (first : ℕ) (s rows : List ℕ) where
         choose (isWrong s rows v) (λ p. absurd (refused≢done (rw p at q)))
         (λ p.
         choose (isTwice s rows (bytesOf s (v .number)) (v .from)) (λ r. absurd (refused≢done (rw (p, r) at q)))
-        (λ r. entered-inside (named p) (firstOutside first s (periodsOf rows v)) (rw (p, r) at q)))
+        (λ r. entered-inside (named p) (firstOutside true first s (periodsOf rows v)) (rw (p, r) at q)))
 
   entered-on : (vs : List Service) (new : List Record) → ((mid : List Record) → Sound mid → enterAll first s rows vs mid ≡ done new → Sound new)
       → (x : Answer (List Record)) → ((mid : List Record) → x ≡ done mid → Sound mid) → andThen (enterAll first s rows vs) x ≡ done new → Sound new
   entered-on vs new on (done mid) h q = on mid (h mid refl) q
-  entered-on vs new on (refused m at) h q = absurd (refused≢done q)
+  entered-on vs new on (refused refusal) h q = absurd (refused≢done q)
 
   entered-all : (vs : List Service) → Named s rows vs → (rs new : List Record) → Sound rs → enterAll first s rows vs rs ≡ done new → Sound new
   unfolding enterAll
@@ -143,7 +143,7 @@ pub services-kept : (s rows : List ℕ) (vs : List Service) → Named s rows vs 
 services-kept s rows vs n v g = go (enterAll (v .first) s rows vs (v .records)) refl
   where
     go : (x : Answer (List Record)) → enterAll (v .first) s rows vs (v .records) ≡ x → goodAccount (v .quota) (closeBy s (length vs) v x .records) ≡ true
-    go (refused m at) e = g
+    go (refused refusal) e = g
     go (done rs) e =
         choose (leb (length rs) (v .quota))
         (λ p.
@@ -151,10 +151,10 @@ services-kept s rows vs n v g = go (enterAll (v .first) s rows vs (v .records)) 
         rw p (account-good (v .quota) rs (leb-true (length rs) (v .quota) p) (w .0) (w .1)))
         (λ p. rw p g)
 
-pub stage-kept : (s : List ℕ) (v : View) → goodAccount (v .quota) (v .records) ≡ true → goodAccount (v .quota) (stageOf s v .records) ≡ true
+pub stage-kept : (wish : Bool) (s : List ℕ) (v : View) → goodAccount (v .quota) (v .records) ≡ true → goodAccount (v .quota) (stageOf wish s v .records) ≡ true
 unfolding stageOf
-stage-kept s v g = go (readingOf s .verdict)
+stage-kept wish s v g = go (readingOf wish s .verdict)
   where
-    go : (a : Verdict) → goodAccount (v .quota) (stageBy s (numbers (readingOf s .rows)) (length (readingOf s .rows)) a v .records) ≡ true
-    go (refused n at) = g
-    go (done u) = services-kept s (numbers (readingOf s .rows)) (servicesOf s (numbers (readingOf s .rows)) (length (readingOf s .rows))) (reading-named s (length (readingOf s .rows))) v g
+    go : (a : Verdict) → goodAccount (v .quota) (stageBy s (numbers (readingOf wish s .rows)) (length (readingOf wish s .rows)) a v .records) ≡ true
+    go (refused refusal) = g
+    go (done u) = services-kept s (numbers (readingOf wish s .rows)) (servicesOf s (numbers (readingOf wish s .rows)) (length (readingOf wish s .rows))) (reading-named wish s (length (readingOf wish s .rows))) v g

@@ -96,30 +96,30 @@ bytes-all : (c : List ℕ) → AreBytes c → all (λ b. ltb b 256) c ≡ true
 bytes-all [] h = refl
 bytes-all (b ∷ c) h = rw (lt-ltb b 256 (h 0)) (bytes-all c (λ i. h (suc i)))
 
-join-bytes : (gs : List (List ℕ)) (c : List ℕ) (o : ℕ) → AreBytes c → AreBytes (joinAll c o gs)
+join-bytes : (wish : Bool) (gs : List (List ℕ)) (c : List ℕ) (o : ℕ) → AreBytes c → AreBytes (joinAll wish c o gs)
 unfolding joinAll
-join-bytes [] c o h = h
-join-bytes (g ∷ gs) c o h = join-bytes gs (daysJoined c o g) o (joined-bytes c o g h)
+join-bytes wish [] c o h = h
+join-bytes wish (g ∷ gs) c o h = join-bytes wish gs (daysJoined wish c o g) o (joined-bytes wish c o g h)
 
-pub join-length : (gs : List (List ℕ)) (c : List ℕ) (o : ℕ) → length (joinAll c o gs) ≡ length c
+pub join-length : (wish : Bool) (gs : List (List ℕ)) (c : List ℕ) (o : ℕ) → length (joinAll wish c o gs) ≡ length c
 unfolding joinAll
-join-length [] c o = refl
-join-length (g ∷ gs) c o = join-length gs (daysJoined c o g) o ∙ length-joined c o g
+join-length wish [] c o = refl
+join-length wish (g ∷ gs) c o = join-length wish gs (daysJoined wish c o g) o ∙ length-joined wish c o g
 
 zeros-bytes : (n : ℕ) → AreBytes (replicate n 0)
 zeros-bytes zero i = lit≤ tt
 zeros-bytes (suc n) zero = lit≤ tt
 zeros-bytes (suc n) (suc i) = zeros-bytes n i
 
-pub days-length : (start : ℕ) (s at : List ℕ) → length (daysOf start s at) ≡ 64
+pub days-length : (wish : Bool) (start : ℕ) (s at : List ℕ) → length (daysOf wish start s at) ≡ 64
 unfolding daysOf
-days-length start s at = join-length (map (bodyAt s) at) (replicate 64 0) start ∙ length-replicate {A = ℕ} 64 0
+days-length wish start s at = join-length wish (map (bodyAt s) at) (replicate 64 0) start ∙ length-replicate {A = ℕ} 64 0
 
-pub days-calendar : (start : ℕ) (s at : List ℕ) → isCalendar (daysOf start s at) ≡ true
+pub days-calendar : (wish : Bool) (start : ℕ) (s at : List ℕ) → isCalendar (daysOf wish start s at) ≡ true
 unfolding isCalendar
-days-calendar start s at =
-    rw (eq-eqb (length (daysOf start s at)) 64 (days-length start s at))
-    (bytes-all (daysOf start s at) (unfold daysOf in join-bytes (map (bodyAt s) at) (replicate 64 0) start (zeros-bytes 64)))
+days-calendar wish start s at =
+    rw (eq-eqb (length (daysOf wish start s at)) 64 (days-length wish start s at))
+    (bytes-all (daysOf wish start s at) (unfold daysOf in join-bytes wish (map (bodyAt s) at) (replicate 64 0) start (zeros-bytes 64)))
 
 -- ---- the segments of a reading have permitted bytes
 
@@ -143,7 +143,7 @@ module _ (s : List ℕ) where
     stepped e h (done (taken st r)) q =
         let o = turn-on tables s from at st r (e + 1) (sym (turn-is tables s from at (End e) h) ∙ ap (turnStep (e + 1)) q) .0 in
         (subst (λ (k : ℕ). Permitted (bodyAt s k)) (sym o) (end-permitted s at e h), ih st (e + 1))
-    stepped e h (refused m p) q = tt
+    stepped e h (refused refusal) q = tt
 
     scanned : (x : Scanned) → segmentAt s at ≡ x → Read s (afterTurn (readOn f s) (turnScan tables s from at x) .rows)
     scanned (End e) h = stepped e h step refl
@@ -165,9 +165,9 @@ module _ (s : List ℕ) where
       (λ q. rw (p, q) (turned f (read-on f) st at)))
       (λ p. choose (isClosed (st .phase)) (λ q. rw (p, q) tt) (λ q. rw (p, q) tt))
 
-  reading : Read s (readingOf s .rows)
+  reading : (wish : Bool) → Read s (readingOf wish s .rows)
   unfolding readingOf
-  reading = choose (wrongSize s) (λ p. rw p tt) (λ p. rw p (read-on (length s + 1) openingState 0))
+  reading wish = choose (wrongSize s) (λ p. rw p tt) (λ p. rw p (read-on (length s + 1) (openingState wish) 0))
 
 read-at : (s : List ℕ) (rows : List Row) (i : ℕ) → Read s rows → i < length rows → Permitted (bodyAt s (getD (numbers rows) (3 * i) 0))
 unfolding numbers
@@ -178,12 +178,12 @@ read-at s (r ∷ rows) (suc i) h k =
     rw a (read-at s rows i (h .1) (omega arith))
 
 -- the number of a service of a reading
-pub number-permitted : (s : List ℕ) (n i : ℕ) → i < length (readingOf s .rows)
-    → all permittedOf (numberIn s (serviceAt s (numbers (readingOf s .rows)) n i)) ≡ true
+pub number-permitted : (wish : Bool) (s : List ℕ) (n i : ℕ) → i < length (readingOf wish s .rows)
+    → all permittedOf (numberIn s (serviceAt s (numbers (readingOf wish s .rows)) n i)) ≡ true
 unfolding serviceAt offsetAt
-number-permitted s n i h =
-    let l = length-numbers (readingOf s .rows) in
-    let rows = numbers (readingOf s .rows) in
+number-permitted wish s n i h =
+    let l = length-numbers (readingOf wish s .rows) in
+    let rows = numbers (readingOf wish s .rows) in
     rw (lt-ltb i (length rows / 3) (omega arith), number-part s (getD rows (3 * i) 0))
     (plain-permitted false (partOf (bodyAt s (getD rows (3 * i) 0)) 1 1 1)
-    (part-permitted (bodyAt s (getD rows (3 * i) 0)) 1 1 1 (read-at s (readingOf s .rows) i (reading s) h)))
+    (part-permitted (bodyAt s (getD rows (3 * i) 0)) 1 1 1 (read-at s (readingOf wish s .rows) i (reading s wish) h)))

@@ -1,4 +1,4 @@
--- Stage (account, interchange): "the groups 2 of its SKDUPD messages are services. .. All services enter, or none. Returns their number."
+-- Stage (account, interchange, wish): "the groups 2 of its SKDUPD messages are services. .. All services enter, or none. Returns their number."
 -- Document 01, "The register", "What each number means". On the account's own view: nothing else of a register is an argument.
 -- Assumes nothing.
 use Prim.Native.Nat.{ℕ}
@@ -26,19 +26,19 @@ use Rattle.contents.specs.Calls.{View, Called, refusedCall, lookup, changed}
 abbrev pub numberIn : List ℕ → Service → List ℕ
 numberIn s v = plain (bytesOf s (v .number))
 
--- 13, "period not wholly in the window": by its dates, whatever days are selected. A POP that an accepted reading has is good.
+-- 13, "period not wholly in the window": by its dates, whatever days are selected
 abbrev pub outsideBy : ℕ → Period → Bool
 outsideBy first (Good f n form) = not (inWindow 512 first f n)
 outsideBy first (Wrong x) = false
 
 -- the offset of the first of some POPs that is outside
-unfoldable pub firstOutside : ℕ → List ℕ → List ℕ → Option ℕ
-firstOutside first s [] = none
-firstOutside first s (at ∷ l) = pick (outsideBy first (periodOf (bodyAt s at))) (some at) (firstOutside first s l)
+unfoldable pub firstOutside : Bool → ℕ → List ℕ → List ℕ → Option ℕ
+firstOutside wish first s [] = none
+firstOutside wish first s (at ∷ l) = pick (outsideBy first (periodOf wish (bodyAt s at))) (some at) (firstOutside wish first s l)
 
 -- "A service's days are those selected by at least one of its periods", over the window
-unfoldable pub daysOf : ℕ → List ℕ → List ℕ → List ℕ
-daysOf first s at = joinAll (replicate 64 0) first (map (bodyAt s) at)
+unfoldable pub daysOf : Bool → ℕ → List ℕ → List ℕ → List ℕ
+daysOf wish first s at = joinAll wish (replicate 64 0) first (map (bodyAt s) at)
 
 -- 14: "it is unknown where the account has no record or already a pending removal"
 abbrev pub isRemoval : Pending → Bool
@@ -64,9 +64,10 @@ abbrev pub putOver : List ℕ → List ℕ → Option Record → Option Record
 putOver x c none = some (record { number = x; live = none; pending = put c })
 putOver x c (some r) = some (record { number = r .number; live = r .live; pending = put c })
 
--- what a service makes of the record of its number
+-- What a service makes of the record of its number. A POP that a reading has accepted is good, whatever the wish, and then the old reading
+-- says the same of it (`good-old`); here and for 13 it is that one.
 unfoldable pub entry : ℕ → List ℕ → List ℕ → Service → Option Record → Option Record
-entry first s rows v = pick (v .removal) removed (putOver (numberIn s v) (daysOf first s (periodsOf rows v)))
+entry first s rows v = pick (v .removal) removed (putOver (numberIn s v) (daysOf true first s (periodsOf rows v)))
 
 -- 14, then the service enters
 unfoldable pub enterKnown : ℕ → List ℕ → List ℕ → Service → List Record → Answer (List Record)
@@ -83,12 +84,12 @@ unfoldable pub enter : ℕ → List ℕ → List ℕ → Service → List Record
 enter first s rows v rs =
     pick (isWrong s rows v) (wrongService (v .prd))
     (pick (isTwice s rows (bytesOf s (v .number)) (v .from)) (numberTwice (v .prd))
-    (enterInside (firstOutside first s (periodsOf rows v)) (enterKnown first s rows v rs)))
+    (enterInside (firstOutside true first s (periodsOf rows v)) (enterKnown first s rows v rs)))
 
 -- "services in order": each finds the records as those before it left them
 abbrev pub andThen : (List Record → Answer (List Record)) → Answer (List Record) → Answer (List Record)
 andThen more (done rs) = more rs
-andThen more (refused n at) = refused n at
+andThen more (refused refusal) = refused refusal
 
 unfoldable pub enterAll : ℕ → List ℕ → List ℕ → List Service → List Record → Answer (List Record)
 enterAll first s rows [] rs = done rs
@@ -96,7 +97,7 @@ enterAll first s rows (v ∷ vs) rs = andThen (enterAll first s rows vs) (enter 
 
 -- "then 15": "more records than the quota at the end", at the interchange's length
 abbrev pub closeBy : List ℕ → ℕ → View → Answer (List Record) → Called
-closeBy s count v (refused n at) = refusedCall v (refused n at)
+closeBy s count v (refused refusal) = refusedCall v (refused refusal)
 closeBy s count v (done rs) = pick (leb (length rs) (v .quota)) (record { answer = done count; records = rs }) (refusedCall v (overQuota (length s)))
 
 abbrev pub stageServices : List ℕ → List ℕ → List Service → View → Called
@@ -105,7 +106,7 @@ stageServices s rows vs v = closeBy s (length vs) v (enterAll (v .first) s rows 
 -- what the reader says first: 3 to 10
 abbrev pub stageBy : List ℕ → List ℕ → ℕ → Verdict → View → Called
 stageBy s rows n (done u) v = stageServices s rows (servicesOf s rows n) v
-stageBy s rows n (refused number at) v = refusedCall v (refused number at)
+stageBy s rows n (refused refusal) v = refusedCall v (refused refusal)
 
-unfoldable pub stageOf : List ℕ → View → Called
-stageOf s v = stageBy s (numbers (readingOf s .rows)) (length (readingOf s .rows)) (readingOf s .verdict) v
+unfoldable pub stageOf : Bool → List ℕ → View → Called
+stageOf wish s v = stageBy s (numbers (readingOf wish s .rows)) (length (readingOf wish s .rows)) (readingOf wish s .verdict) v

@@ -4,13 +4,14 @@ use Prim.Native.Nat.{ℕ, _+_, _-_, _*_, _/_, _≤_, _<_, min}
 use mathlib.Core.Path.{_≡_, refl, sym, ap, _∙_}
 use mathlib.Core.Bool.{Bool, true, false}
 use mathlib.Core.List.{List, [], _∷_}
+use Rattle.answers.specs.declared.Refusal.{Refusal}
 use native.Mathlib.Omega.{arith}
 use lib.Dec.{leb}
 use borrow.Author.Tests.{le-leb, lt-leb, leb-true, leb-false}
 use borrow.Rule.Slice.PartMut.{midOf, putMid}
 use lib.ListN.{length}
 use Rattle.laws.specs.Choice.{choose}
-use Rattle.answers.specs.Answers.{Answer, done, refused, notRegister, badAccount}
+use Rattle.answers.specs.Answers.{Answer, done, refused, notRegister, badAccount, naming}
 use Rattle.answers.specs.Laws.{done-is}
 use Rattle.slots.specs.Slots.{slotsOf}
 use Rattle.slots.specs.Rising.{leading}
@@ -84,11 +85,11 @@ module _ (room : List ℕ) (first : ℕ) (s rows : List ℕ) (n : ℕ) where
   pub room-unremoved : (u : Totals) → done u ≡ roomTests room first s rows n → u .removals ≡ 0 → removesIn s (servicesOf s rows n) room ≡ room
   room-unremoved u e q = none-removed first s rows (lookAt room) (servicesOf s rows n) noTotals u (sym e) q room
 
-  pub room-refused : (m at : ℕ) → refused m at ≡ roomTests room first s rows n → Left (roomTests room first s rows n) (refused m at) room
-  room-refused m at e = rw (← e) (refl, refl)
+  pub room-refused : (x : Refusal) → refused x ≡ roomTests room first s rows n → Left (roomTests room first s rows n) (refused x) room
+  room-refused x e = rw (← e) (refl, refl)
 
   module _ (u : Totals) (e : done u ≡ roomTests room first s rows n) (b : Bool) (f : b ≡ roomFits room u) where
-    pub room-over : b ≡ false → Left (roomTests room first s rows n) (refused 15 (length s)) room
+    pub room-over : b ≡ false → Left (roomTests room first s rows n) (refused (naming 15 (length s))) room
     room-over q = rw (← e, ← f, q) (refl, refl)
 
     pub room-done : b ≡ true → (mid last : List ℕ) → mid ≡ removesIn s (servicesOf s rows n) room → last ≡ putsIn first s rows (servicesOf s rows n) mid
@@ -107,10 +108,10 @@ module _ (room : List ℕ) (first : ℕ) (s rows : List ℕ) (n : ℕ) where
 
 -- ---- in a register
 
-stage-accepted : (s : List ℕ) (v : View) → readingOf s .verdict ≡ accepted
-    → stageOf s v ≡ stageServices s (numbers (readingOf s .rows)) (servicesOf s (numbers (readingOf s .rows)) (length (readingOf s .rows))) v
+stage-accepted : (wish : Bool) (s : List ℕ) (v : View) → readingOf wish s .verdict ≡ accepted
+    → stageOf wish s v ≡ stageServices s (numbers (readingOf wish s .rows)) (servicesOf s (numbers (readingOf wish s .rows)) (length (readingOf wish s .rows))) v
 unfolding stageOf
-stage-accepted s v q = ap (λ (x : Verdict). stageBy s (numbers (readingOf s .rows)) (length (readingOf s .rows)) x v) q
+stage-accepted wish s v q = ap (λ (x : Verdict). stageBy s (numbers (readingOf wish s .rows)) (length (readingOf wish s .rows)) x v) q
 
 module _ (b : List ℕ) (account : ℕ) (reg : isRegister b ≡ true) (acc : isAccount account ≡ true) where
   answer-is : (call : View → Answer ℕ) → answerOn b account call ≡ call (viewOf (held b) account)
@@ -121,15 +122,15 @@ module _ (b : List ℕ) (account : ℕ) (reg : isRegister b ≡ true) (acc : isA
   unfolding bytesAfter
   after-is call = rw (reg, acc)
 
-  module _ (s : List ℕ) (ok : readingOf s .verdict ≡ accepted) (first from to : ℕ) (e : first ≡ held b .first) (f : from ≡ roomStart b account) (t : to ≡ roomEnd b account) where
+  module _ (wish : Bool) (s : List ℕ) (ok : readingOf wish s .verdict ≡ accepted) (first from to : ℕ) (e : first ≡ held b .first) (f : from ≡ roomStart b account) (t : to ≡ roomEnd b account) where
     abbrev view : View
     view = viewOf (held b) account
 
     abbrev rows : List ℕ
-    rows = numbers (readingOf s .rows)
+    rows = numbers (readingOf wish s .rows)
 
     abbrev count : ℕ
-    count = length (readingOf s .rows)
+    count = length (readingOf wish s .rows)
 
     abbrev lent : List ℕ
     lent = midOf from (to - from) b
@@ -140,28 +141,28 @@ module _ (b : List ℕ) (account : ℕ) (reg : isRegister b ≡ true) (acc : isA
 
     -- what is answered and left in the room that is lent is what is answered and left in the register
     pub register-staged : (answer : Answer ℕ) (last : List ℕ)
-        → answer ≡ roomAnswer (midOf from (to - from) b) s (roomTests (midOf from (to - from) b) first s (numbers (readingOf s .rows)) (length (readingOf s .rows)))
-        → last ≡ roomAfter (midOf from (to - from) b) first s (numbers (readingOf s .rows)) (length (readingOf s .rows)) (roomTests (midOf from (to - from) b) first s (numbers (readingOf s .rows)) (length (readingOf s .rows)))
-        → (answer ≡ answerOn b account (λ v. stageOf s v .answer)) × (putMid from (to - from) b last ≡ bytesAfter b account (λ v. stageOf s v .records))
+        → answer ≡ roomAnswer (midOf from (to - from) b) s (roomTests (midOf from (to - from) b) first s (numbers (readingOf wish s .rows)) (length (readingOf wish s .rows)))
+        → last ≡ roomAfter (midOf from (to - from) b) first s (numbers (readingOf wish s .rows)) (length (readingOf wish s .rows)) (roomTests (midOf from (to - from) b) first s (numbers (readingOf wish s .rows)) (length (readingOf wish s .rows)))
+        → (answer ≡ answerOn b account (λ v. stageOf wish s v .answer)) × (putMid from (to - from) b last ≡ bytesAfter b account (λ v. stageOf wish s v .records))
     register-staged answer last a l =
         let room : List ℕ = roomBytes (view .quota) (view .records) in
         let same : lent ≡ room = lent-is b reg account acc from to f t in
-        let w = staged-room s rows count view (view-good b reg account acc) (reading-named s count) in
-        let c = ap (λ (x : Called). x .answer) (stage-accepted s view ok) in
-        let d = ap (λ (x : Called). x .records) (stage-accepted s view ok) in
+        let w = staged-room s rows count view (view-good b reg account acc) (reading-named wish s count) in
+        let c = ap (λ (x : Called). x .answer) (stage-accepted wish s view ok) in
+        let d = ap (λ (x : Called). x .records) (stage-accepted wish s view ok) in
         let move : (x : List ℕ) (y : ℕ) → lent ≡ x → first ≡ y → roomAnswer lent s (roomTests lent first s rows count) ≡ roomAnswer x s (roomTests x y s rows count) = λ x y p q. rw (p, q) in
         let keep : (x : List ℕ) (y : ℕ) → lent ≡ x → first ≡ y → roomAfter lent first s rows count (roomTests lent first s rows count) ≡ roomAfter x y s rows count (roomTests x y s rows count) = λ x y p q. rw (p, q) in (
-          a ∙ move room (view .first) same first-is ∙ w .0 ∙ sym c ∙ sym (answer-is (λ v. stageOf s v .answer)),
+          a ∙ move room (view .first) same first-is ∙ w .0 ∙ sym c ∙ sym (answer-is (λ v. stageOf wish s v .answer)),
           ap (putMid from (to - from) b) (l ∙ keep room (view .first) same first-is ∙ w .1 ∙ ap (roomBytes (view .quota)) (sym d))
-              ∙ lent-back b reg account acc from to f t (stageOf s view .records)
-              ∙ sym (after-is (λ v. stageOf s v .records)),
+              ∙ lent-back b reg account acc from to f t (stageOf wish s view .records)
+              ∙ sym (after-is (λ v. stageOf wish s v .records)),
         )
 
-    module _ (held-rows : List ℕ) (n : ℕ) (r : held-rows ≡ numbers (readingOf s .rows)) (k : n ≡ length (readingOf s .rows)) where
+    module _ (held-rows : List ℕ) (n : ℕ) (r : held-rows ≡ numbers (readingOf wish s .rows)) (k : n ≡ length (readingOf wish s .rows)) where
       pub rows-staged : (answer : Answer ℕ) (last : List ℕ)
           → answer ≡ roomAnswer (midOf from (to - from) b) s (roomTests (midOf from (to - from) b) first s held-rows n)
           → last ≡ roomAfter (midOf from (to - from) b) first s held-rows n (roomTests (midOf from (to - from) b) first s held-rows n)
-          → (answer ≡ answerOn b account (λ v. stageOf s v .answer)) × (putMid from (to - from) b last ≡ bytesAfter b account (λ v. stageOf s v .records))
+          → (answer ≡ answerOn b account (λ v. stageOf wish s v .answer)) × (putMid from (to - from) b last ≡ bytesAfter b account (λ v. stageOf wish s v .records))
       rows-staged answer last a l =
           let p : roomAnswer lent s (roomTests lent first s held-rows n) ≡ roomAnswer lent s (roomTests lent first s rows count) = rw (r, k) in
           let q : roomAfter lent first s held-rows n (roomTests lent first s held-rows n) ≡ roomAfter lent first s rows count (roomTests lent first s rows count) = rw (r, k) in
@@ -187,16 +188,16 @@ account-high account h k = rw (le-leb 1 account h, lt-leb account 8 k)
 pub account-some : (account : ℕ) → 1 ≤ account → account ≤ 8 → isAccount account ≡ true
 account-some account h k = rw (le-leb 1 account h, le-leb account 8 k)
 
-stage-refused : (s : List ℕ) (v : View) (m at : ℕ) → readingOf s .verdict ≡ refused m at → stageOf s v ≡ refusedCall v (refused m at)
+stage-refused : (wish : Bool) (s : List ℕ) (v : View) (x : Refusal) → readingOf wish s .verdict ≡ refused x → stageOf wish s v ≡ refusedCall v (refused x)
 unfolding stageOf
-stage-refused s v m at q = ap (λ (x : Verdict). stageBy s (numbers (readingOf s .rows)) (length (readingOf s .rows)) x v) q
+stage-refused wish s v x q = ap (λ (y : Verdict). stageBy s (numbers (readingOf wish s .rows)) (length (readingOf wish s .rows)) y v) q
 
 -- 3 to 10: what the reader refuses changes nothing
-pub read-stops : (b : List ℕ) (account : ℕ) → isRegister b ≡ true → isAccount account ≡ true → (s : List ℕ) (m at : ℕ) → readingOf s .verdict ≡ refused m at
-    → (refused m at ≡ answerOn b account (λ v. stageOf s v .answer)) × (b ≡ bytesAfter b account (λ v. stageOf s v .records))
-read-stops b account reg acc s m at q =
+pub read-stops : (b : List ℕ) (account : ℕ) → isRegister b ≡ true → isAccount account ≡ true → (wish : Bool) (s : List ℕ) (x : Refusal) → readingOf wish s .verdict ≡ refused x
+    → (refused x ≡ answerOn b account (λ v. stageOf wish s v .answer)) × (b ≡ bytesAfter b account (λ v. stageOf wish s v .records))
+read-stops b account reg acc wish s x q =
     let view : View = viewOf (held b) account in
-    let e = stage-refused s view m at q in (
-      sym (ap (λ (x : Called). x .answer) e) ∙ sym (answer-is b account reg acc (λ v. stageOf s v .answer)),
-      sym (after-is b account reg acc (λ v. stageOf s v .records) ∙ ap (λ (x : Called). written (withRecords (held b) account (x .records))) e ∙ written-back b reg account acc),
+    let e = stage-refused wish s view x q in (
+      sym (ap (λ (x : Called). x .answer) e) ∙ sym (answer-is b account reg acc (λ v. stageOf wish s v .answer)),
+      sym (after-is b account reg acc (λ v. stageOf wish s v .records) ∙ ap (λ (x : Called). written (withRecords (held b) account (x .records))) e ∙ written-back b reg account acc),
     )

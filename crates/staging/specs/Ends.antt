@@ -38,7 +38,7 @@ entry-size first s rows v o = by-kind (v .removal) o
     by-live r none = refl
     by-live r (some c) = refl
 
-    by-kind : (b : Bool) (o : Option Record) → countOf (pick b removed (putOver (numberIn s v) (daysOf first s (periodsOf rows v))) o) + drops b (knownOf o) ≡ countOf o + adds b (knownOf o)
+    by-kind : (b : Bool) (o : Option Record) → countOf (pick b removed (putOver (numberIn s v) (daysOf true first s (periodsOf rows v))) o) + drops b (knownOf o) ≡ countOf o + adds b (knownOf o)
     by-kind true none = refl
     by-kind true (some r) = by-live r (r .live)
     by-kind false none = refl
@@ -92,8 +92,8 @@ module _ (first : ℕ) (s rows : List ℕ) (n : ℕ) (fits : n ≤ length rows /
       (λ p.
       let z = passed-first first s rows (lookIn start) (service i) (rest k (i + 1)) t u (rw p at e) in
       let c = counted (service i .removal) (lookIn start (numberIn s (service i))) t in
-      let put = putOver (numberIn s (service i)) (daysOf first s (periodsOf rows (service i))) in
-      let keeps = put-keeps (numberIn s (service i)) (daysOf first s (periodsOf rows (service i))) in
+      let put = putOver (numberIn s (service i)) (daysOf true first s (periodsOf rows (service i))) in
+      let keeps = put-keeps (numberIn s (service i)) (daysOf true first s (periodsOf rows (service i))) in
       rw p
       (choose (service i .removal)
       (λ r.
@@ -133,7 +133,7 @@ module _ (first : ℕ) (s rows : List ℕ) (n : ℕ) (fits : n ≤ length rows /
 
 -- "then 15": what staging the services comes to, by the totals of their tests
 abbrev pub closeTotals : ℕ → List ℕ → List ℕ → List Service → View → Answer Totals → Called
-closeTotals first s rows vs v (refused m at) = refusedCall v (refused m at)
+closeTotals first s rows vs v (refused refusal) = refusedCall v (refused refusal)
 closeTotals first s rows vs v (done u) =
     pick (leb (length (v .records) + u .added) (v .quota + u .dropped))
     (record { answer = done (u .services); records = putAll first s rows vs (removeAll s vs (v .records)) })
@@ -157,7 +157,7 @@ module _ (s rows : List ℕ) (m : ℕ) (v : View) (w : inOrder (v .records) ≡ 
 
   close-by : (x : Answer Totals) → tests ≡ x
       → closeBy s (length all) v (finish x (entered (v .first) s rows all (v .records))) ≡ closeTotals (v .first) s rows all v x
-  close-by (refused k at) e = refl
+  close-by (refused refusal) e = refl
   close-by (done u) e =
       let z = entered-size (v .first) s rows n (omega arith) (v .records) (n - 0) 0 (v .records) noTotals u (omega arith) w (λ x y. refl) e in
       let r = removals-first (v .first) s rows n (omega arith) (v .records) (n - 0) 0 (v .records) noTotals u (omega arith) w e in

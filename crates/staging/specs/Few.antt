@@ -3,6 +3,8 @@
 use Prim.Native.Nat.{ℕ, zero, suc, _+_, _*_, _≤_}
 use mathlib.Core.Path.{_≡_, refl, sym, ap, _∙_}
 use mathlib.Core.List.{List}
+use mathlib.Core.Bool.{Bool}
+use Rattle.answers.specs.declared.Refusal.{Refusal}
 use native.Mathlib.Omega.{arith}
 use lib.Dec.{eqb, ltb}
 use borrow.Author.Tests.{ltb-false, le-ltb}
@@ -40,7 +42,7 @@ module _ (s : List ℕ) where
         let m = ih st (e + 1) (w .2) in
         let n = w .1 in
         omega arith
-    stepped e k (refused m p) q = omega arith
+    stepped e k (refused refusal) q = omega arith
 
     scanned : (x : Scanned) → segmentAt s at ≡ x → Few at (afterTurn (readOn f s) (turnScan tables s from at x))
     scanned (End e) k = stepped e k step refl
@@ -62,45 +64,45 @@ module _ (s : List ℕ) where
       (λ q. rw (p, q) (turned f (few-on f) st at h)))
       (λ p. choose (isClosed (st .phase)) (λ q. rw (p, q) (omega arith)) (λ q. rw (p, q) (omega arith)))
 
-  pub few-rows : 3 * length (readingOf s .rows) ≤ 45000
+  pub few-rows : (wish : Bool) → 3 * length (readingOf wish s .rows) ≤ 45000
   unfolding readingOf
-  few-rows =
+  few-rows wish =
       choose (wrongSize s) (λ p. rw p (omega arith))
       (λ p.
       let k = ltb-false 60000 (length s) (either-parts (eqb (length s) 0) (ltb 60000 (length s)) p .1) in
-      let w = few-on (length s + 1) openingState 0 (omega arith) in
+      let w = few-on (length s + 1) (openingState wish) 0 (omega arith) in
       rw p (omega arith))
 
 -- ---- what the reader answers where it is lent so much
 
 -- the number of rows of an accepted interchange, and its rows at the front of the buffer
-pub record Rows (s : List ℕ) (n : ℕ) (after : List ℕ) : Type 0 where
-  pub accepts : readingOf s .verdict ≡ accepted
-  pub count : length (readingOf s .rows) ≡ n
-  pub front : take (3 * n) after ≡ numbers (readingOf s .rows)
+pub record Rows (wish : Bool) (s : List ℕ) (n : ℕ) (after : List ℕ) : Type 0 where
+  pub accepts : readingOf wish s .verdict ≡ accepted
+  pub count : length (readingOf wish s .rows) ≡ n
+  pub front : take (3 * n) after ≡ numbers (readingOf wish s .rows)
 
 module _ (rows : List Row) (lent : List ℕ) (enough : 3 * length rows ≤ length lent) where
-  refused-by : (m at : ℕ) (v : Verdict) → verdictAnswer rows (length lent) v ≡ refused m at → v ≡ refused m at
-  refused-by m at (done u) q = absurd (done≢refused (rw (le-ltb (length lent) (3 * length rows) enough) at q))
-  refused-by m at (refused k to) q = refused-again ℕ (Unit {0}) k to m at q
+  refused-by : (x : Refusal) (v : Verdict) → verdictAnswer rows (length lent) v ≡ refused x → v ≡ refused x
+  refused-by x (done u) q = absurd (done≢refused (rw (le-ltb (length lent) (3 * length rows) enough) at q))
+  refused-by x (refused y) q = refused-again ℕ (Unit {0}) y x q
 
   rows-by : (n : ℕ) (v : Verdict) → verdictAnswer rows (length lent) v ≡ done n → (v ≡ accepted) × (length rows ≡ n) × (take (3 * n) (rowsBy rows lent v) ≡ numbers rows)
   rows-by n (done u) q =
       let c : length rows ≡ n = done-is (rw (le-ltb (length lent) (3 * length rows) enough) at q) in
       let l = length-numbers rows in
       (refl, c, take-put lent (numbers rows) (putAt lent 0 (numbers rows)) (3 * n) refl (omega arith) (omega arith))
-  rows-by n (refused k to) q = absurd (refused≢done q)
+  rows-by n (refused y) q = absurd (refused≢done q)
 
-module _ (s lent : List ℕ) (room : length lent ≡ 45000) where
-  pub read-refused : (m at : ℕ) → outcomeAnswer (readingOf s) (length lent) ≡ refused m at → readingOf s .verdict ≡ refused m at
+module _ (wish : Bool) (s lent : List ℕ) (room : length lent ≡ 45000) where
+  pub read-refused : (x : Refusal) → outcomeAnswer (readingOf wish s) (length lent) ≡ refused x → readingOf wish s .verdict ≡ refused x
   unfolding outcomeAnswer
-  read-refused m at q =
-      let k = few-rows s in
-      refused-by (readingOf s .rows) lent (omega arith) m at (readingOf s .verdict) q
+  read-refused x q =
+      let k = few-rows s wish in
+      refused-by (readingOf wish s .rows) lent (omega arith) x (readingOf wish s .verdict) q
 
-  pub read-rows : (n : ℕ) → outcomeAnswer (readingOf s) (length lent) ≡ done n → Rows s n (rowsAfter (readingOf s) lent)
+  pub read-rows : (n : ℕ) → outcomeAnswer (readingOf wish s) (length lent) ≡ done n → Rows wish s n (rowsAfter (readingOf wish s) lent)
   unfolding outcomeAnswer rowsAfter
   read-rows n q =
-      let k = few-rows s in
-      let w = rows-by (readingOf s .rows) lent (omega arith) n (readingOf s .verdict) q in
+      let k = few-rows s wish in
+      let w = rows-by (readingOf wish s .rows) lent (omega arith) n (readingOf wish s .verdict) q in
       record { accepts = w .0; count = w .1; front = w .2 }

@@ -2,6 +2,7 @@
 -- Assumes nothing.
 use Prim.Native.Nat.{ℕ}
 use mathlib.Core.List.{List, [], _∷_}
+use mathlib.Core.Bool.{true}
 use Rattle.laws.specs.Choice.{pick}
 use Rattle.services.specs.declared.Service.{Service}
 use Rattle.services.specs.Services.{periodsOf}
@@ -19,7 +20,7 @@ abbrev pub removeOne : List ℕ → Service → List Record → List Record
 removeOne s v rs = pick (v .removal) (changed (numberIn s v) removed rs) rs
 
 abbrev pub putOne : ℕ → List ℕ → List ℕ → Service → List Record → List Record
-putOne first s rows v rs = pick (v .removal) rs (changed (numberIn s v) (putOver (numberIn s v) (daysOf first s (periodsOf rows v))) rs)
+putOne first s rows v rs = pick (v .removal) rs (changed (numberIn s v) (putOver (numberIn s v) (daysOf true first s (periodsOf rows v))) rs)
 
 unfoldable pub removeAll : List ℕ → List Service → List Record → List Record
 removeAll s [] rs = rs

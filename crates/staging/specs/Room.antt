@@ -21,7 +21,7 @@ abbrev pub stagedAnswer : Staged → Answer ℕ
 stagedAnswer (staged.Done n) = done n
 stagedAnswer staged.NotRegister = notRegister
 stagedAnswer staged.NoAccount = badAccount
-stagedAnswer (staged.Refused x) = refused (x .number) (x .position)
+stagedAnswer (staged.Refused x) = refused x
 
 abbrev pub roomTests : List ℕ → ℕ → List ℕ → List ℕ → ℕ → Answer Totals
 roomTests room first s rows n = testAll first s rows (lookAt room) (servicesOf s rows n) noTotals
@@ -31,9 +31,9 @@ abbrev pub roomFits : List ℕ → Totals → Bool
 roomFits room u = leb (leading (slotsOf room) + u .added) (length room / 140 + u .dropped)
 
 abbrev pub roomAnswer : List ℕ → List ℕ → Answer Totals → Answer ℕ
-roomAnswer room s (refused m at) = refused m at
+roomAnswer room s (refused refusal) = refused refusal
 roomAnswer room s (done u) = pick (roomFits room u) (done (u .services)) (overQuota (length s))
 
 abbrev pub roomAfter : List ℕ → ℕ → List ℕ → List ℕ → ℕ → Answer Totals → List ℕ
-roomAfter room first s rows n (refused m at) = room
+roomAfter room first s rows n (refused refusal) = room
 roomAfter room first s rows n (done u) = pick (roomFits room u) (putsIn first s rows (servicesOf s rows n) (removesIn s (servicesOf s rows n) room)) room

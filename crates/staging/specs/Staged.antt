@@ -39,7 +39,7 @@ use Rattle.service_entries.specs.Rooms.{put-count, look-room, remove-room, remo
 module _ (quota : ℕ) (start : List Record) (g : goodAccount quota start ≡ true) (first : ℕ) (s rows : List ℕ) where
   then-same : (f h : Totals → Answer Totals) → ((t : Totals) → f t ≡ h t) → (x : Answer Totals) → thenTest f x ≡ thenTest h x
   then-same f h e (done t) = e t
-  then-same f h e (refused m at) = refl
+  then-same f h e (refused refusal) = refl
 
   one-room : (v : Service) (t : Totals) → (isWrong s rows v ≡ false → goodNumber (numberIn s v) ≡ true)
       → testOne first s rows (lookAt (roomBytes quota start)) v t ≡ testOne first s rows (lookIn start) v t
@@ -68,7 +68,7 @@ module _ (quota first : ℕ) (s rows : List ℕ) (look : List ℕ → Known) whe
       (λ q. rw q (removes-room vs rs _ u (n .1) (z .1) g))
 
   abbrev days : Service → List ℕ
-  days v = daysOf first s (periodsOf rows v)
+  days v = daysOf true first s (periodsOf rows v)
 
   -- no put takes a record out, so none comes in between that the quota does not hold in the end
   puts-room : (vs : List Service) (rs : List Record) (t u : Totals) → Named s rows vs → testAll first s rows look vs t ≡ done u → goodAccount quota rs ≡ true
@@ -79,7 +79,7 @@ module _ (quota first : ℕ) (s rows : List ℕ) (look : List ℕ → Known) whe
   puts-room (v ∷ vs) rs t u n e g l =
       let z = passed-first first s rows look v vs t u e in
       let x = n .0 (z .0 .right) in
-      let c = days-calendar first s (periodsOf rows v) in
+      let c = days-calendar true first s (periodsOf rows v) in
       choose (v .removal)
       (λ q. rw q (puts-room vs rs _ u (n .1) (z .1) g (rw q at l)))
       (λ q.
@@ -129,7 +129,7 @@ module _ (s rows : List ℕ) (m : ℕ) (v : View) (g : goodAccount (v .quota) (v
   Same x c = (roomAnswer room s x ≡ c .answer) × (roomAfter room (v .first) s rows m x ≡ roomBytes (v .quota) (c .records)) × (goodAccount (v .quota) (c .records) ≡ true)
 
   close-room : (x : Answer Totals) → testAll (v .first) s rows (lookIn (v .records)) (servicesOf s rows m) noTotals ≡ x → Same x (closeTotals (v .first) s rows (servicesOf s rows m) v x)
-  close-room (refused k at) e = (refl, refl, g)
+  close-room (refused refusal) e = (refl, refl, g)
   close-room (done u) e =
       choose (leb (length (v .records) + u .added) (v .quota + u .dropped))
       (λ p.

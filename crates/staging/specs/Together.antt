@@ -34,7 +34,7 @@ unknown-same (some r) = refl
 -- the records where the tests are passed
 abbrev pub finish : Answer Totals → List Record → Answer (List Record)
 finish (done t) rs = done rs
-finish (refused n at) rs = refused n at
+finish (refused refusal) rs = refused refusal
 
 window-same : (o : Option ℕ) (x : Answer (List Record)) (y : Answer Totals) (z : List Record) → x ≡ finish y z → enterInside o x ≡ finish (testInside o y) z
 window-same none x y z e = e
@@ -43,7 +43,7 @@ window-same (some at) x y z e = refl
 then-same : (x : Answer Totals) (enters : List Record → Answer (List Record)) (tests : Totals → Answer Totals) (ends : List Record → List Record) (rs : List Record)
     → ((t : Totals) → enters rs ≡ finish (tests t) (ends rs)) → andThen enters (finish x rs) ≡ finish (thenTest tests x) (ends rs)
 then-same (done t) enters tests ends rs h = h t
-then-same (refused m at) enters tests ends rs h = refl
+then-same (refused refusal) enters tests ends rs h = refl
 
 -- no service before row i has the number
 abbrev pub Unsaid : List ℕ → List ℕ → List ℕ → ℕ → Type 0
@@ -103,7 +103,7 @@ module _ (first : ℕ) (s rows : List ℕ) (n : ℕ) (fits : n ≤ length rows /
       choose (isTwice s rows (bytesOf s (service i .number)) (service i .from)) (λ q. rw (p, q))
       (λ q.
       rw (p, q)
-      (window-same (firstOutside first s (periodsOf rows (service i))) (enterKnown first s rows (service i) rs)
+      (window-same (firstOutside true first s (periodsOf rows (service i))) (enterKnown first s rows (service i) rs)
       (testKnown (service i .removal) (service i .prd) (lookIn start (numberIn s (service i))) t) (after i rs)
       (known-same i rs t (a (bytesOf s (service i .number)) (alone s rows n fits i h (bytesOf s (service i .number)) (own-row i q)))))))
 

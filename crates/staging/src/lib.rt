@@ -1,5 +1,6 @@
 //! Staging an interchange: its services enter an account's pending entries, all of them or none (document 01, "The register").
 
+use answers::Refusal;
 use checking::is_register;
 use interchange::reader::Reading;
 use interchange::reader::read;
@@ -12,9 +13,9 @@ use service_entries::remove_all;
 use service_tests::Tested;
 use service_tests::Totals;
 use service_tests::test_all;
-use syntax::segment::Refusal;
 ghost use mathlib.Core.Path.{_≡_};
-ghost use mathlib.Core.Bool.{true};
+ghost use mathlib.Core.Bool.{Bool, true};
+ghost use Prim.Native.Nat.{_*_, _≤_};
 ghost use lib.ListN.{length};
 ghost use Rattle.contents.specs.Written.{isRegister};
 ghost use Rattle.contents.specs.Calls.{isAccount, answerOn, bytesAfter};
@@ -79,6 +80,7 @@ fn stage_room(room: &mut [u8], first: usize, s: &[u8], rows: &[u32], n: usize) -
                 return Staged::Refused(Refusal {
                     number: 15,
                     position: s.len(),
+                    part: 0,
                 });
             }
             remove_any(room, s, rows, n, totals.removals);
@@ -92,11 +94,11 @@ fn stage_room(room: &mut [u8], first: usize, s: &[u8], rows: &[u32], n: usize) -
     }
 }
 
-// The same in a register, where the interchange is accepted and the buffer begins with its n rows.
+// The same in a register, where the buffer begins with the n rows of an interchange that is accepted, whatever the wish.
 fn stage_rows(b: &mut [u8], account: usize, s: &[u8], rows: &[u32], n: usize) -> Staged
-    requires { ⌜ (isRegister (now b) ≡ true) × (isAccount account ≡ true) × (length (now rows) ≡ 45000) × Rows (now s) n (now rows) ⌝ }
-    ensures told { λ r. ⌜ stagedAnswer r ≡ answerOn (now (b .entry)) account (λ v. stageOf (now (s .entry)) v .answer) ⌝ }
-    ensures left { λ _. ⌜ now (b .exit) ≡ bytesAfter (now (b .entry)) account (λ v. stageOf (now (s .entry)) v .records) ⌝ }
+    requires { ⌜ (isRegister (now b) ≡ true) × (isAccount account ≡ true) × (length (now rows) ≡ 45000) × (3 * n ≤ 45000) ⌝ }
+    ensures told { λ r. ⌜ ((wish : Bool) → Rows wish (now (s .entry)) n (now (rows .entry)) → stagedAnswer r ≡ answerOn (now (b .entry)) account (λ v. stageOf wish (now (s .entry)) v .answer)) ⌝ }
+    ensures left { λ _. ⌜ ((wish : Bool) → Rows wish (now (s .entry)) n (now (rows .entry)) → now (b .exit) ≡ bytesAfter (now (b .entry)) account (λ v. stageOf wish (now (s .entry)) v .records)) ⌝ }
 {
     let first = first_day(b);
     let from = room_start(b, account);
@@ -106,22 +108,23 @@ fn stage_rows(b: &mut [u8], account: usize, s: &[u8], rows: &[u32], n: usize) ->
 }
 
 // Reads the interchange, then stages it. 45,000 numbers hold the rows of 60,000 bytes, since a segment takes four.
-fn stage_read(b: &mut [u8], account: usize, s: &[u8]) -> Staged
+fn stage_read(b: &mut [u8], account: usize, s: &[u8], wish: bool) -> Staged
     requires { ⌜ (isRegister (now b) ≡ true) × (isAccount account ≡ true) ⌝ }
-    ensures told { λ r. ⌜ stagedAnswer r ≡ answerOn (now (b .entry)) account (λ v. stageOf (now (s .entry)) v .answer) ⌝ }
-    ensures left { λ _. ⌜ now (b .exit) ≡ bytesAfter (now (b .entry)) account (λ v. stageOf (now (s .entry)) v .records) ⌝ }
+    ensures told { λ r. ⌜ stagedAnswer r ≡ answerOn (now (b .entry)) account (λ v. stageOf wish (now (s .entry)) v .answer) ⌝ }
+    ensures left { λ _. ⌜ now (b .exit) ≡ bytesAfter (now (b .entry)) account (λ v. stageOf wish (now (s .entry)) v .records) ⌝ }
 {
     let mut rows = [0u32; 45000];
-    match read(s, &mut rows) {
+    match read(s, wish, &mut rows) {
         Reading::Rows(n) => stage_rows(b, account, s, &rows, n),
         Reading::Refused(refusal) => Staged::Refused(refusal),
     }
 }
 
-/// Stages an interchange in an account of a register: all its services enter as pending, or none, and then nothing changes.
-pub fn stage(b: &mut [u8], account: usize, interchange: &[u8]) -> Staged
-    ensures told { λ r. ⌜ stagedAnswer r ≡ answerOn (now (b .entry)) account (λ v. stageOf (now (interchange .entry)) v .answer) ⌝ }
-    ensures left { λ _. ⌜ now (b .exit) ≡ bytesAfter (now (b .entry)) account (λ v. stageOf (now (interchange .entry)) v .records) ⌝ }
+/// Stages an interchange in an account of a register: all its services enter as pending, or none, and then nothing changes. The wish is whether the
+/// caller asks for the old reading of a POP with neither form.
+pub fn stage(b: &mut [u8], account: usize, interchange: &[u8], wish: bool) -> Staged
+    ensures told { λ r. ⌜ stagedAnswer r ≡ answerOn (now (b .entry)) account (λ v. stageOf wish (now (interchange .entry)) v .answer) ⌝ }
+    ensures left { λ _. ⌜ now (b .exit) ≡ bytesAfter (now (b .entry)) account (λ v. stageOf wish (now (interchange .entry)) v .records) ⌝ }
 {
     if !is_register(b) {
         return Staged::NotRegister;
@@ -132,5 +135,5 @@ pub fn stage(b: &mut [u8], account: usize, interchange: &[u8]) -> Staged
     if 8 < account {
         return Staged::NoAccount;
     }
-    stage_read(b, account, interchange)
+    stage_read(b, account, interchange, wish)
 }

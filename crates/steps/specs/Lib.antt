@@ -1,3 +1,4 @@
 pub mod State
 pub mod Step
 pub mod Ways
+pub mod Parts

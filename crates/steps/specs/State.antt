@@ -14,8 +14,9 @@ use Rattle.steps.specs.declared.state.Phase.{Phase}
 use Rattle.steps.specs.declared.state.Phase.the-variants.{Opening, Between, Inside, Closed}
 use Rattle.steps.specs.declared.state.State.{State}
 
-abbrev pub openingState : State
-openingState =
+-- before the first byte; the wish is true where the caller asks for the old reading
+abbrev pub openingState : Bool → State
+openingState wish =
     record {
       phase = Opening;
       message = Skdupd;
@@ -26,6 +27,7 @@ openingState =
       «headed_at» = 0;
       reference = absent;
       place = startPlace;
+      wish = wish;
     }
 
 -- a count; no interchange of 60,000 bytes has 65,535 segments, so that none stops there
@@ -45,6 +47,7 @@ openedState st at p =
       «headed_at» = st .«headed_at»;
       reference = st .reference;
       place = st .place;
+      wish = st .wish;
     }
 
 -- a UIH has come, with its type and its reference
@@ -60,6 +63,7 @@ headedState st at message p =
       «headed_at» = at;
       reference = p;
       place = startPlace;
+      wish = st .wish;
     }
 
 -- another phase, other counts and another place; the type and what was written are as they were
@@ -75,6 +79,7 @@ withState st phase messages segments p =
       «headed_at» = st .«headed_at»;
       reference = st .reference;
       place = p;
+      wish = st .wish;
     }
 
 -- a segment of the message is placed

@@ -23,7 +23,7 @@ use Rattle.envelope.specs.declared.Headed.the-variants.{Message, Missing, Unkno
 use Rattle.envelope.specs.Envelope.{uibOf, uihOf, uitOf, uizOf}
 use Rattle.period.specs.declared.Period.{Period}
 use Rattle.period.specs.declared.Period.the-variants as period
-use Rattle.period.specs.Period.{periodOf}
+use Rattle.period.specs.Period.{periodOf, faultNumber}
 use Rattle.steps.specs.declared.state.Phase.{Phase}
 use Rattle.steps.specs.declared.state.Phase.the-variants.{Opening, Between, Inside, Closed}
 use Rattle.steps.specs.declared.state.State.{State}
@@ -39,7 +39,7 @@ pub data Taken : Type 0 where
 -- what each case answers
 abbrev pub stepAnswer : Step → Answer Taken
 stepAnswer (Next st r) = done (taken st r)
-stepAnswer (Refused x) = refused (x .number) (x .position)
+stepAnswer (Refused x) = refused x
 
 -- the row of the segment g at an offset, in a group
 abbrev pub rowOf : ℕ → List ℕ → ℕ → Row
@@ -75,15 +75,15 @@ unfoldable pub trailing : State → ℕ → List ℕ → List ℕ → Place → 
 trailing st at g reference p group =
     pick (uitOf g reference (oneMore (st .segments))) (done (taken (endedState st p) (rowOf at g group))) (wrongEnvelope at)
 
--- a period that is read
+-- a period that is read; where it is wrong, which part of it
 abbrev pub judged : State → ℕ → List ℕ → Place → ℕ → Period → Answer Taken
 judged st at g p group (period.Good f n form) = done (taken (onwardState st p) (rowOf at g group))
-judged st at g p group (period.Wrong x) = wrongPeriod at
+judged st at g p group (period.Wrong x) = wrongPeriod at (faultNumber x)
 
 unfoldable pub placed : State → ℕ → List ℕ → List ℕ → ℕ → Place → Answer Taken
 placed st at g reference group p =
     pick (eqb (tagNumber g) UIT) (trailing st at g reference p group)
-    (pick (isPeriod (st .message) (tagNumber g) group) (judged st at g p group (periodOf g)) (done (taken (onwardState st p) (rowOf at g group))))
+    (pick (isPeriod (st .message) (tagNumber g) group) (judged st at g p group (periodOf (st .wish) g)) (done (taken (onwardState st p) (rowOf at g group))))
 
 -- in a message a segment is tested for 9 first, so that UIT is tested for 9 before 7 and a further UIH, UIB or UIZ is not read
 abbrev pub settledStep : Table → State → ℕ → List ℕ → List ℕ → Stepped → Answer Taken

@@ -88,7 +88,7 @@ module _ (st : State) (at : ℕ) (g : List ℕ) where
     unfolding placed
     placed-uit h = rw (eq-eqb (tagNumber g) UIT h)
 
-    pub placed-period : (tagNumber g ≡ UIT → ⊥) → isPeriod (st .message) (tagNumber g) group ≡ true → judged st at g p group (periodOf g) ≡ placed st at g reference group p
+    pub placed-period : (tagNumber g ≡ UIT → ⊥) → isPeriod (st .message) (tagNumber g) group ≡ true → judged st at g p group (periodOf (st .wish) g) ≡ placed st at g reference group p
     unfolding placed
     placed-period h e = rw (ne-eqb (tagNumber g) UIT h, e)
 
@@ -112,7 +112,7 @@ whole g = rw sub-zero (take-length g)
 -- what a step answers fixes its case
 abbrev case : Answer Taken → Step
 case (done (taken st r)) = Next st r
-case (refused number position) = Refused (record { number = number; position = position })
+case (refused refusal) = Refused refusal
 
 back : (x : Step) → case (stepAnswer x) ≡ x
 back (Next st r) = refl

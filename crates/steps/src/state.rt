@@ -1,9 +1,9 @@
 //! Where a reading stands: numbers only, by value.
 
+use answers::Refusal;
 use messages::MessageType;
 use parts::Part;
 use placing::Place;
-use syntax::segment::Refusal;
 ghost use mathlib.Core.Path.{_≡_};
 ghost use Rattle.steps.specs.State.{oneMore, openingState, openedState, headedState, onwardState, endedState, closedState, movedState, withState};
 
@@ -35,6 +35,8 @@ pub struct State {
     pub headed_at: usize,
     pub reference: Part,
     pub place: Place,
+    /// Whether the caller asks for the old reading, in which a POP with neither form means every day.
+    pub wish: bool,
 }
 
 /// A row of the reading.
@@ -59,8 +61,8 @@ pub fn one_more(n: usize) -> usize
 
 impl State {
     /// Before the first byte.
-    pub fn opening() -> Self
-        ensures { λ r. ⌜ r ≡ openingState ⌝ }
+    pub fn opening(wish: bool) -> Self
+        ensures { λ r. ⌜ r ≡ openingState wish ⌝ }
     {
         let place = Place::start();
         State {
@@ -73,6 +75,7 @@ impl State {
             headed_at: 0,
             reference: Part { from: 0, to: 0 },
             place,
+            wish,
         }
     }
 
@@ -93,6 +96,7 @@ impl State {
             headed_at: self.headed_at,
             reference,
             place,
+            wish: self.wish,
         }
     }
 
@@ -112,6 +116,7 @@ impl State {
             headed_at: at,
             reference,
             place,
+            wish: self.wish,
         }
     }
 
@@ -132,6 +137,7 @@ impl State {
             headed_at: self.headed_at,
             reference,
             place,
+            wish: self.wish,
         }
     }
 

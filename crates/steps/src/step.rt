@@ -5,6 +5,7 @@ use crate::state::Row;
 use crate::state::State;
 use crate::state::Step;
 use crate::state::one_more;
+use answers::Refusal;
 use envelope::Headed;
 use envelope::Opened;
 use envelope::check_uit;
@@ -22,7 +23,6 @@ use period::read_period;
 use placing::Place;
 use placing::Stepped;
 use placing::tables::table_of;
-use syntax::segment::Refusal;
 use syntax::segment::tag_at;
 ghost use mathlib.Core.Path.{_≡_};
 ghost use Rattle.answers.specs.Answers as answers;
@@ -31,9 +31,13 @@ ghost use Rattle.period.specs.Period.{periodOf};
 ghost use Rattle.steps.specs.Step.{stepAnswer, rowOf, opening, headed, closing, betweenMessages, trailing, judged, placed, insideMessage, segmentStep};
 
 fn refused(number: u8, position: usize) -> Step
-    ensures { λ r. ⌜ stepAnswer r ≡ answers.refused number position ⌝ }
+    ensures { λ r. ⌜ stepAnswer r ≡ answers.refused (answers.naming number position) ⌝ }
 {
-    Step::Refused(Refusal { number, position })
+    Step::Refused(Refusal {
+        number,
+        position,
+        part: 0,
+    })
 }
 
 fn row(at: usize, segment: &[u8], group: u32) -> Row
@@ -119,15 +123,19 @@ fn end_message(
 
 // A period, placed.
 fn judge_period(st: State, at: usize, segment: &[u8], place: Place, group: u32) -> Step
-    ensures { λ r. ⌜ stepAnswer r ≡ judged st at (now (segment .entry)) place group (periodOf (now (segment .entry))) ⌝ }
+    ensures { λ r. ⌜ stepAnswer r ≡ judged st at (now (segment .entry)) place group (periodOf (st .wish) (now (segment .entry))) ⌝ }
 {
     let whole = Part {
         from: 0,
         to: segment.len(),
     };
-    match read_period(segment, whole) {
+    match read_period(segment, whole, st.wish) {
         Period::Good(_, _, _) => Step::Next(st.onward(place), row(at, segment, group)),
-        Period::Wrong(_) => refused(10, at),
+        Period::Wrong(fault) => Step::Refused(Refusal {
+            number: 10,
+            position: at,
+            part: fault.number(),
+        }),
     }
 }
 

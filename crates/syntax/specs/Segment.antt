@@ -6,8 +6,8 @@ use mathlib.Core.List.{List, [], _∷_}
 use lib.Dec.{leb, ltb}
 use lib.ListN.{length, getD, drop}
 use Rattle.laws.specs.Choice.{pick, both, all}
-use Rattle.answers.specs.Answers.{Answer, done, byteNotPermitted, inputEnds, wrongSegment, number, position}
-use Rattle.syntax.specs.declared.segment.Refusal.{Refusal}
+use Rattle.answers.specs.declared.Refusal.{Refusal}
+use Rattle.answers.specs.Answers.{Answer, done, naming, byteNotPermitted, inputEnds, wrongSegment, number, position}
 use Rattle.syntax.specs.declared.segment.Scanned.{Scanned}
 use Rattle.syntax.specs.declared.segment.Scanned.the-variants.{End, NotPermitted, Unended, Malformed}
 use Rattle.syntax.specs.Bytes.{terminator, permittedOf, plain}
@@ -72,7 +72,7 @@ scannedAnswer at Malformed = wrongSegment at
 
 -- and as the reader hands it on; 0 where the segment is whole
 abbrev pub refusalOf : ℕ → Scanned → Refusal
-refusalOf at x = record { number = number (scannedAnswer at x); position = position (scannedAnswer at x) }
+refusalOf at x = naming (number (scannedAnswer at x)) (position (scannedAnswer at x))
 
 -- "in it 4, 5, 6": what is answered of the body g of a segment at an offset, in an input of n bytes
 unfoldable pub bodyAnswer : ℕ → ℕ → List ℕ → Answer ℕ

@@ -11,6 +11,7 @@ use crate::ends::run_end;
 use crate::limits::Counts;
 use crate::marks::is_small;
 use crate::texts::text_end;
+use answers::Refusal;
 ghost use mathlib.Core.Path.{_≡_};
 ghost use mathlib.Core.Bool.{not};
 ghost use Prim.Native.Nat.{_+_, _≤_, _<_, min};
@@ -42,14 +43,8 @@ pub enum Quick {
     Unsure,
 }
 
-/// What document 01 answers: a number of its table, and a position in the input.
-pub struct Refusal {
-    pub number: u8,
-    pub position: usize,
-}
-
 impl Scanned {
-    /// Number and position of what was found at an offset; number 0 is no refusal.
+    /// The refusal of what was found at an offset; number 0 is none.
     pub fn refusal(self, at: usize) -> Refusal
         ensures { λ r. ⌜ r ≡ refusalOf at self ⌝ }
     {
@@ -57,18 +52,22 @@ impl Scanned {
             Scanned::End(_) => Refusal {
                 number: 0,
                 position: 0,
+                part: 0,
             },
             Scanned::NotPermitted(i) => Refusal {
                 number: 4,
                 position: i,
+                part: 0,
             },
             Scanned::Unended => Refusal {
                 number: 5,
                 position: at,
+                part: 0,
             },
             Scanned::Malformed => Refusal {
                 number: 6,
                 position: at,
+                part: 0,
             },
         }
     }

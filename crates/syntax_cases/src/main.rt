@@ -58,7 +58,7 @@ fn answer_segment(t: Text, at: usize) {
         return;
     }
     let refusal = found.refusal(at);
-    say_refusal(refusal.number, refusal.position);
+    say_refusal(refusal.number, refusal.position, refusal.part);
 }
 
 fn answer_part(t: Text, e: usize, o: usize, c: usize) {

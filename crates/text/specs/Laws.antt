@@ -11,6 +11,7 @@ use lib.ListN.{length, getD, take, drop, length-append, length-drop}
 use borrow.Author.Tests.{le-leb, lt-leb, leb-true, leb-false}
 use Rattle.laws.specs.Lists.{drop-here}
 use Rattle.laws.specs.Put.{putAt, put-no-room, put-none, put-behind, take-put, length-put}
+use Rattle.answers.specs.declared.Refusal.{Refusal}
 use Rattle.answers.specs.Answers.{Answer, done, refused, outputTooShort}
 use Rattle.answers.specs.Laws.{one-case}
 use Rattle.text.specs.declared.Written.{Written}
@@ -150,28 +151,46 @@ module _ (n : ℕ) (l o : List ℕ) where
       let k = leb-true (length (rowsText n l)) (length o - 17) t in
       text-written (tableText n l) o q m (omega arith) (omega arith) (put-behind o 0 heading (rowsText n l) 17 ep eq refl (omega arith) (omega arith))
 
-module _ (number position n : ℕ) (e : n ≡ length (pairText number position (10 ∷ []))) where
-  refusal-length : length (refusalText number position) ≡ 8 + n
-  unfolding refusalText
-  refusal-length = length-append refusalWord (pairText number position (10 ∷ [])) ∙ ap (λ (k : ℕ). 8 + k) (sym e)
+module _ (x : Refusal) (n k : ℕ) (e : n ≡ length (pairText (x .number) (x .position) (9 ∷ []))) (f : k ≡ length (decimalOf (x .part))) where
+  abbrev front : List ℕ
+  front = refusalWord ++ pairText (x .number) (x .position) (9 ∷ [])
 
-  pub refusal-refused : (o : List ℕ) → length o < 8 + n → (outputTooShort ≡ printedAnswer (refusalText number position) o) × (o ≡ putAt o 0 (refusalText number position))
-  refusal-refused o h = let k = refusal-length in text-refused (refusalText number position) o (omega arith)
+  front-length : length front ≡ 8 + n
+  front-length = length-append refusalWord (pairText (x .number) (x .position) (9 ∷ [])) ∙ ap (λ (j : ℕ). 8 + j) (sym e)
 
-  pub refusal-written : (o z : List ℕ) {p q r : List ℕ} → n ≤ 42 → p ≡ putAt z 0 refusalWord → length z ≡ 50 → q ≡ putAt p 8 (pairText number position (10 ∷ []))
-      → 8 + n ≤ length o → r ≡ putAt o 0 (take (8 + n) q)
-      → (done (8 + n) ≡ printedAnswer (refusalText number position) o) × (r ≡ putAt o 0 (refusalText number position))
+  part-length : length (front ++ decimalOf (x .part)) ≡ 8 + n + k
+  part-length = let l = front-length in length-append front (decimalOf (x .part)) ∙ omega arith
+
+  refusal-length : length (refusalText x) ≡ 9 + n + k
   unfolding refusalText
-  refusal-written o z {p} {q} {r} hn ep hz eq ho er =
-      let k = refusal-length in
-      let w = put-behind z 0 refusalWord (pairText number position (10 ∷ [])) 8 ep eq refl refl (omega arith) in
-      let t = take-put z (refusalText number position) q (8 + n) w (omega arith) (omega arith) in
-      text-written (refusalText number position) o r (8 + n) (omega arith) (omega arith) (er ∙ ap (putAt o 0) t)
+  refusal-length = let l = part-length in length-append (front ++ decimalOf (x .part)) (10 ∷ []) ∙ omega arith
+
+  pub refusal-refused : (o : List ℕ) → length o < 9 + n + k → (outputTooShort ≡ printedAnswer (refusalText x) o) × (o ≡ putAt o 0 (refusalText x))
+  refusal-refused o h = let l = refusal-length in text-refused (refusalText x) o (omega arith)
+
+  -- its fields, put one behind another into a line
+  pub refusal-put : (z : List ℕ) {p q r s : List ℕ} → n ≤ 42 → k ≤ 20 → length z ≡ 72 → p ≡ putAt z 0 refusalWord
+      → q ≡ putAt p 8 (pairText (x .number) (x .position) (9 ∷ [])) → r ≡ putAt q (8 + n) (decimalOf (x .part)) → s ≡ putAt r (8 + n + k) (10 ∷ [])
+      → s ≡ putAt z 0 (refusalText x)
+  unfolding refusalText
+  refusal-put z hn hk hz ep eq er es =
+      let l = front-length in
+      let m = part-length in
+      let a = put-behind z 0 refusalWord (pairText (x .number) (x .position) (9 ∷ [])) 8 ep eq refl refl (omega arith) in
+      let b = put-behind z 0 front (decimalOf (x .part)) (8 + n) a er refl (omega arith) (omega arith) in
+      put-behind z 0 (front ++ decimalOf (x .part)) (10 ∷ []) (8 + n + k) b es refl (omega arith) (omega arith)
+
+  pub refusal-written : (o z s : List ℕ) {r : List ℕ} → s ≡ putAt z 0 (refusalText x) → length z ≡ 72 → n ≤ 42 → k ≤ 20 → 9 + n + k ≤ length o
+      → r ≡ putAt o 0 (take (9 + n + k) s) → (done (9 + n + k) ≡ printedAnswer (refusalText x) o) × (r ≡ putAt o 0 (refusalText x))
+  refusal-written o z s {r} es hz hn hk ho er =
+      let l = refusal-length in
+      let t = take-put z (refusalText x) s (9 + n + k) es (omega arith) (omega arith) in
+      text-written (refusalText x) o r (9 + n + k) (omega arith) (omega arith) (er ∙ ap (putAt o 0) t)
 
 -- what a writer answers fixes its case
 abbrev case : Answer ℕ → Written
 case (done n) = Bytes n
-case (refused number position) = NoRoom
+case (refused refusal) = NoRoom
 
 back : (x : Written) → case (writtenAnswer x) ≡ x
 back (Bytes n) = refl

@@ -7,6 +7,7 @@ use lib.Dec.{leb}
 use lib.ListN.{length, getD}
 use Rattle.laws.specs.Choice.{pick}
 use Rattle.laws.specs.Text.{bytes}
+use Rattle.answers.specs.declared.Refusal.{Refusal}
 use Rattle.answers.specs.Answers.{Answer, done, outputTooShort}
 use Rattle.laws.specs.Decimal.{decimalOf}
 use Rattle.text.specs.declared.Written.{Written}
@@ -42,14 +43,14 @@ heading = bytes "offset\tgroup\ttag\n"
 abbrev pub tableText : ℕ → List ℕ → List ℕ
 tableText n rows = heading ++ rowsText n rows
 
--- "A refusal prints one line: `refused`, number, position."
+-- "A refusal prints one line: `refused`, number, position"; document 02, A2: "the printed line, which gains a fourth field", the part
 abbrev pub refusalWord : List ℕ
 refusalWord = bytes "refused\t"
 
-unfoldable pub refusalText : ℕ → ℕ → List ℕ
-refusalText number position = refusalWord ++ pairText number position (bytes "\n")
+unfoldable pub refusalText : Refusal → List ℕ
+refusalText x = refusalWord ++ pairText (x .number) (x .position) (bytes "\t") ++ decimalOf (x .part) ++ bytes "\n"
 
--- what each case answers: the bytes written, or number and position
+-- what each case answers: the bytes written, or the refusal
 abbrev pub writtenAnswer : Written → Answer ℕ
 writtenAnswer (Bytes n) = done n
 writtenAnswer NoRoom = outputTooShort

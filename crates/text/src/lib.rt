@@ -1,6 +1,7 @@
 //! What the printing program prints (document 01, "Printed whole"): the rows of a reading as a table, or the line of a refusal.
 //! Each text is tested for room first; one for which there is none leaves the lent bytes as they were.
 
+use answers::Refusal;
 use bytes::put_bytes;
 use bytes::put_decimal;
 use bytes::wide;
@@ -118,17 +119,25 @@ pub fn write_table(rows: &[u32], n: usize, out: &mut [u8]) -> Written
     Written::Bytes(put_rows(rows, n, out, 17))
 }
 
-/// The line of a refusal: its number and position.
-pub fn write_refusal(number: u8, position: usize, out: &mut [u8]) -> Written
-    ensures told { λ r. ⌜ writtenAnswer r ≡ printedAnswer (refusalText number position) (now (out .entry)) ⌝ }
-    ensures left { λ r. ⌜ now (out .exit) ≡ putAt (now (out .entry)) 0 (refusalText number position) ⌝ }
+/// The line of a refusal: its number, its position and its part.
+pub fn write_refusal(refusal: Refusal, out: &mut [u8]) -> Written
+    ensures told { λ r. ⌜ writtenAnswer r ≡ printedAnswer (refusalText refusal) (now (out .entry)) ⌝ }
+    ensures left { λ r. ⌜ now (out .exit) ≡ putAt (now (out .entry)) 0 (refusalText refusal) ⌝ }
 {
-    let mut line = [0u8; 50];
+    let mut line = [0u8; 72];
     put_bytes(&mut line, 0, b"refused\t");
-    let n = put_pair(&mut line, 8, number as usize, position, b"\n");
-    if out.len() < 8 + n {
+    let n = put_pair(
+        &mut line,
+        8,
+        refusal.number as usize,
+        refusal.position,
+        b"\t",
+    );
+    let k = put_decimal(&mut line, 8 + n, refusal.part as usize);
+    put_bytes(&mut line, 8 + n + k, b"\n");
+    if out.len() < 9 + n + k {
         return Written::NoRoom;
     }
-    put_first(out, 0, &line, 8 + n);
-    Written::Bytes(8 + n)
+    put_first(out, 0, &line, 9 + n + k);
+    Written::Bytes(9 + n + k)
 }

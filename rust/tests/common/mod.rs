@@ -1,13 +1,18 @@
 //! What the tests share: interchanges made from services, refusals by their numbers, chance from a seed.
 #![allow(dead_code)] // each test file uses its own part of it
 
-use drumcallisto::{Date, Number, Refusal};
+use drumcallisto::{Date, Number, Part, Refusal};
 
 pub const FIRST: Date = Date::new(2000, 8, 1); // a Tuesday
 pub const LAST: &str = "2001-12-25"; // the window's day 511
 
 pub fn refused(number: u8, position: usize) -> Refusal {
-    Refusal { number: Number::of(number).expect("a number of the table"), position }
+    Refusal { number: Number::of(number).expect("a number of the table"), position, part: None }
+}
+
+/// 10, with the part of the POP that is wrong.
+pub fn refused_part(part: u8, position: usize) -> Refusal {
+    Refusal { part: Some(Part::of(part).expect("a part of a POP")), ..refused(10, position) }
 }
 
 pub fn sample(name: &str) -> Vec<u8> {

@@ -8,7 +8,7 @@ use Rattle.desk.proofs.told.Tie as tie
 use Rattle.desk.proofs.told.Reads as reads
 use Rattle.desk.proofs.told.Lts as lts
 use Rattle.desk.proofs.done.Reads as done-reads
-use Rattle.desk.proofs.refused.Reads as refused-reads
+use Rattle.desk.proofs.replied.Reads as replied-reads
 
 -- src/lib.rt:48:23
 enum-known-reading : tie.Need-enum-known-reading
@@ -23,8 +23,8 @@ enum-known-reading-2 : tie.Need-enum-known-reading-2
 enum-known-reading-2 c = search needs
 
 -- src/lib.rt:49:38
-refused-requires : tie.Need-refused-requires
-refused-requires c κs = search needs
+replied-requires : tie.Need-replied-requires
+replied-requires c κs = search needs
 
 -- src/lib.rt:44:1
 returns : tie.Need-returns
@@ -32,7 +32,7 @@ returns c = c .done .ensures ∙ ap (λ (x : Reading). replyOf (readAnswer x)) (
 
 -- src/lib.rt:44:1
 returns-2 : tie.Need-returns-2
-returns-2 c = c .refused .ensures ∙ ap (λ (x : Reading). replyOf (readAnswer x)) (sym (c .before .before .reading2 .given .1))
+returns-2 c = c .replied .ensures ∙ ap (λ (x : Reading). replyOf (readAnswer x)) (sym (c .before .before .reading2 .given .1))
 
 pub told-spec : {M : Type 1} → statement M
 told-spec =
@@ -41,6 +41,6 @@ told-spec =
     enum-known-reading
     done-requires
     enum-known-reading-2
-    refused-requires
+    replied-requires
     returns
     returns-2)

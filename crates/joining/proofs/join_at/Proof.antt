@@ -1,6 +1,7 @@
 -- `join_at` meets its contract.
 -- Assumes nothing.
 use mathlib.Core.Path.{sym, ap, _∙_}
+use mathlib.Core.Bool.{true}
 use mathlib.Core.List.{List}
 use Prim.Native.Nat.{ℕ, _+_, _≤_, _<_}
 use native.Mathlib.Omega.{arith}
@@ -12,6 +13,7 @@ use Rattle.syntax.specs.Ends.{body-slice, end-within}
 use Rattle.parts.specs.Segments.{segment-body}
 use Rattle.period.specs.Period.{periodOf}
 use Rattle.period.specs.Pops.{PopKnown, pop-told}
+use Rattle.period.specs.Wishes.{good-old}
 use Rattle.period.specs.declared.Form.{Form}
 use Rattle.joining.specs.Joined.{windowDays, answered, daysJoined}
 use Rattle.joining.specs.Told.{good-told, join-said}
@@ -44,8 +46,8 @@ module _ (e : tie.After-end) where
   abbrev form : Form
   form = e .end .given .0 .1 .1 .1 .0
 
-  known : PopKnown list (start .args .at) end first n form
-  known = pop-told list (start .args .at) (sym (e .before .before .pop-at .ensures) ∙ e .end .given .1)
+  known : PopKnown (start .args .wish) list (start .args .at) end first n form
+  known = pop-told (start .args .wish) list (start .args .at) (sym (e .before .before .pop-at .ensures) ∙ e .end .given .1)
 
   within : (start .args .at + 3 ≤ end) × (end < length list)
   within = end-within list (start .args .at) end (known .segment)
@@ -62,7 +64,8 @@ part-join-form-end c = let w = within (c .before .before) in let l = w .0 in let
 join-form-requires : tie.Need-join-form-requires
 join-form-requires c κs =
     let e = c .before .before .before in
-    ap periodOf (body-slice (list e) (start e .args .at) (end e) (known e .segment)) ∙ known e .period
+    ap (periodOf true) (body-slice (list e) (start e .args .at) (end e) (known e .segment))
+    ∙ good-old (start e .args .wish) (bodyAt (list e) (start e .args .at)) (first e) (n e) (form e) (known e .period)
 
 enum-told : tie.Need-enum-told
 enum-told c = search needs
@@ -83,8 +86,8 @@ returns c =
     let a = start e .args in
     let k = j .join-form .ensures in
     let d = k .1 ∙ ap (λ (x : List ℕ). windowDays (now (a .days)) (a .origin) x (first e) (n e) (form e)) (body-slice (list e) (a .at) (end e) (known e .segment)) in
-    let w = good-told (now (a .days)) (a .origin) (bodyAt (list e) (a .at)) (known e .period) (k .0, d) in
-    (w, join-said (a .at) (length (now (a .days))) (a .origin) (bodyAt (list e) (a .at)) (w .0))
+    let w = good-told (a .wish) (now (a .days)) (a .origin) (bodyAt (list e) (a .at)) (known e .period) (k .0, d) in
+    (w, join-said (a .wish) (a .at) (length (now (a .days))) (a .origin) (bodyAt (list e) (a .at)) (w .0))
 
 same-length-2 : tie.Need-same-length-2
 same-length-2 c = search needs
@@ -96,8 +99,8 @@ returns-2 c =
     let a = g .before .before .before .before .before .before .before .args in
     let b = segment-body (now (a .s)) (a .at) (g .segment-at .result) (g .segment-at .ensures) in
     let k = j .join-period .ensures .0 in
-    let r = k .0 ∙ ap (answered (length (now (a .days))) (a .origin)) b in
-    ((r, k .1 ∙ ap (daysJoined (now (a .days)) (a .origin)) b), join-said (a .at) (length (now (a .days))) (a .origin) (bodyAt (now (a .s)) (a .at)) r)
+    let r = k .0 ∙ ap (answered (a .wish) (length (now (a .days))) (a .origin)) b in
+    ((r, k .1 ∙ ap (daysJoined (a .wish) (now (a .days)) (a .origin)) b), join-said (a .wish) (a .at) (length (now (a .days))) (a .origin) (bodyAt (now (a .s)) (a .at)) r)
 
 pub join-at-spec : {M : Type 1} → statement M
 join-at-spec =

@@ -1,6 +1,7 @@
 -- `mark_form` meets its contract.
 -- Assumes nothing.
 use mathlib.Core.Path.{refl}
+use mathlib.Core.Bool.{true}
 use Prim.Native.Nat.{_+_, _*_, _≤_}
 use native.Mathlib.Omega.{arith}
 use borrow.Author.Needs.{needs}
@@ -15,7 +16,7 @@ use Rattle.joining.proofs.mark_form.Tie as tie
 -- what marking asks of a good period's days
 bounded : (s : tie.Start) → (1 ≤ s .args .n) × (s .args .at + s .args .n ≤ 8 * length (now (s .args .days))) × (s .args .at + s .args .n ≤ 65536) × (s .args .first + s .args .n ≤ 65536)
 bounded s =
-    let b = good-bounds (now (s .args .g)) (s .args .first) (s .args .n) (s .args .form) (s .pre .2) in
+    let b = good-bounds true (now (s .args .g)) (s .args .first) (s .args .n) (s .args .form) (s .pre .2) in
     let i = b .inside in
     (b .some, s .pre .0, s .pre .1, omega arith)
 
@@ -70,7 +71,7 @@ returns-3 : tie.Need-returns-3
 returns-3 c =
     let s = c .before .before .before .before .before .before .before .before .before in
     let a = s .args in
-    let r = good-rising (now (a .g)) (a .first) (a .n) (a .form) (s .pre .2) in
+    let r = good-rising true (now (a .g)) (a .first) (a .n) (a .form) (s .pre .2) in
     marked-week (now (a .g)) (now (a .days)) (a .at) (a .first) (a .n) r (c .before .before .before .before .before .enum-told3 .given .1) refl (c .before .before .before .week-in .ensures) (c .before .before .mark-weekdays2 .ensures)
 
 pub mark-form-spec : {M : Type 1} → statement M

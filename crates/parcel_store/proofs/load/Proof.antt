@@ -41,20 +41,23 @@ number-at-requires-7 c κs = search needs
 number-at-requires-8 : tie.Need-number-at-requires-8
 number-at-requires-8 c κs = search needs
 
+number-at-requires-9 : tie.Need-number-at-requires-9
+number-at-requires-9 c κs = search needs
+
 final-of-requires : tie.Need-final-of-requires
 final-of-requires c κs = search needs
 
 returns : tie.Need-returns
 unfolding keptIn
 returns c =
-    let count = c .before .before .before in
+    let count = c .before .before .before .before in
     let reference = count .before in
     let dialogue = reference .before .before in
     let released = dialogue .before .before in
     let body = released .before in
     let offset = body .before .before in
     rw (offset .before .state-in .ensures, offset .number-at .ensures .0, body .length-of .ensures .0, released .number-at3 .ensures .0, dialogue .length-of2 .ensures .0, reference .length-of3 .ensures .0, count .number-at6 .ensures .0, c .final-of .ensures)
-    (rw (body .before .number-at2 .ensures .0, dialogue .before .number-at4 .ensures .0, reference .before .number-at5 .ensures .0, c .before .before .number-at7 .ensures .0, c .before .number-at8 .ensures .0))
+    (rw (body .before .number-at2 .ensures .0, dialogue .before .number-at4 .ensures .0, reference .before .number-at5 .ensures .0, c .before .before .before .number-at7 .ensures .0, c .before .before .number-at8 .ensures .0, c .before .number-at9 .ensures .0))
 
 pub load-spec : {M : Type 1} → statement M
 load-spec =
@@ -72,5 +75,6 @@ load-spec =
     number-at-requires-6
     number-at-requires-7
     number-at-requires-8
+    number-at-requires-9
     final-of-requires
     returns)

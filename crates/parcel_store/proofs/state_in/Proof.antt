@@ -25,11 +25,15 @@ number-at-requires-4 c κs = search needs
 place-in-requires : tie.Need-place-in-requires
 place-in-requires c κs = search needs
 
+number-at-requires-5 : tie.Need-number-at-requires-5
+number-at-requires-5 c κs = search needs
+
 returns : tie.Need-returns
 returns c =
-    let message = c .before .before .before in
+    let place = c .before in
+    let message = place .before .before .before in
     let phase = message .before .before in
-    rw (phase .phase-of .ensures, message .message-of .ensures, c .before .before .number-at3 .ensures .0, c .before .number-at4 .ensures .0, c .place-in .ensures)
+    rw (phase .phase-of .ensures, message .message-of .ensures, place .before .before .number-at3 .ensures .0, place .before .number-at4 .ensures .0, place .place-in .ensures, c .number-at5 .ensures .0)
     (rw (phase .before .number-at .ensures .0, message .before .number-at2 .ensures .0))
 
 pub state-in-spec : {M : Type 1} → statement M
@@ -43,4 +47,5 @@ state-in-spec =
     number-at-requires-3
     number-at-requires-4
     place-in-requires
+    number-at-requires-5
     returns)

@@ -11,7 +11,7 @@ refused-requires c κs = search needs
 
 returns : tie.Need-returns
 returns c =
-    begin-other (c .before .before .before .args .store .now) (parcelTold (c .refused .result)) (c .before .if1 .taken) (c .refused .ensures)
+    begin-other (c .before .before .before .args .wish) (c .before .before .before .args .store .now) (parcelTold (c .refused .result)) (c .before .if1 .taken) (c .refused .ensures)
 
 opening-requires : tie.Need-opening-requires
 opening-requires c κs = search needs
@@ -25,7 +25,7 @@ same-length c = search needs
 returns-2 : tie.Need-returns-2
 returns-2 c =
     let o = c .before .before .before .before in
-    begun (o .before .before .before .args .store .now) (o .opening .result) (c .before .before .save .last .0) (o .before .if1 .left) (o .opening .ensures) (c .before .before .save .ensures)
+    begun (o .before .before .before .args .wish) (o .before .before .before .args .store .now) (o .opening .result) (c .before .before .save .last .0) (o .before .if1 .left) (o .opening .ensures) (c .before .before .save .ensures)
 
 pub begin-spec : {M : Type 1} → statement M
 begin-spec =

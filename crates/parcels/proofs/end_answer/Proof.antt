@@ -6,7 +6,7 @@ use Prim.Native.Nat.{ℕ, _+_}
 use native.Mathlib.Omega.{arith}
 use lib.ListN.{length}
 use Rattle.syntax.specs.Segment.{bodyAnswer}
-use Rattle.interchange.specs.Reader.{faulty}
+use Rattle.answers.specs.Answers.{refused}
 use Rattle.parcels.specs.CallLaws.{length-body, end-none, end-cut, end-closed, end-early}
 use borrow.Author.Needs.{needs}
 use Rattle.parcels.proofs.end_answer.Statement.{statement}
@@ -39,7 +39,7 @@ returns-2 c =
     let t = c .before .before .before in
     let e = t .before .before in
     let i = e .before .before .before .before in
-    end-cut (i .args .kept) (i .args .store .now) (i .pre .0) (i .pre .1) (e .if1 .left) (faulty (c .cut-answer .result)) (t .if2 .taken)
+    end-cut (i .args .kept) (i .args .store .now) (i .pre .0) (i .pre .1) (e .if1 .left) (refused (c .cut-answer .result)) (t .if2 .taken)
     (c .cut-answer .ensures ∙ ap (λ (g : List ℕ). bodyAnswer (i .args .kept .offset + length g) (i .args .kept .offset) g) (c .before .bytes-of .ensures))
 
 is-closed-requires : tie.Need-is-closed-requires

@@ -39,8 +39,8 @@ returns-2 c =
     let a = c .before .before .before in
     let p = a .before .before .before .before in
     let i = p .before .before .before .before .before in
-    room-read (i .args .kept) (i .args .store .now) (replicate 12324 0) (i .args .parcel .now) (replicate 1 0) (i .args .room) (p .put-bytes .last .0) (a .advance .result) (a .advance .last .0)
-    (a .advance .last .1 .1 .1 .0) (p .put-bytes .ensures .1) (i .pre .0 ∙ sym (length-replicate {A = ℕ} 12324 0)) (a .advance .ensures)
+    room-read (i .args .kept) (i .args .store .now) (replicate 12328 0) (i .args .parcel .now) (replicate 1 0) (i .args .room) (p .put-bytes .last .0) (a .advance .result) (a .advance .last .0)
+    (a .advance .last .1 .1 .1 .0) (p .put-bytes .ensures .1) (i .pre .0 ∙ sym (length-replicate {A = ℕ} 12328 0)) (a .advance .ensures)
 
 pub has-room-spec : {M : Type 1} → statement M
 has-room-spec =

@@ -13,7 +13,7 @@ read-any-requires c κs = search needs
 returns : tie.Need-returns
 returns c =
     let a = c .before .before .args in
-    period-said (bytesOf (now (a .s)) (a .segment)) (c .read-any .ensures)
+    period-said (a .wish) (bytesOf (now (a .s)) (a .segment)) (c .read-any .ensures)
 
 pub read-period-spec : {M : Type 1} → statement M
 read-period-spec = tie.close (tie.spec read-any-requires returns)

@@ -13,10 +13,10 @@ use Rattle.period.proofs.read_pop.Tie as tie
 
 -- by what the scan found
 told : (r : tie.After-read-segment) (x : Scanned) → r .read-segment .result ≡ x
-    → popOf x (periodOf (bodyAt (now (r .before .before .args .s)) (r .before .before .args .at))) ≡ popAt (now (r .before .before .args .s)) (r .before .before .args .at)
+    → popOf x (periodOf (r .before .before .args .wish) (bodyAt (now (r .before .before .args .s)) (r .before .before .args .at))) ≡ popAt (r .before .before .args .wish) (now (r .before .before .args .s)) (r .before .before .args .at)
 told r x e =
     let a = r .before .before .args in
-    sym (pop-is (now (a .s)) (a .at) (sym (r .read-segment .ensures .0) ∙ e) refl)
+    sym (pop-is (a .wish) (now (a .s)) (a .at) (sym (r .read-segment .ensures .0) ∙ e) refl)
 
 read-segment-requires : tie.Need-read-segment-requires
 read-segment-requires c κs = search needs

@@ -22,10 +22,10 @@ module _ (r : tie.After-read-any) where
   abbrev list : List ℕ
   list = now (start .args .s)
 
-  told : (x : Period) → r .read-any .result ≡ x → popOf (End (start .args .end)) x ≡ popAt list (start .args .at)
+  told : (x : Period) → r .read-any .result ≡ x → popOf (End (start .args .end)) x ≡ popAt (start .args .wish) list (start .args .at)
   told x e =
-      sym (pop-is list (start .args .at) (start .pre)
-      (sym (ap periodOf (body-slice list (start .args .at) (start .args .end) (start .pre))) ∙ sym (r .read-any .ensures) ∙ e))
+      sym (pop-is (start .args .wish) list (start .args .at) (start .pre)
+      (sym (ap (periodOf (start .args .wish)) (body-slice list (start .args .at) (start .args .end) (start .pre))) ∙ sym (r .read-any .ensures) ∙ e))
 
 read-any-requires : tie.Need-read-any-requires
 read-any-requires c κs = search needs

@@ -8,10 +8,10 @@ use Rattle.pop_cases.proofs.join_all.Statement.{statement}
 use Rattle.pop_cases.proofs.join_all.Tie as tie
 
 abbrev Inv-loop : tie.InvT-loop
-Inv-loop days₀ origin line from at₀ days at = length days ≡ length days₀
+Inv-loop days₀ origin line from wish at₀ days at = length days ≡ length days₀
 
 abbrev μ-loop : tie.MeasureT-loop
-μ-loop days₀ origin line from at₀ days at = length line - at
+μ-loop days₀ origin line from wish at₀ days at = length line - at
 
 loop-holds : tie.Need-loop-holds Inv-loop μ-loop
 loop-holds c = search needs

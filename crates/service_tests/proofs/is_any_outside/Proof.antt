@@ -27,14 +27,14 @@ returns : tie.Need-returns
 returns c =
     let p = c .before .before in
     let a = p .before .before .before .args in
-    let e = period-read (now (a .s)) (a .at) (p .before .segment-at .result) (p .read-period .result) _ (p .before .segment-at .ensures) (p .read-period .ensures .0) (c .enum-told .given .1) in
+    let e = period-read (a .wish) (now (a .s)) (a .at) (p .before .segment-at .result) (p .read-period .result) _ (p .before .segment-at .ensures) (p .read-period .ensures .0) (c .enum-told .given .1) in
     sym (ap (outsideBy (a .first)) e)
 
 returns-2 : tie.Need-returns-2
 returns-2 c =
     let p = c .before .before .before .before in
     let a = p .before .before .before .args in
-    let e = period-read (now (a .s)) (a .at) (p .before .segment-at .result) (p .read-period .result) _ (p .before .segment-at .ensures) (p .read-period .ensures .0) (c .before .before .from .given .1) in
+    let e = period-read (a .wish) (now (a .s)) (a .at) (p .before .segment-at .result) (p .read-period .result) _ (p .before .segment-at .ensures) (p .read-period .ensures .0) (c .before .before .from .given .1) in
     c .is-past .ensures ∙ sym (ap (outsideBy (a .first)) e)
 
 pub is-any-outside-spec : {M : Type 1} → statement M

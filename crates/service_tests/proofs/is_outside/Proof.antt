@@ -27,7 +27,7 @@ returns : tie.Need-returns
 returns c =
     let p = c .before .before .before .before in
     let a = p .before .before .args in
-    let k = pop-told (now (a .s)) (a .at) (sym (p .pop-at .ensures) ∙ c .before .before .from .given .1) in
+    let k = pop-told (a .wish) (now (a .s)) (a .at) (sym (p .pop-at .ensures) ∙ c .before .before .from .given .1) in
     c .is-past .ensures ∙ sym (ap (outsideBy (a .first)) (k .period))
 
 returns-2 : tie.Need-returns-2

@@ -23,8 +23,8 @@ use Rattle.service_tests.proofs.join_window.Tie as tie
 
 abbrev Inv-loop : tie.InvT-loop
 Inv-loop days₀ first s rows from to i₀ carries₀ days i carries =
-    (firstOutside first s (periodsFrom rows i to) ≡ firstOutside first s (periodsFrom rows from to))
-    × (joinAll days first (map (bodyAt s) (periodsFrom rows i to)) ≡ joinAll days₀ first (map (bodyAt s) (periodsFrom rows from to)))
+    (firstOutside true first s (periodsFrom rows i to) ≡ firstOutside true first s (periodsFrom rows from to))
+    × (joinAll true days first (map (bodyAt s) (periodsFrom rows i to)) ≡ joinAll true days₀ first (map (bodyAt s) (periodsFrom rows from to)))
     × (length days ≡ length days₀)
     × (either carries (anyOf (periodsFrom rows i to)) ≡ anyOf (periodsFrom rows from to))
 
@@ -80,7 +80,7 @@ returns c =
     let t = c .before .before .before in
     let a = start t .args in (
       (
-        outside-here (a .first) (now (a .s)) (periodsFrom (now (a .rows)) (own t .loop .i) (a .to)) (at t) (periodsFrom (now (a .rows)) (row t + 1) (a .to)) (next t .rest) (sym (t .join-one .ensures .0) ∙ c .if1 .taken)
+        outside-here true (a .first) (now (a .s)) (periodsFrom (now (a .rows)) (own t .loop .i) (a .to)) (at t) (periodsFrom (now (a .rows)) (row t + 1) (a .to)) (next t .rest) (sym (t .join-one .ensures .0) ∙ c .if1 .taken)
             ∙ own t .loop .inv .0,
         came t ∙ any-period (now (a .rows)) (a .from) (a .to),
       ),
@@ -102,7 +102,7 @@ loop-again c =
     let t = c .before .before .before in
     let a = start t .args in
     let v = own t .loop .inv in (
-      outside-on (a .first) (now (a .s)) (periodsFrom (now (a .rows)) (own t .loop .i) (a .to)) (at t) (periodsFrom (now (a .rows)) (row t + 1) (a .to)) (next t .rest) (sym (t .join-one .ensures .0) ∙ c .if1 .left)
+      outside-on true (a .first) (now (a .s)) (periodsFrom (now (a .rows)) (own t .loop .i) (a .to)) (at t) (periodsFrom (now (a .rows)) (row t + 1) (a .to)) (next t .rest) (sym (t .join-one .ensures .0) ∙ c .if1 .left)
           ∙ v .0,
       join-next (a .first) (now (a .s)) (periodsFrom (now (a .rows)) (own t .loop .i) (a .to)) (own t .loop .days) (t .join-one .last .0) (at t) (periodsFrom (now (a .rows)) (row t + 1) (a .to)) (next t .rest) (t .join-one .ensures .1)
           ∙ v .1,
@@ -123,10 +123,10 @@ returns-2 c =
     let a = o .before .before .before .before .args in
     let g = period-gone (now (a .rows)) (o .loop .i) (a .to) (sym (n .next-period .ensures) ∙ c .enum-told .given .1) in (
       (
-        outside-none (a .first) (now (a .s)) (periodsFrom (now (a .rows)) (o .loop .i) (a .to)) g ∙ o .loop .inv .0,
+        outside-none true (a .first) (now (a .s)) (periodsFrom (now (a .rows)) (o .loop .i) (a .to)) g ∙ o .loop .inv .0,
         any-done (o .loop .carries) (periodsFrom (now (a .rows)) (o .loop .i) (a .to)) (anyOf (periodsFrom (now (a .rows)) (a .from) (a .to))) (o .loop .inv .3) g ∙ any-period (now (a .rows)) (a .from) (a .to),
       ),
-      λ q. sym (join-none (a .first) (now (a .s)) (periodsFrom (now (a .rows)) (o .loop .i) (a .to)) (o .loop .days) g) ∙ o .loop .inv .1,
+      λ q. sym (join-none true (a .first) (now (a .s)) (periodsFrom (now (a .rows)) (o .loop .i) (a .to)) (o .loop .days) g) ∙ o .loop .inv .1,
     )
 
 pub join-window-spec : {M : Type 1} → statement M

@@ -2,6 +2,7 @@
 -- Assumes nothing.
 use mathlib.Core.Path.{_≡_, refl, sym, ap, subst, _∙_}
 use mathlib.Core.List.{List, _∷_, _++_}
+use mathlib.Core.Bool.{true}
 use Prim.Native.Nat.{ℕ, _-_, _≤_, _<_}
 use native.Mathlib.Omega.{arith}
 use borrow.Author.Needs.{needs}
@@ -86,7 +87,7 @@ module _ (o : tie.After-test-one Inv-loop μ-loop) where
       ∙ one-tested (now (a .s)) (now (a .rows)) (service at) (a .first) (lookAt (now (a .room))) (own at .loop .totals)
       (sym (sym (numbered o .test-number .ensures .0) ∙ ap services.testedAnswer (o .before .before .before .enum-told .given .1))) (windowFound (j .join-days .result .walk .window)) (j .join-days .ensures .0 .0)
 
-  days-joined : (u : Totals) → totalsAnswer (o .test-one .result) ≡ done u → joined (numbered o) .join-days .result .days ≡ daysOf (start at .args .first) (now (start at .args .s)) (periodsOf (now (start at .args .rows)) (service at))
+  days-joined : (u : Totals) → totalsAnswer (o .test-one .result) ≡ done u → joined (numbered o) .join-days .result .days ≡ daysOf true (start at .args .first) (now (start at .args .s)) (periodsOf (now (start at .args .rows)) (service at))
   days-joined u e =
       let j = joined (numbered o) in
       let a = start at .args in
@@ -190,9 +191,9 @@ returns c =
     let a = start f .args in
     let x = r .refusal .given .0 .0 in
     let e = sym (ap totalsAnswer (r .refusal .given .1)) ∙ tested o in (
-      all-stop (a .first) (now (a .s)) (now (a .rows)) (lookAt (now (a .room))) (remaining f) (own f .loop .totals) (service f) (rest f) (next f .rest) (x .number) (x .position) e
+      all-stop (a .first) (now (a .s)) (now (a .rows)) (lookAt (now (a .room))) (remaining f) (own f .loop .totals) (service f) (rest f) (next f .rest) x e
           ∙ own f .loop .inv .2,
-      sym (orders-stop (a .first) (now (a .s)) (now (a .rows)) (lookAt (now (a .room))) (remaining f) (own f .loop .totals) (own f .loop .orders) (service f) (rest f) (next f .rest) (x .number) (x .position) e)
+      sym (orders-stop (a .first) (now (a .s)) (now (a .rows)) (lookAt (now (a .room))) (remaining f) (own f .loop .totals) (own f .loop .orders) (service f) (rest f) (next f .rest) x e)
           ∙ own f .loop .inv .3,
     )
 
@@ -209,11 +210,11 @@ returns-2 c =
     let f = found t in
     let a = start f .args in
     let x = r .refusal2 .given .0 .0 in
-    let e = one-refused (now (a .s)) (now (a .rows)) (service f) (a .first) (lookAt (now (a .room))) (own f .loop .totals) (x .number) (x .position)
+    let e = one-refused (now (a .s)) (now (a .rows)) (service f) (a .first) (lookAt (now (a .room))) (own f .loop .totals) x
     (sym (ap services.testedAnswer (r .refusal2 .given .1)) ∙ t .test-number .ensures .0) in (
-      all-stop (a .first) (now (a .s)) (now (a .rows)) (lookAt (now (a .room))) (remaining f) (own f .loop .totals) (service f) (rest f) (next f .rest) (x .number) (x .position) e
+      all-stop (a .first) (now (a .s)) (now (a .rows)) (lookAt (now (a .room))) (remaining f) (own f .loop .totals) (service f) (rest f) (next f .rest) x e
           ∙ own f .loop .inv .2,
-      sym (orders-stop (a .first) (now (a .s)) (now (a .rows)) (lookAt (now (a .room))) (remaining f) (own f .loop .totals) (own f .loop .orders) (service f) (rest f) (next f .rest) (x .number) (x .position) e)
+      sym (orders-stop (a .first) (now (a .s)) (now (a .rows)) (lookAt (now (a .room))) (remaining f) (own f .loop .totals) (own f .loop .orders) (service f) (rest f) (next f .rest) x e)
           ∙ own f .loop .inv .3,
     )
 

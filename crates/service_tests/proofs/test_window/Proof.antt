@@ -14,10 +14,10 @@ use Rattle.service_tests.proofs.test_window.Statement.{statement}
 use Rattle.service_tests.proofs.test_window.Tie as tie
 
 abbrev Inv-loop : tie.InvT-loop
-Inv-loop first s rows from to i₀ i = firstOutside first s (periodsFrom rows i to) ≡ firstOutside first s (periodsFrom rows from to)
+Inv-loop first s rows from to wish i₀ i = firstOutside wish first s (periodsFrom rows i to) ≡ firstOutside wish first s (periodsFrom rows from to)
 
 abbrev μ-loop : tie.MeasureT-loop
-μ-loop first s rows from to i₀ i = rowCount rows to - i
+μ-loop first s rows from to wish i₀ i = rowCount rows to - i
 
 -- the POP that was found
 module _ (t : tie.After-is-outside Inv-loop μ-loop) where
@@ -54,7 +54,7 @@ returns : tie.Need-returns Inv-loop μ-loop
 returns c =
     let t = c .before in
     let a = start t .args in
-    outside-here (a .first) (now (a .s)) (periodsFrom (now (a .rows)) (own t .loop .i) (a .to)) (at t) (periodsFrom (now (a .rows)) (row t + 1) (a .to)) (next t .rest) (sym (t .is-outside .ensures) ∙ c .if1 .taken)
+    outside-here (a .wish) (a .first) (now (a .s)) (periodsFrom (now (a .rows)) (own t .loop .i) (a .to)) (at t) (periodsFrom (now (a .rows)) (row t + 1) (a .to)) (next t .rest) (sym (t .is-outside .ensures) ∙ c .if1 .taken)
     ∙ own t .loop .inv
 
 add-i : tie.Need-add-i Inv-loop μ-loop
@@ -71,7 +71,7 @@ loop-again : tie.Need-loop-again Inv-loop μ-loop
 loop-again c =
     let t = c .before in
     let a = start t .args in
-    outside-on (a .first) (now (a .s)) (periodsFrom (now (a .rows)) (own t .loop .i) (a .to)) (at t) (periodsFrom (now (a .rows)) (row t + 1) (a .to)) (next t .rest) (sym (t .is-outside .ensures) ∙ c .if1 .left)
+    outside-on (a .wish) (a .first) (now (a .s)) (periodsFrom (now (a .rows)) (own t .loop .i) (a .to)) (at t) (periodsFrom (now (a .rows)) (row t + 1) (a .to)) (next t .rest) (sym (t .is-outside .ensures) ∙ c .if1 .left)
     ∙ own t .loop .inv
 
 enum-told : tie.Need-enum-told Inv-loop μ-loop
@@ -82,7 +82,7 @@ returns-2 c =
     let n = c .before .before in
     let o = n .before in
     let a = o .before .before .before .args in
-    outside-none (a .first) (now (a .s)) (periodsFrom (now (a .rows)) (o .loop .i) (a .to)) (period-gone (now (a .rows)) (o .loop .i) (a .to) (sym (n .next-period .ensures) ∙ c .enum-told .given .1))
+    outside-none (a .wish) (a .first) (now (a .s)) (periodsFrom (now (a .rows)) (o .loop .i) (a .to)) (period-gone (now (a .rows)) (o .loop .i) (a .to) (sym (n .next-period .ensures) ∙ c .enum-told .given .1))
     ∙ o .loop .inv
 
 pub test-window-spec : {M : Type 1} → statement M

@@ -19,7 +19,7 @@ returns : tie.Need-returns
 returns c =
     let r = c .before in
     let a = r .before .before .before .before .args in
-    not-register (now (a .b)) (a .account) (λ v. stageOf (now (a .interchange)) v .answer) (λ v. stageOf (now (a .interchange)) v .records)
+    not-register (now (a .b)) (a .account) (λ v. stageOf (a .wish) (now (a .interchange)) v .answer) (λ v. stageOf (a .wish) (now (a .interchange)) v .records)
     (sym (r .is-register .ensures) ∙ not-true (r .is-register .result) (c .if1 .taken))
 
 same-length-2 : tie.Need-same-length-2
@@ -29,7 +29,7 @@ returns-2 : tie.Need-returns-2
 returns-2 c =
     let r = c .before .before in
     let a = r .before .before .before .before .args in
-    no-account (now (a .b)) (a .account) (λ v. stageOf (now (a .interchange)) v .answer) (λ v. stageOf (now (a .interchange)) v .records)
+    no-account (now (a .b)) (a .account) (λ v. stageOf (a .wish) (now (a .interchange)) v .answer) (λ v. stageOf (a .wish) (now (a .interchange)) v .records)
     (sym (r .is-register .ensures) ∙ not-false (r .is-register .result) (c .before .if1 .left)) (account-low (a .account) (c .if2 .taken))
 
 same-length-3 : tie.Need-same-length-3
@@ -39,7 +39,7 @@ returns-3 : tie.Need-returns-3
 returns-3 c =
     let r = c .before .before .before in
     let a = r .before .before .before .before .args in
-    no-account (now (a .b)) (a .account) (λ v. stageOf (now (a .interchange)) v .answer) (λ v. stageOf (now (a .interchange)) v .records)
+    no-account (now (a .b)) (a .account) (λ v. stageOf (a .wish) (now (a .interchange)) v .answer) (λ v. stageOf (a .wish) (now (a .interchange)) v .records)
     (sym (r .is-register .ensures) ∙ not-false (r .is-register .result) (c .before .before .if1 .left)) (account-high (a .account) (c .before .if2 .left) (c .if3 .taken))
 
 stage-read-requires : tie.Need-stage-read-requires

@@ -78,7 +78,7 @@ returns-3 c =
     let x = r .before .before .before in
     let a = x .before .before .before .before .before .before .args in
     let y = r .refusal .given .0 .0 in
-    room-refused (now (a .room)) (a .first) (now (a .s)) (now (a .rows)) (a .n) (y .number) (y .position) (sym (ap totalsAnswer (r .refusal .given .1)) ∙ x .test-all .ensures .0)
+    room-refused (now (a .room)) (a .first) (now (a .s)) (now (a .rows)) (a .n) y (sym (ap totalsAnswer (r .refusal .given .1)) ∙ x .test-all .ensures .0)
 
 same-length-4 : tie.Need-same-length-4
 same-length-4 c = search needs

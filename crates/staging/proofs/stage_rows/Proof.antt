@@ -1,15 +1,19 @@
 -- `stage_rows` meets its contract.
 -- Assumes nothing.
-use mathlib.Core.Path.{sym}
-use Prim.Native.Nat.{_*_}
+use mathlib.Core.Path.{_≡_, sym}
+use mathlib.Core.Bool.{Bool}
+use Prim.Native.Nat.{_-_, _*_}
 use native.Mathlib.Omega.{arith}
 use borrow.Author.Needs.{needs}
+use borrow.Rule.Slice.PartMut.{putMid}
 use denote.Ref.{now}
 use lib.ListN.{take}
 use lib.Seq.{length-take-le}
+use Rattle.contents.specs.Calls.{answerOn, bytesAfter}
 use Rattle.rooms.specs.Views.{room-from, room-within}
+use Rattle.stages.specs.Stage.{stageOf}
 use Rattle.staging.specs.Room.{stagedAnswer}
-use Rattle.staging.specs.Few.{few-rows}
+use Rattle.staging.specs.Few.{Rows}
 use Rattle.staging.specs.Closing.{rows-staged}
 use Rattle.staging.proofs.stage_rows.Statement.{statement}
 use Rattle.staging.proofs.stage_rows.Tie as tie
@@ -25,9 +29,7 @@ room-end-requires c κs = search needs
 
 mul-end : tie.Need-mul-end
 mul-end c =
-    let i = c .before .before .before .before .before .before .before .before .before in
-    let n = i .pre .3 .count in
-    let h = few-rows (now (i .args .s)) in
+    let h = c .before .before .before .before .before .before .before .before .before .pre .3 in
     omega arith
 
 sub-stage-room : tie.Need-sub-stage-room
@@ -57,8 +59,7 @@ slice-aggregate-stage-room : tie.Need-slice-aggregate-stage-room
 slice-aggregate-stage-room c =
     let i = c .before .before .before .before .before .before .before .before .before .before .before in
     let l = i .pre .2 in
-    let n = i .pre .3 .count in
-    let h = few-rows (now (i .args .s)) in
+    let h = i .pre .3 in
     sym (length-take-le (3 * i .args .n) (now (i .args .rows)) (omega arith))
 
 stage-room-requires : tie.Need-stage-room-requires
@@ -67,16 +68,34 @@ stage-room-requires c κs = search needs
 same-length : tie.Need-same-length
 same-length c = search needs
 
+-- what the room came to
+module _ (p : tie.After-stage-room) where
+  abbrev to : tie.After-room-end
+  to = p .before .before .before
+
+  abbrev from : tie.After-room-start
+  from = to .before .before
+
+  abbrev first : tie.After-first-day
+  first = from .before .before
+
+  abbrev start : tie.Start
+  start = first .before .before .before .before .before
+
+  staged : (wish : Bool) → Rows wish (now (start .args .s)) (start .args .n) (now (start .args .rows))
+      → (stagedAnswer (p .stage-room .result) ≡ answerOn (now (start .args .b)) (start .args .account) (λ v. stageOf wish (now (start .args .s)) v .answer))
+      × (putMid (from .room-start .result) (to .room-end .result - from .room-start .result) (now (start .args .b)) (p .stage-room .last .0)
+      ≡ bytesAfter (now (start .args .b)) (start .args .account) (λ v. stageOf wish (now (start .args .s)) v .records))
+  staged wish w =
+      rows-staged (now (start .args .b)) (start .args .account) (start .pre .0) (start .pre .1) wish (now (start .args .s)) (w .accepts)
+      (first .first-day .result) (from .room-start .result) (to .room-end .result) (first .first-day .ensures) (from .room-start .ensures) (to .room-end .ensures)
+      (take (3 * start .args .n) (now (start .args .rows))) (start .args .n) (w .front) (sym (w .count))
+      (stagedAnswer (p .stage-room .result)) (p .stage-room .last .0) (p .stage-room .ensures .0) (p .stage-room .ensures .1)
+
 returns : tie.Need-returns
 returns c =
     let p = c .before .before in
-    let e = p .before .before .before in
-    let s = e .before .before in
-    let d = s .before .before in
-    let i = d .before .before .before .before .before in
-    rows-staged (now (i .args .b)) (i .args .account) (i .pre .0) (i .pre .1) (now (i .args .s)) (i .pre .3 .accepts) (d .first-day .result) (s .room-start .result) (e .room-end .result)
-    (d .first-day .ensures) (s .room-start .ensures) (e .room-end .ensures) (take (3 * i .args .n) (now (i .args .rows))) (i .args .n) (i .pre .3 .front) (sym (i .pre .3 .count))
-    (stagedAnswer (p .stage-room .result)) (p .stage-room .last .0) (p .stage-room .ensures .0) (p .stage-room .ensures .1)
+    (λ wish w. staged p wish w .0, λ wish w. staged p wish w .1)
 
 pub stage-rows-spec : {M : Type 1} → statement M
 stage-rows-spec =

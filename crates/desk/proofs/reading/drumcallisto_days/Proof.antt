@@ -23,8 +23,8 @@ returns : tie.Need-returns
 returns c =
     let a = c .before .before .before .before .before .args in
     let s = now (a .s) in
-    let p = periodsFrom (now (a .rows)) (a .from) (a .to) in
-    let w = not-64 s p (dayDate (a .first)) (now (a .days)) (c .before .if1 .taken) in
+    let p = periodsFrom (now (a .rows)) (a .among .from) (a .among .to) in
+    let w = not-64 (a .wish) s p (dayDate (a .first)) (now (a .days)) (c .before .if1 .taken) in
     (c .refused .ensures ∙ ap replyOf (w .0), w .1)
 
 -- src/reading.rt:122:28
@@ -52,10 +52,10 @@ returns-2 : tie.Need-returns-2
 returns-2 c =
     let a = c .before .before .before .before .before .before .before .before .before .args in
     let s = now (a .s) in
-    let p = periodsFrom (now (a .rows)) (a .from) (a .to) in
+    let p = periodsFrom (now (a .rows)) (a .among .from) (a .among .to) in
     let b = c .before .before .before in
     let q = ap numberOf (sym (b .before .date-of .ensures)) ∙ sym (b .day-number .ensures) ∙ c .before .enum-told .given .1 in
-    let w = no-first s p (dayDate (a .first)) (now (a .days)) (b .before .before .if1 .left) q in
+    let w = no-first (a .wish) s p (dayDate (a .first)) (now (a .days)) (b .before .before .if1 .left) q in
     (c .refused2 .ensures ∙ ap replyOf (w .0), w .1)
 
 -- src/reading.rt:125:5
@@ -71,11 +71,11 @@ returns-3 : tie.Need-returns-3
 returns-3 c =
     let a = c .before .before .before .before .before .before .before .before .before .before .before .before .before .args in
     let s = now (a .s) in
-    let p = periodsFrom (now (a .rows)) (a .from) (a .to) in
+    let p = periodsFrom (now (a .rows)) (a .among .from) (a .among .to) in
     let b = c .before .before .before .before .before .before .before in
     let r = c .before .before .write-days .ensures in
     let q = ap numberOf (sym (b .before .date-of .ensures)) ∙ sym (b .day-number .ensures) ∙ c .before .before .before .before .before .day .given .1 in
-    let w = from-first s p (dayDate (a .first)) (now (a .days)) (b .before .before .if1 .left) _ q in
+    let w = from-first (a .wish) s p (dayDate (a .first)) (now (a .days)) (b .before .before .if1 .left) _ q in
     (r .0 ∙ ap replyOf (w .0), r .1 ∙ w .1)
 
 pub drumcallisto-days-spec : {M : Type 1} → statement M

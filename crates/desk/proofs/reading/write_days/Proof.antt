@@ -64,10 +64,10 @@ returns c =
     let a = c .before .before .before .before .before .before .before .before .before .before .before .before .before .args in
     let d = a .day in
     let s = now (a .s) in
-    let p = periodsFrom (now (a .rows)) (a .from) (a .to) in
+    let p = periodsFrom (now (a .rows)) (a .among .from) (a .among .to) in
     let put = c .before .before .before .put-bytes .ensures in (
       c .done .ensures ∙ ap (λ (o : Option ℕ). replyOf (insideAnswer o)) e,
-      days-inside (firstOutside d s p) (daysOf d s p) (now (a .days)) e _ _ (b .days-of .ensures) (c .before .before .before .before .before .before .before .before .before .before .before .before .before .pre) (calendar-length (daysOf d s p) (days-calendar d s p)) (put .1),
+      days-inside (firstOutside (a .wish) d s p) (daysOf (a .wish) d s p) (now (a .days)) e _ _ (b .days-of .ensures) (c .before .before .before .before .before .before .before .before .before .before .before .before .before .pre) (calendar-length (daysOf (a .wish) d s p) (days-calendar (a .wish) d s p)) (put .1),
     )
 
 -- src/reading.rt:91:1
@@ -78,8 +78,8 @@ returns-2 c =
     let a = c .before .before .before .before .before .before .before .before .args in
     let d = a .day in
     let s = now (a .s) in
-    let p = periodsFrom (now (a .rows)) (a .from) (a .to) in
-    (c .refused .ensures ∙ ap (λ (o : Option ℕ). replyOf (insideAnswer o)) e, days-outside (firstOutside d s p) (daysOf d s p) (now (a .days)) _ e)
+    let p = periodsFrom (now (a .rows)) (a .among .from) (a .among .to) in
+    (c .refused .ensures ∙ ap (λ (o : Option ℕ). replyOf (insideAnswer o)) e, days-outside (firstOutside (a .wish) d s p) (daysOf (a .wish) d s p) (now (a .days)) _ e)
 
 pub write-days-spec : {M : Type 1} → statement M
 write-days-spec =

@@ -39,8 +39,8 @@ enum-known-answer-2 : tie.Need-enum-known-answer-2
 enum-known-answer-2 c = search needs
 
 -- src/registers.rt:55:37
-refused-requires-3 : tie.Need-refused-requires-3
-refused-requires-3 c κs = search needs
+replied-requires : tie.Need-replied-requires
+replied-requires c κs = search needs
 
 -- src/registers.rt:48:1
 returns : tie.Need-returns
@@ -56,7 +56,7 @@ returns-3 c = c .refused2 .ensures ∙ ap (λ (x : Staged). replyOf (stagedAnswe
 
 -- src/registers.rt:48:1
 returns-4 : tie.Need-returns-4
-returns-4 c = c .refused3 .ensures ∙ ap (λ (x : Staged). replyOf (stagedAnswer x)) (sym (c .before .before .answer2 .given .1))
+returns-4 c = c .replied .ensures ∙ ap (λ (x : Staged). replyOf (stagedAnswer x)) (sym (c .before .before .answer2 .given .1))
 
 pub staged-spec : {M : Type 1} → statement M
 staged-spec =
@@ -69,7 +69,7 @@ staged-spec =
     enum-told-2
     refused-requires-2
     enum-known-answer-2
-    refused-requires-3
+    replied-requires
     returns
     returns-2
     returns-3

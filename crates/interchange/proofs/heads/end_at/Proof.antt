@@ -29,7 +29,7 @@ returns c =
     let a = o .args in
     let p = o .pre in
     let k = c .pop-end .ensures e q in
-    (k .0, head-told (now (a .s)) (a .at) (a .head) (p .1) (p .2) (a .tag) 43 (c .before .before .if1 .taken) (lit≤ tt), good-read (a .read) (bodyAt (now (a .s)) (a .at)) (c .before .if2 .taken) (k .1))
+    (k .0, head-told (now (a .s)) (a .at) (a .head) (p .1) (p .2) (a .tag) 43 (c .before .before .if1 .taken) (lit≤ tt), good-read (a .wish) (a .read) (bodyAt (now (a .s)) (a .at)) (c .before .if2 .taken) (k .1))
 
 quick-end-requires : tie.Need-quick-end-requires
 quick-end-requires c κs = search needs
@@ -42,7 +42,7 @@ returns-2 c =
     let p = o .pre in
     let x = c .before .before .if1 .taken in
     let g = head-ahead (now (a .s)) (a .at) (a .head) (p .1) (p .2) (a .tag) 43 x (lit≤ tt) (p .0) (p .3) refl in
-    (quick-segment (now (a .s)) (a .at) g e (head-behind (now (a .s)) (a .at) (a .head) (p .1) (p .2) (a .tag) 43 x (lit≤ tt)) (sym (c .quick-end .ensures) ∙ q), head-told (now (a .s)) (a .at) (a .head) (p .1) (p .2) (a .tag) 43 x (lit≤ tt), good-other (a .read) (bodyAt (now (a .s)) (a .at)) (c .before .if2 .left))
+    (quick-segment (now (a .s)) (a .at) g e (head-behind (now (a .s)) (a .at) (a .head) (p .1) (p .2) (a .tag) 43 x (lit≤ tt)) (sym (c .quick-end .ensures) ∙ q), head-told (now (a .s)) (a .at) (a .head) (p .1) (p .2) (a .tag) 43 x (lit≤ tt), good-other (a .wish) (a .read) (bodyAt (now (a .s)) (a .at)) (c .before .if2 .left))
 
 returns-3 : tie.Need-returns-3
 returns-3 c = λ e q. absurd (ends-sure q)
@@ -50,8 +50,8 @@ returns-3 c = λ e q. absurd (ends-sure q)
 add-if4 : tie.Need-add-if4
 add-if4 c = search needs
 
-add-t11 : tie.Need-add-t11
-add-t11 c = search needs
+add-t12 : tie.Need-add-t12
+add-t12 c = search needs
 
 returns-4 : tie.Need-returns-4
 returns-4 c =
@@ -61,7 +61,7 @@ returns-4 c =
     let p = o .pre in
     let x = c .if4 .taken in
     let g = head-ahead (now (a .s)) (a .at) (a .head) (p .1) (p .2) (a .tag) 39 x (lit≤ tt) (p .0) (p .3) refl in
-    (sym (whole-bare (now (a .s)) (a .at) g (head-behind (now (a .s)) (a .at) (a .head) (p .1) (p .2) (a .tag) 39 x (lit≤ tt))) ∙ ap End (ends-same q), head-told (now (a .s)) (a .at) (a .head) (p .1) (p .2) (a .tag) 39 x (lit≤ tt), good-other (a .read) (bodyAt (now (a .s)) (a .at)) (c .before .if3 .left))
+    (sym (whole-bare (now (a .s)) (a .at) g (head-behind (now (a .s)) (a .at) (a .head) (p .1) (p .2) (a .tag) 39 x (lit≤ tt))) ∙ ap End (ends-same q), head-told (now (a .s)) (a .at) (a .head) (p .1) (p .2) (a .tag) 39 x (lit≤ tt), good-other (a .wish) (a .read) (bodyAt (now (a .s)) (a .at)) (c .before .if3 .left))
 
 returns-5 : tie.Need-returns-5
 returns-5 c = λ e q. absurd (ends-sure q)
@@ -78,6 +78,6 @@ end-at-spec =
     returns-2
     returns-3
     add-if4
-    add-t11
+    add-t12
     returns-4
     returns-5)

@@ -24,7 +24,7 @@ returns c =
     λ e q.
     let r = c .before .before .before in
     let a = r .before .before .args in
-    let k = pop-told (now (a .s)) (a .at) (sym (r .pop-at .ensures) ∙ c .before .end .given .1) in
+    let k = pop-told (a .wish) (now (a .s)) (a .at) (sym (r .pop-at .ensures) ∙ c .before .end .given .1) in
     (k .segment ∙ ap End (ends-same q), ap isGood (k .period))
 
 returns-2 : tie.Need-returns-2

@@ -77,7 +77,7 @@ index-2-end-at c = search needs
 
 end-at-requires : tie.Need-end-at-requires
 end-at-requires c κs =
-    let e = c .before in
+    let e = c .before .before in
     let b = next e .before .head-at .ensures in
     (start e .pre .0, b .1, b .0, letters e)
 
@@ -89,7 +89,7 @@ enum-told c = search needs
 
 returns-2 : tie.Need-returns-2
 returns-2 c =
-    let e = c .before .before .before .before .before in
+    let e = c .before .before .before .before .before .before in
     let a = start e .args in
     let b = next e .before .head-at .ensures in
     let x = c .before .end .given in

@@ -15,12 +15,12 @@ use Rattle.interchange.proofs.reader.read_sized.Reads as read-sized-rea
 returns : tie.Need-returns
 returns c =
     let a = c .before .before .before .args in
-    none-read (now (a .interchange)) (now (a .rows)) (c .if1 .taken)
+    none-read (a .wish) (now (a .interchange)) (now (a .rows)) (c .if1 .taken)
 
 returns-2 : tie.Need-returns-2
 returns-2 c =
     let a = c .before .before .before .before .args in
-    long-read (now (a .interchange)) (now (a .rows)) (c .if2 .taken)
+    long-read (a .wish) (now (a .interchange)) (now (a .rows)) (c .if2 .taken)
 
 read-sized-requires : tie.Need-read-sized-requires
 read-sized-requires c κs = search needs
@@ -34,8 +34,8 @@ returns-3 c =
     let e = r .before .before in
     let a = e .before .before .before .before .args in
     let s = now (a .interchange) in
-    right-same (readOn (length s + 1) s openingState 0) (readingOf s) (now (a .rows)) (readAnswer (r .read-sized .result)) (r .read-sized .last .1 .0)
-    (sized-read s (e .before .if1 .left) (e .if2 .left)) (r .read-sized .ensures)
+    right-same (readOn (length s + 1) s (openingState (a .wish)) 0) (readingOf (a .wish) s) (now (a .rows)) (readAnswer (r .read-sized .result)) (r .read-sized .last .1 .1 .0)
+    (sized-read (a .wish) s (e .before .if1 .left) (e .if2 .left)) (r .read-sized .ensures)
 
 pub read-spec : {M : Type 1} → statement M
 read-spec = tie.close (tie.spec returns returns-2 read-sized-requires same-length returns-3)

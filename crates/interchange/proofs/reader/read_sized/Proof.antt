@@ -44,7 +44,7 @@ returns c =
     let list = now (a .s) in
     let lent = now (a .rows) in
     let after = r .read-on .last .1 .1 .1 .1 .0 in
-    right-same (wholeFrom list (o .opening .result) 0) (wholeFrom list openingState 0) lent (readAnswer (r .read-on .result)) after
+    right-same (wholeFrom list (o .opening .result) 0) (wholeFrom list (openingState (a .wish)) 0) lent (readAnswer (r .read-on .result)) after
     (ap (λ (st : State). wholeFrom list st 0) (o .opening .ensures))
     (right-behind (wholeFrom list (o .opening .result) 0) lent (readAnswer (r .read-on .result)) after (r .read-on .ensures))
 

@@ -30,6 +30,7 @@ use Rattle.steps.specs.State.{movedState}
 use Rattle.interchange.specs.Laws.{putRow}
 use Rattle.interchange.specs.Room.{roomSize}
 use Rattle.interchange.specs.Passes.{rowWith, Passed, passed-as, passed-sized}
+use Rattle.interchange.specs.declared.led.PeriodRow.{PeriodRow}
 use Rattle.interchange.specs.Led.{Tells, led-known}
 use Rattle.interchange.specs.Runs.{countedOf, counted-step, passed-start, passed-here, own-both, own-few, onward-capitals, passed-told}
 
@@ -79,8 +80,12 @@ module _ (k : tie.After-to Inv-loop μ-loop) where
   abbrev end : ℕ
   end = k .to .given .0 .1 .1 .0
 
-  told : Tells (list own) (own .loop .at) table (own .loop .row) (own .loop .counts) (start own .args .period) to next end
-  told = led-known (list own) (own .loop .at) table (own .loop .row) (own .loop .counts) (start own .args .period) (k .before .before .lead-on .ensures) (k .to .given .1)
+  -- the row of the period, by the caller's wish
+  abbrev read : PeriodRow
+  read = record { row = start own .args .period; wish = start own .args .from .state .wish }
+
+  told : Tells (list own) (own .loop .at) table (own .loop .row) (own .loop .counts) read to next end
+  told = led-known (list own) (own .loop .at) table (own .loop .row) (own .loop .counts) read (k .before .before .lead-on .ensures) (k .to .given .1)
 
   within : (own .loop .at + 3 ≤ end) × (end < length (list own))
   within = end-within (list own) (own .loop .at) end (told .whole)

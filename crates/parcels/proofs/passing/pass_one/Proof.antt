@@ -3,7 +3,7 @@ use Prim.Native.Nat.{ℕ, _+_, _-_, _≤_}
 use native.Mathlib.Omega.{arith}
 use denote.Ref.{now}
 use lib.ListN.{length, take}
-use Rattle.syntax.specs.declared.segment.Refusal.{Refusal}
+use Rattle.answers.specs.declared.Refusal.{Refusal}
 use Rattle.steps.specs.declared.state.State.{State}
 use Rattle.steps.specs.declared.state.Row.{Row}
 use Rattle.interchange.specs.declared.turn.Turn.the-variants.{On, Stop}
@@ -120,8 +120,8 @@ add-t28 c =
 enum-known-refusal : tie.Need-enum-known-refusal
 enum-known-refusal c = search needs
 
-add-named : tie.Need-add-named
-add-named c =
+add-t29 : tie.Need-add-t29
+add-t29 c =
     let k = c .before .before in
     let w = within-bad k in
     let n = length-all (took k) in
@@ -177,7 +177,7 @@ pass-one-spec =
     add-t27
     add-t28
     enum-known-refusal
-    add-named
+    add-t29
     named-requires
     same-length
     same-length-2

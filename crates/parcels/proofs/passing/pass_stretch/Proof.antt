@@ -130,12 +130,12 @@ enum-told c = search needs
 enum-known-halt : tie.Need-enum-known-halt
 enum-known-halt c = search needs
 
-add-named : tie.Need-add-named
-add-named c =
+add-t30 : tie.Need-add-t30
+add-t30 c =
     let h = c .before .before .before in
     let r = h .before .before .before .before .before .before .before .before .before .before .before .before .before .before .before .before .before in
     let z = h .halt .given .0 .0 in
-    let i = placed (from r) (held r) (text r) (first r .pre) (read r) (whole r) (z .number) (z .position) (judged r (Faulty z) (h .halt .given .1)) in
+    let i = placed (from r) (held r) (text r) (first r .pre) (read r) (whole r) z (judged r (Faulty z) (h .halt .given .1)) in
     let o = first r .pre .within in
     omega arith
 
@@ -169,7 +169,7 @@ returns-2 c =
     subst (λ (y : Progress). Onward (text r) (from r) (held r) (now (first r .args .rows)) y (held r) (q .put-rows .last .1 .1 .0) × Faster (from r) y) (sym (c .named .ensures))
     (stretch-faulted (from r) (held r) (text r) (first r .pre) (read r) (whole r) (r .read-stretch .result .state) (r .read-stretch .result .at) (r .read-stretch .result .numbers) (k .counted .result)
     (now (first r .args .rows)) (zeros r) (r .read-stretch .last .1 .1 .1 .0) (q .put-rows .last .1 .1 .0) (t .0) (t .1) (t .2) (k .counted .ensures) (length-replicate {A = ℕ} 384 0)
-    (r .read-stretch .ensures .1) (q .put-rows .ensures) (z .number) (z .position) (judged r (Faulty z) (h .halt .given .1)))
+    (r .read-stretch .ensures .1) (q .put-rows .ensures) z (judged r (Faulty z) (h .halt .given .1)))
 
 pub pass-stretch-spec : {M : Type 1} → statement M
 pass-stretch-spec =
@@ -187,7 +187,7 @@ pass-stretch-spec =
     add-t28
     enum-told
     enum-known-halt
-    add-named
+    add-t30
     named-requires
     same-length
     returns

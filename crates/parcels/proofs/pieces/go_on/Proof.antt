@@ -9,6 +9,7 @@ use denote.Ref.{now}
 use lib.ListN.{length}
 use Rattle.interchange.specs.Reader.{isClosed}
 use Rattle.parcels.specs.declared.passing.Progress.{Progress}
+use Rattle.parcels.specs.Onward.{namedAt}
 use Rattle.parcels.specs.NextPiece.{Taken, most-taken, went-none, went-three, went-closed, went-unended, next-ready, went-on}
 use borrow.Author.Needs.{needs}
 use Rattle.parcels.proofs.pieces.go_on.Statement.{statement}
@@ -72,27 +73,37 @@ returns c =
 add-arrived : tie.Need-add-arrived
 add-arrived c = search needs
 
+fault-requires : tie.Need-fault-requires
+fault-requires c κs = search needs
+
 named-requires : tie.Need-named-requires
 named-requires c κs = search needs
 
 returns-2 : tie.Need-returns-2
 returns-2 c =
-    let s = c .before .before .before .before .before .before .before .before .before in
+    let f = c .before in
+    let s = f .before .before .before .before .before .before .before .before .before in
     let a = s .args in
-    went-three (now (a .parcel)) (a .x) (now (a .store)) (now (a .rows)) (s .pre .0) (c .before .before .before .if1 .left) (c .before .if2 .taken) (c .named .result) (c .named .ensures)
+    went-three (now (a .parcel)) (a .x) (now (a .store)) (now (a .rows)) (s .pre .0) (f .before .before .before .if1 .left) (f .before .if2 .taken) (c .named .result)
+    (c .named .ensures ∙ ap (namedAt (a .x)) (f .fault .ensures))
 
 is-closed-requires : tie.Need-is-closed-requires
 is-closed-requires c κs = search needs
+
+fault-requires-2 : tie.Need-fault-requires-2
+fault-requires-2 c κs = search needs
 
 named-requires-2 : tie.Need-named-requires-2
 named-requires-2 c κs = search needs
 
 returns-3 : tie.Need-returns-3
 returns-3 c =
-    let s = c .before .before .before .before .before .before .before .before .before .before .before in
+    let f = c .before in
+    let s = f .before .before .before .before .before .before .before .before .before .before .before in
     let a = s .args in
-    let i = c .before .before in
-    went-closed (now (a .parcel)) (a .x) (now (a .store)) (now (a .rows)) (s .pre .0) (i .before .before .before .if1 .left) (i .before .if2 .left) (sym (i .is-closed .ensures) ∙ c .before .if3 .taken) (c .named2 .result) (c .named2 .ensures)
+    let i = f .before .before in
+    went-closed (now (a .parcel)) (a .x) (now (a .store)) (now (a .rows)) (s .pre .0) (i .before .before .before .if1 .left) (i .before .if2 .left) (sym (i .is-closed .ensures) ∙ f .before .if3 .taken) (c .named2 .result)
+    (c .named2 .ensures ∙ ap (namedAt (a .x)) (f .fault2 .ensures))
 
 sub-least : tie.Need-sub-least
 sub-least c = search needs
@@ -164,9 +175,11 @@ go-on-spec =
     halted-requires
     returns
     add-arrived
+    fault-requires
     named-requires
     returns-2
     is-closed-requires
+    fault-requires-2
     named-requires-2
     returns-3
     sub-least

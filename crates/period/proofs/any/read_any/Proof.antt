@@ -1,6 +1,7 @@
 -- `read_any` meets its contract.
 -- Assumes nothing.
 use mathlib.Core.Path.{_≡_, sym, ap, _∙_}
+use mathlib.Core.Bool.{Bool}
 use mathlib.Core.List.{List}
 use Prim.Native.Nat.{ℕ}
 use borrow.Author.Needs.{needs}
@@ -47,11 +48,14 @@ module _ (m : tie.After-read-form) where
   span : spanIn (firstLast (g own)) ≡ Days f n
   span = dates own ∙ known .from .given .1
 
-  told : formedOf n (dayText (g own)) (weekText (g own)) ≡ m .read-form .result
+  abbrev wish : Bool
+  wish = own .before .before .before .before .args .wish
+
+  told : formedOf wish n (dayText (g own)) (weekText (g own)) ≡ m .read-form .result
   told =
       sym (m .read-form .ensures
-      ∙ ap (λ (t : List ℕ). formedOf n (plain t) (plain (now (m .before .text-in3 .result)))) (m .before .before .text-in2 .ensures ∙ text-in (list own) (place own) 1 4 (own .before .before .find-element .ensures))
-      ∙ ap (λ (t : List ℕ). formedOf n (dayText (g own)) (plain t)) (m .before .text-in3 .ensures ∙ text-in (list own) (place own) 2 1 (m .before .before .before .find-second .ensures)))
+      ∙ ap (λ (t : List ℕ). formedOf wish n (plain t) (plain (now (m .before .text-in3 .result)))) (m .before .before .text-in2 .ensures ∙ text-in (list own) (place own) 1 4 (own .before .before .find-element .ensures))
+      ∙ ap (λ (t : List ℕ). formedOf wish n (dayText (g own)) (plain t)) (m .before .text-in3 .ensures ∙ text-in (list own) (place own) 2 1 (m .before .before .before .find-second .ensures)))
 
 -- what the rest says
 module _ (k : tie.After-is-rest-good) where
@@ -80,7 +84,7 @@ enum-told c = search needs
 returns : tie.Need-returns
 returns c =
     let d = c .before .before in
-    wrong-dates (g d) (dates d ∙ c .enum-told .given .1)
+    wrong-dates (d .before .before .before .before .args .wish) (g d) (dates d ∙ c .enum-told .given .1)
 
 find-second-requires : tie.Need-find-second-requires
 find-second-requires c κs = c .before .before .before .before .before .find-element .ensures
@@ -106,19 +110,19 @@ is-rest-good-requires c κs = search needs
 returns-2 : tie.Need-returns-2
 returns-2 c =
     let m = c .before .before .before in
-    wrong-form (g (own m)) (span m) (told m ∙ c .before .fault .given .1)
+    wrong-form (wish m) (g (own m)) (span m) (told m ∙ c .before .fault .given .1)
 
 returns-3 : tie.Need-returns-3
 returns-3 c =
     let k = c .before in
     let m = form-read k in
-    good-period (g (own m)) (span m) (told m ∙ k .before .before .form .given .1) (rest k ∙ c .if1 .taken)
+    good-period (wish m) (g (own m)) (span m) (told m ∙ k .before .before .form .given .1) (rest k ∙ c .if1 .taken)
 
 returns-4 : tie.Need-returns-4
 returns-4 c =
     let k = c .before in
     let m = form-read k in
-    wrong-rest (g (own m)) (span m) (told m ∙ k .before .before .form .given .1) (rest k ∙ c .if1 .left)
+    wrong-rest (wish m) (g (own m)) (span m) (told m ∙ k .before .before .form .given .1) (rest k ∙ c .if1 .left)
 
 pub read-any-spec : {M : Type 1} → statement M
 read-any-spec =

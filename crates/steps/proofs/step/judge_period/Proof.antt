@@ -1,7 +1,8 @@
 use mathlib.Core.Path.{_≡_, sym, ap, _∙_}
 use denote.Ref.{now}
 use Rattle.period.specs.Period.{periodOf}
-use Rattle.steps.specs.Step.{judged}
+use Rattle.answers.specs.Answers.{wrongPeriod}
+use Rattle.steps.specs.Step.{Taken, judged}
 use Rattle.steps.specs.Ways.{next-is, whole}
 use borrow.Author.Needs.{needs}
 use Rattle.steps.proofs.step.judge_period.Statement.{statement}
@@ -9,7 +10,6 @@ use Rattle.steps.proofs.step.judge_period.Tie as tie
 use Rattle.steps.proofs.step.judge_period.Reads as reads
 use Rattle.steps.proofs.step.judge_period.Lts as lts
 use Rattle.steps.proofs.state.State.onward.Reads as onward-reads
-use Rattle.steps.proofs.step.refused.Reads as refused-reads
 use Rattle.steps.proofs.step.row.Reads as row-reads
 use Rattle.period.proofs.read_period.Reads as read-period-reads
 
@@ -25,29 +25,33 @@ onward-requires c κs = search needs
 row-requires : tie.Need-row-requires
 row-requires c κs = search needs
 
-enum-told-2 : tie.Need-enum-told-2
-enum-told-2 c = search needs
+enum-known-fault : tie.Need-enum-known-fault
+enum-known-fault c = search needs
 
-refused-requires : tie.Need-refused-requires
-refused-requires c κs = search needs
+number-requires : tie.Need-number-requires
+number-requires c κs = search needs
 
 module _ (u : tie.After-read-period) where
-  told : u .read-period .result ≡ periodOf (now (u .before .before .args .segment))
-  told = u .read-period .ensures .0 ∙ ap periodOf (whole (now (u .before .before .args .segment)))
+  abbrev start : tie.Start
+  start = u .before .before
+
+  told : u .read-period .result ≡ periodOf (start .args .st .wish) (now (start .args .segment))
+  told = u .read-period .ensures .0 ∙ ap (periodOf (start .args .st .wish)) (whole (now (start .args .segment)))
 
 returns : tie.Need-returns
 returns c =
     let e = c .before .before in
     let u = e .before .before in
-    let a = u .before .before .args in
+    let a = start u .args in
     next-is (c .before .onward .ensures) (c .row .ensures) ∙ ap (judged (a .st) (a .at) (now (a .segment)) (a .place) (a .group)) (sym (e .enum-told .given .1) ∙ told u)
 
 returns-2 : tie.Need-returns-2
 returns-2 c =
-    let e = c .before in
+    let e = c .before .before in
     let u = e .before .before in
-    let a = u .before .before .args in
-    c .refused .ensures ∙ ap (judged (a .st) (a .at) (now (a .segment)) (a .place) (a .group)) (sym (e .enum-told2 .given .1) ∙ told u)
+    let a = start u .args in
+    ap (wrongPeriod {A = Taken} (a .at)) (c .number .ensures)
+    ∙ ap (judged (a .st) (a .at) (now (a .segment)) (a .place) (a .group)) (sym (e .fault .given .1) ∙ told u)
 
 pub judge-period-spec : {M : Type 1} → statement M
 judge-period-spec =
@@ -57,7 +61,7 @@ judge-period-spec =
     enum-told
     onward-requires
     row-requires
-    enum-told-2
-    refused-requires
+    enum-known-fault
+    number-requires
     returns
     returns-2)
