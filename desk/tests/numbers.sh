@@ -1,12 +1,12 @@
 # Every number of documents 01 and 02 that the program can give, with its position, its words and the place shown.
 samples=$root/samples
 
-# refused NUMBER POSITION PLACE COMMAND..: the words are those that --help has for the number; part is 0, or which part of a POP is wrong
-part=0
+# refused NUMBER POSITION PLACE COMMAND..: the words are those that --help has for the number; wrong is 0, or which part of a POP is wrong
+wrong=0
 refused() {
     local number=$1 position=$2 place=$3
     shift 3
-    expect 1 "refused${tab}$number${tab}$position${tab}$part" "desk: refused $number: $("$DESK" --help "$number")" "$@"
+    expect 1 "refused${tab}$number${tab}$position${tab}$wrong" "desk: refused $number: $("$DESK" --help "$number")" "$@"
     has "place of $number" "$place" "$(cat "$work/words")"
 }
 
@@ -27,7 +27,7 @@ head -c 60001 /dev/zero > long
 refused 3 0 "" read long
 
 # 4 to 10, reading and staging
-while read -r number position part place; do
+while read -r number position wrong place; do
     refused "$number" "$position" ", at byte $position of $samples/refused-$number.edi: $place" read "$samples/refused-$number.edi"
     refused "$number" "$position" ", at byte $position of $samples/refused-$number.edi: $place" r stage 3 "$samples/refused-$number.edi"
 done << 'TABLE'
@@ -39,7 +39,7 @@ done << 'TABLE'
 9 47 0 ..:D:04A::UN+1'MSD+AAR:61'[MSD+AAR:61']
 10 150 2 ..4711:::37+1187'PDT+::11'[POP+273:2000-08-01/2000-08-13::10011110000011']
 TABLE
-part=0
+wrong=0
 printf '%s\n' "$(cat "$samples/paper.edi")" > newline.edi
 refused 7 63 "..+AAR:61'UIT+1+3'UIZ+7+1'[{0A}]" read newline.edi
 printf "UIB+UNOB:4+7'" > ends.edi
@@ -86,16 +86,16 @@ declare -A of=([1]="its dates" [2]="its day string" [3]="its weekdays" [4]="it h
 
 # judged PART POP COMMAND..: what read, read - and stage say of it
 judged() {
-    local part=$1 pop=$2 how
+    local wrong=$1 pop=$2 how
     shift 2
     sk a "PRD+17'$pop'"
     for how in "read ${*} a" "read ${*} -" "r stage ${*} 3 a"; do
         got=$($DESK $how < a 2> words; echo "status $?")
-        if [ "$part" == - ]; then
+        if [ "$wrong" == - ]; then
             same "$how of $pop" "status 0" "$(echo "$got" | tail -1)"
         else
-            same "$how of $pop" "refused${tab}10${tab}62${tab}$part${line}status 1" "$(echo "$got" | tail -2)"
-            has "$how of $pop" "desk: refused 10: a POP with wrong contents: ${of[$part]}, at byte 62 of " "$(cat words)"
+            same "$how of $pop" "refused${tab}10${tab}62${tab}$wrong${line}status 1" "$(echo "$got" | tail -2)"
+            has "$how of $pop" "desk: refused 10: a POP with wrong contents: ${of[$wrong]}, at byte 62 of " "$(cat words)"
         fi
     done
 }
