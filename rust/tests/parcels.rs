@@ -95,21 +95,7 @@ fn samples() {
 
 #[test]
 fn each_refusal() {
-    let cases: [(&str, Refusal); 12] = [
-        ("", refused(3, 0)),
-        ("#", refused(4, 0)),
-        ("UIB+UNOB:4+7'zz\n", refused(4, 15)),
-        ("A", refused(5, 0)),
-        ("UIB+UNOB:4+7?", refused(5, 0)),
-        ("'", refused(6, 0)),
-        ("ABC'", refused(7, 0)),
-        ("UIB+UNOB:4+7'", refused(7, 13)),
-        ("UIB+UNOB:4+7'UIH+A:A:A::A+1'", refused(8, 13)),
-        ("UIB+UNOB:4+7'UIH+SKDUPD:D:04A::UN+1'ABC'", refused(9, 36)),
-        ("UIB+UNOB:4+7'UIH+SKDUPD:D:04A::UN+1'MSD'ORG'HDR'PRD'POP'", refused_part(1, 52)),
-        ("UIB+UNOB:4+7'UIH+TSDUPD:D:04A::UN+1'MSD'UIT+1+3'UIZ+7+1'\n", refused(7, 56)),
-    ];
-    for (text, refusal) in cases {
+    for (text, refusal) in each_refused() {
         assert_eq!(any_cut(text.as_bytes()).1, Err(refusal), "{text}");
         agrees(text.as_bytes());
     }

@@ -4,7 +4,7 @@ mod common;
 
 use common::*;
 use drumcallisto::NeitherForm::{EveryDay, Refused};
-use drumcallisto::{read, Change, Date, Refusal};
+use drumcallisto::{read, Change, Date};
 
 const PAPER: &str = "UIB+UNOB:4+7'UIH+TSDUPD:D:04A::UN+1'MSD+AAR:61'UIT+1+3'UIZ+7+1'";
 
@@ -27,19 +27,7 @@ fn the_paper_printed_whole() {
 
 #[test]
 fn each_refusal() {
-    let cases: [(&str, Refusal); 10] = [
-        ("", refused(3, 0)),
-        ("#", refused(4, 0)),
-        ("UIB+UNOB:4+7'zz\n", refused(4, 15)),
-        ("A", refused(5, 0)),
-        ("'", refused(6, 0)),
-        ("ABC'", refused(7, 0)),
-        ("UIB+UNOB:4+7'", refused(7, 13)),
-        ("UIB+UNOB:4+7'UIH+A:A:A::A+1'", refused(8, 13)),
-        ("UIB+UNOB:4+7'UIH+SKDUPD:D:04A::UN+1'ABC'", refused(9, 36)),
-        ("UIB+UNOB:4+7'UIH+SKDUPD:D:04A::UN+1'MSD'ORG'HDR'PRD'POP'", refused_part(1, 52)),
-    ];
-    for (text, refusal) in cases {
+    for (text, refusal) in each_refused() {
         assert_eq!(read(text.as_bytes(), Refused).unwrap_err(), refusal, "{text}");
         assert_eq!(read(text.as_bytes(), EveryDay).unwrap_err(), refusal, "{text}");
     }

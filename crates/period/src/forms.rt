@@ -90,14 +90,16 @@ fn is_rising(part: &[u8]) -> bool
     true
 }
 
-// What tells the days of a period of n days; where neither form is given, the caller's wish decides.
+// What tells the days of a period of n days, each form judged by itself; where neither is given, the caller's wish decides.
 pub(crate) fn read_form(days: &[u8], weekdays: &[u8], n: usize, wish: bool) -> Formed
     ensures { λ r. ⌜ r ≡ formedOf wish n (plain (now (days .entry))) (plain (now (weekdays .entry))) ⌝ }
 {
-    if !fits_days(days, n) {
+    let fits = fits_days(days, n);
+    let rises = is_rising(weekdays);
+    if !fits {
         return Formed::Faulty(Fault::BadDayString);
     }
-    if !is_rising(weekdays) {
+    if !rises {
         return Formed::Faulty(Fault::BadWeekdays);
     }
     if is_present(days) {

@@ -15,6 +15,24 @@ pub fn refused_part(part: u8, position: usize) -> Refusal {
     Refusal { part: Some(Part::of(part).expect("a part of a POP")), ..refused(10, position) }
 }
 
+/// A short interchange for each number that reading gives, whole or in parcels.
+pub fn each_refused() -> [(&'static str, Refusal); 12] {
+    [
+        ("", refused(3, 0)),
+        ("#", refused(4, 0)),
+        ("UIB+UNOB:4+7'zz\n", refused(4, 15)),
+        ("A", refused(5, 0)),
+        ("UIB+UNOB:4+7?", refused(5, 0)),
+        ("'", refused(6, 0)),
+        ("ABC'", refused(7, 0)),
+        ("UIB+UNOB:4+7'", refused(7, 13)),
+        ("UIB+UNOB:4+7'UIH+A:A:A::A+1'", refused(8, 13)),
+        ("UIB+UNOB:4+7'UIH+SKDUPD:D:04A::UN+1'ABC'", refused(9, 36)),
+        ("UIB+UNOB:4+7'UIH+SKDUPD:D:04A::UN+1'MSD'ORG'HDR'PRD'POP'", refused_part(1, 52)),
+        ("UIB+UNOB:4+7'UIH+TSDUPD:D:04A::UN+1'MSD'UIT+1+3'UIZ+7+1'\n", refused(7, 56)),
+    ]
+}
+
 pub fn sample(name: &str) -> Vec<u8> {
     let path = format!("{}/../samples/{name}", env!("CARGO_MANIFEST_DIR"));
     std::fs::read(&path).unwrap_or_else(|error| panic!("{path}: {error}"))

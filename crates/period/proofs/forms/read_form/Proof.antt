@@ -26,26 +26,26 @@ module _ (p : tie.After-is-present) where
   weekdays = plain (now (start .args .weekdays))
 
   fits : fitsDays (start .args .n) days ≡ true
-  fits = sym (p .before .before .before .before .fits-days .ensures) ∙ not-false _ (p .before .before .before .if1 .left)
+  fits = sym (p .before .before .before .before .fits-days .ensures) ∙ not-false _ (p .before .before .if1 .left)
 
   rises : risingDays 48 weekdays ≡ true
-  rises = sym (p .before .before .is-rising .ensures) ∙ not-false _ (p .before .if2 .left)
+  rises = sym (p .before .before .before .is-rising .ensures) ∙ not-false _ (p .before .if2 .left)
 
 fits-days-requires : tie.Need-fits-days-requires
 fits-days-requires c κs = search needs
 
-returns : tie.Need-returns
-returns c =
-    let a = c .before .before .before .before .args in
-    bad-string (a .wish) (a .n) (plain (now (a .days))) (plain (now (a .weekdays))) (sym (c .before .fits-days .ensures) ∙ not-true _ (c .if1 .taken))
-
 is-rising-requires : tie.Need-is-rising-requires
 is-rising-requires c κs = search needs
+
+returns : tie.Need-returns
+returns c =
+    let a = c .before .before .before .before .before .args in
+    bad-string (a .wish) (a .n) (plain (now (a .days))) (plain (now (a .weekdays))) (sym (c .before .before .fits-days .ensures) ∙ not-true _ (c .if1 .taken))
 
 returns-2 : tie.Need-returns-2
 returns-2 c =
     let a = c .before .before .before .before .before .before .args in
-    bad-weekdays (a .wish) (a .n) (plain (now (a .days))) (plain (now (a .weekdays))) (sym (c .before .before .before .fits-days .ensures) ∙ not-false _ (c .before .before .if1 .left)) (sym (c .before .is-rising .ensures) ∙ not-true _ (c .if2 .taken))
+    bad-weekdays (a .wish) (a .n) (plain (now (a .days))) (plain (now (a .weekdays))) (sym (c .before .before .before .fits-days .ensures) ∙ not-false _ (c .before .if1 .left)) (sym (c .before .before .is-rising .ensures) ∙ not-true _ (c .if2 .taken))
 
 is-present-requires : tie.Need-is-present-requires
 is-present-requires c κs = search needs
@@ -91,8 +91,8 @@ read-form-spec =
     tie.close
     (tie.spec
     fits-days-requires
-    returns
     is-rising-requires
+    returns
     returns-2
     is-present-requires
     is-present-requires-2
