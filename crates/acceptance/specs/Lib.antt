@@ -9,3 +9,4 @@ pub mod Only
 pub mod Same
 pub mod Theorems
 pub mod Cases
+pub mod Wishes

@@ -8,7 +8,7 @@ use native.Mathlib.Omega.{arith}
 use lib.Dec.{eqb}
 use lib.ListN.{length, drop}
 use borrow.Author.Tests.{not-true, eqb-true}
-use Rattle.laws.specs.Choice.{both, all, both-parts, false≢true}
+use Rattle.laws.specs.Choice.{both, all, both-parts, all-append, false≢true}
 use Rattle.syntax.specs.Pieces.{firstPiece}
 use Rattle.syntax.specs.Segment.{tagNumber}
 use Rattle.messages.specs.Tags.{UIH, UIZ}
@@ -123,18 +123,12 @@ module _ (c d : List ℕ) (tc : eqb (tagNumber c) UIZ ≡ true) (td : eqb (tagNu
       (ap (λ (l : Message). l ∷ ms) z ∙ ap (λ (l : List Message). k ∷ l) (y .0), y .1)
 
 -- every segment of an interchange is one
-all-append : (gs hs : List (List ℕ)) → all isSegment gs ≡ true → all isSegment hs ≡ true → all isSegment (gs ++ hs) ≡ true
-all-append [] hs p q = q
-all-append (g ∷ gs) hs p q =
-    let u = both-parts (isSegment g) (all isSegment gs) p in
-    rw (u .0) (all-append gs hs (u .1) q)
-
 messages-segments : (wish : Bool) (ms : List Message) → all (isMessage wish) ms ≡ true → all isSegment (eachOf segmentsIn ms) ≡ true
 messages-segments wish [] p = refl
 messages-segments wish (m ∷ ms) p =
     let u = both-parts (isMessage wish m) (all (isMessage wish) ms) p in
     let a = to-parts wish m (u .0) in
-    all-append (segmentsIn m) (eachOf segmentsIn ms) (rw (a .segment) (a .rest .segments)) (messages-segments wish ms (u .1))
+    all-append isSegment (segmentsIn m) (eachOf segmentsIn ms) (rw (a .segment) (a .rest .segments)) (messages-segments wish ms (u .1))
 
 module _ (wish : Bool) (x : Interchange) (h : rulesHold wish x ≡ true) where
   abbrev n : ℕ
@@ -150,7 +144,7 @@ module _ (wish : Bool) (x : Interchange) (h : rulesHold wish x ≡ true) where
   all-segments : all isSegment (segmentsOf x) ≡ true
   all-segments =
       let r = to-rules wish x h in
-      rw (r .segment) (all-append (eachOf segmentsIn (x .messages)) (x .closing ∷ []) (messages-segments wish (x .messages) (r .messages)) (rw (closing-parts .0)))
+      rw (r .segment) (all-append isSegment (eachOf segmentsIn (x .messages)) (x .closing ∷ []) (messages-segments wish (x .messages) (r .messages)) (rw (closing-parts .0)))
 
 pub same-parts : (wish : Bool) (x y : Interchange) → rulesHold wish x ≡ true → rulesHold wish y ≡ true → segmentsWritten (segmentsOf x) ≡ segmentsWritten (segmentsOf y) → x ≡ y
 same-parts wish x y h k e =

@@ -7,23 +7,10 @@ use Prim.Native.Nat.{ℕ, _+_, _-_, _≤_}
 use native.Mathlib.Omega.{arith}
 use lib.Dec.{eqb, leb}
 use borrow.Author.Tests.{eq-eqb, ne-eqb, leb-true, not-true}
-use Rattle.laws.specs.Choice.{both, either, all, both-parts, either-parts}
+use Rattle.laws.specs.Choice.{both, either, all, both-parts, all-weaker, either-parts}
 use Rattle.laws.specs.Sweep.{agree}
 use Rattle.syntax.specs.Bytes.{permittedOf, plain, plainOn}
 use Rattle.syntax.specs.Pieces.{firstPiece, laterPieces, pieces}
-
--- a test of each byte of two texts is one of both
-pub all-append : (f : ℕ → Bool) (a b : List ℕ) → all f a ≡ true → all f b ≡ true → all f (a ++ b) ≡ true
-all-append f [] b p q = q
-all-append f (x ∷ a) b p q =
-    let u = both-parts (f x) (all f a) p in
-    rw (u .0) (all-append f a b (u .1) q)
-
-pub all-weaker : (f g : ℕ → Bool) (a : List ℕ) → ((b : ℕ) → f b ≡ true → g b ≡ true) → all f a ≡ true → all g a ≡ true
-all-weaker f g [] h p = refl
-all-weaker f g (x ∷ a) h p =
-    let u = both-parts (f x) (all f a) p in
-    rw (h x (u .0)) (all-weaker f g a h (u .1))
 
 -- neither the mark c nor a release
 abbrev pub quiet : ℕ → ℕ → Bool

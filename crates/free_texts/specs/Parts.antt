@@ -6,11 +6,11 @@ use mathlib.Core.List.{List, [], _∷_, _++_}
 use Prim.Native.Nat.{ℕ}
 use lib.Dec.{ltb}
 use lib.ListN.{length}
-use Rattle.laws.specs.Choice.{all}
+use Rattle.laws.specs.Choice.{all, all-append}
 use Rattle.laws.specs.Text.{bytes}
 use Rattle.syntax.specs.Pieces.{firstPiece, laterPieces, pieces, nth, elements, occurrences, components, partOf}
 use Rattle.parts.specs.Places.{repeats}
-use Rattle.free_texts.specs.Free.{all-append, quiet, later-cut, one-piece, more-pieces, numeric, no-plus, no-star, no-colon}
+use Rattle.free_texts.specs.Free.{quiet, later-cut, one-piece, more-pieces, numeric, no-plus, no-star, no-colon}
 
 abbrev pub code : List ℕ
 code = bytes "273"

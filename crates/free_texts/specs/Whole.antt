@@ -8,13 +8,13 @@ use native.Mathlib.Omega.{arith}
 use lib.Dec.{leb}
 use lib.ListN.{length, drop, length-append, length-drop}
 use borrow.Author.Tests.{le-leb, lt-ltb}
-use Rattle.laws.specs.Choice.{both, all}
+use Rattle.laws.specs.Choice.{both, all, all-append}
 use Rattle.laws.specs.Text.{bytes}
 use Rattle.syntax.specs.Bytes.{permittedOf, plainOn}
 use Rattle.syntax.specs.Pieces.{firstPiece, elements, occurrences, components}
 use Rattle.syntax.specs.Segment.{bodyAt, tagged, componentFits, occurrenceFits, elementFits, withinLimits, wellFormed, scanOf, segmentAt}
 use Rattle.syntax.specs.declared.segment.Scanned.the-variants.{End}
-use Rattle.free_texts.specs.Free.{all-append, quiet, first-cut, plain-all, numeric, no-quote, no-release, all-permitted}
+use Rattle.free_texts.specs.Free.{quiet, first-cut, plain-all, numeric, no-quote, no-release, all-permitted}
 use Rattle.free_texts.specs.Parts.{code, oneElement, twoElements, withString, withoutString, Cut, string-quiet, string-components, string-elements, string-once, string-cut, dates-quiet, week-components, week-elements, week-once, named-once, named-components, week-cut, alone-elements, alone-cut}
 
 -- where a text goes on from an offset with these bytes and a terminator, they are the body of a whole segment

@@ -7,10 +7,10 @@ use Prim.Native.Nat.{ℕ, _+_, _-_, _≤_, min}
 use native.Mathlib.Omega.{arith}
 use lib.Dec.{eqb}
 use lib.ListN.{length, getD, List·getD-eq-default}
-use Rattle.laws.specs.Choice.{all}
+use Rattle.laws.specs.Choice.{all, all-weaker}
 use Rattle.syntax.specs.Bytes.{plain}
 use Rattle.syntax.specs.Pieces.{partOf}
-use Rattle.free_texts.specs.Free.{all-weaker, numeric, plain-all, no-release}
+use Rattle.free_texts.specs.Free.{numeric, plain-all, no-release}
 use Rattle.period.specs.Period.{zeroOrOne, dayText}
 use Rattle.period.specs.Pops.{day-numeric}
 use Rattle.joining.specs.Joined.{marked}

@@ -10,7 +10,7 @@ use lib.Dec.{eqb, leb, ltb}
 use lib.ListN.{length, getD, take, drop, take-append-drop, length-append}
 use lib.Seq.{drop-drop, getD-drop}
 use borrow.Author.Tests.{le-leb, leb-true, ltb-true, eqb-true}
-use Rattle.laws.specs.Choice.{pick, both, all, both-parts, choose}
+use Rattle.laws.specs.Choice.{pick, both, all, both-parts, all-weaker, choose}
 use Rattle.laws.specs.Lists.{between, drop-here, drop-past, length-between}
 use Rattle.parts.specs.Places.{present}
 use Rattle.syntax.specs.Pieces.{firstPiece}
@@ -18,7 +18,7 @@ use Rattle.syntax.specs.Segment.{bodyAt, segmentAt}
 use Rattle.syntax.specs.Tags.{tagAhead}
 use Rattle.syntax.specs.declared.segment.Scanned.{Scanned}
 use Rattle.syntax.specs.declared.segment.Scanned.the-variants.{End, NotPermitted, Unended, Malformed}
-use Rattle.free_texts.specs.Free.{all-weaker, numeric, no-quote, first-front}
+use Rattle.free_texts.specs.Free.{numeric, no-quote, first-front}
 use Rattle.free_texts.specs.Parts.{oneElement, twoElements, withString, withoutString, dates-quiet, passed-cut}
 use Rattle.free_texts.specs.Whole.{Parts, string-parts, week-parts, alone-parts}
 use Rattle.period.specs.declared.Form.{Form}

@@ -8,7 +8,7 @@ use native.Mathlib.Omega.{arith}
 use lib.Dec.{eqb, leb}
 use lib.ListN.{length, getD, drop}
 use borrow.Author.Tests.{le-leb, leb-true, eqb-true}
-use Rattle.laws.specs.Choice.{both, all, both-parts, choose}
+use Rattle.laws.specs.Choice.{both, all, both-parts, all-append, choose}
 use Rattle.laws.specs.Lists.{drop-here}
 use Rattle.laws.specs.Text.{bytes}
 use Rattle.syntax.specs.Bytes.{plain, plainOn}
@@ -19,7 +19,7 @@ use Rattle.dates.specs.declared.Made.the-variants.{Valid, NoDate}
 use Rattle.calendar.specs.Written.{daysSpan}
 use Rattle.calendar.specs.declared.Span.{Span}
 use Rattle.calendar.specs.declared.Span.the-variants.{Days, Bad}
-use Rattle.free_texts.specs.Free.{all-append, numeric, plain-all, no-release}
+use Rattle.free_texts.specs.Free.{numeric, plain-all, no-release}
 use Rattle.free_texts.specs.Parts.{Cut, oneElement, withoutString}
 use Rattle.period.specs.declared.Form.{Form}
 use Rattle.period.specs.declared.Period.the-variants.{Good}

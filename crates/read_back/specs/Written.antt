@@ -9,7 +9,7 @@ use native.Mathlib.Decide.{decLt}
 use lib.Dec.{eqb}
 use lib.ListN.{length, getD, take, drop, List·getD-eq-default}
 use borrow.Author.Tests.{le-leb, lt-ltb}
-use Rattle.laws.specs.Choice.{pick, both, either, all, both-false}
+use Rattle.laws.specs.Choice.{pick, both, either, all, both-false, all-append}
 use Rattle.laws.specs.Text.{bytes}
 use Rattle.syntax.specs.Segment.{bodyAt, segmentAt}
 use Rattle.syntax.specs.declared.segment.Scanned.the-variants.{End}
@@ -30,7 +30,7 @@ use Rattle.period.specs.Written.{string-plain, cut-good}
 use Rattle.period.specs.declared.Form.{Form}
 use Rattle.period.specs.declared.Form.the-variants.{Every, ByString}
 use Rattle.period.specs.declared.Period.the-variants.{Good}
-use Rattle.free_texts.specs.Free.{all-append, numeric}
+use Rattle.free_texts.specs.Free.{numeric}
 use Rattle.free_texts.specs.Parts.{oneElement, withString}
 use Rattle.free_texts.specs.Whole.{Parts, string-parts, stands-alone}
 
