@@ -1,5 +1,6 @@
 //! Some rows of a reading, gathered in a room of the reader's own.
 
+use crate::led::PeriodRow;
 use crate::rows::put_row;
 use crate::run::FULL;
 use crate::run::Ran;
@@ -78,12 +79,20 @@ pub(crate) fn run_on(
         MessageType::Skdupd => {
             let table = table_of(tables, MessageType::Skdupd);
             let hinted = hints_of(hints, MessageType::Skdupd);
-            run(s, from, table, hinted, room, PERIOD)
+            let period = PeriodRow {
+                row: PERIOD,
+                wish: st.wish,
+            };
+            run(s, from, table, hinted, room, period)
         }
         MessageType::Tsdupd => {
             let table = table_of(tables, MessageType::Tsdupd);
             let hinted = hints_of(hints, MessageType::Tsdupd);
-            run(s, from, table, hinted, room, NO_PERIOD)
+            let period = PeriodRow {
+                row: NO_PERIOD,
+                wish: st.wish,
+            };
+            run(s, from, table, hinted, room, period)
         }
     }
 }

@@ -110,9 +110,9 @@ pub(crate) fn run(
     table: &[[u32; 8]],
     hints: &[[u16; 16]],
     room: &mut [u32],
-    period: usize,
+    period: PeriodRow,
 ) -> Ran
-    requires { ⌜ (from .state .phase ≡ Phase.Inside) × (now table ≡ tableOf (from .state .message)) × (now hints ≡ hintsOf (from .state .message)) × (period ≡ periodRow (from .state .message)) × (length (now s) ≤ 60000) × (length (now room) ≡ roomSize) × (from .numbers ≤ roomSize) ⌝ }
+    requires { ⌜ (from .state .phase ≡ Phase.Inside) × (now table ≡ tableOf (from .state .message)) × (now hints ≡ hintsOf (from .state .message)) × (period .row ≡ periodRow (from .state .message)) × (length (now s) ≤ 60000) × (length (now room) ≡ roomSize) × (from .numbers ≤ roomSize) × (period .wish ≡ from .state .wish) ⌝ }
     ensures { λ r. ⌜ Passed (now (s .entry)) (from .state) (from .at) (from .numbers) (now (room .entry)) (movedState (from .state) (r .place) (r .segments)) (r .at) (r .numbers) (now (room .exit)) ⌝ }
 {
     let st = from.state;
@@ -139,11 +139,7 @@ pub(crate) fn run(
             row,
             counts,
         };
-        let read = PeriodRow {
-            row: period,
-            wish: st.wish,
-        };
-        let Led::To(to, next, end) = lead_on(s, at, table, hints, place, read) else {
+        let Led::To(to, next, end) = lead_on(s, at, table, hints, place, period) else {
             break;
         };
         put_row(room, numbers, at as u32, placed(table, to, at));

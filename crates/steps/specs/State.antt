@@ -20,6 +20,7 @@ openingState wish =
     record {
       phase = Opening;
       message = Skdupd;
+      wish = wish;
       messages = 0;
       segments = 0;
       «opened_at» = 0;
@@ -27,7 +28,6 @@ openingState wish =
       «headed_at» = 0;
       reference = absent;
       place = startPlace;
-      wish = wish;
     }
 
 -- a count; no interchange of 60,000 bytes has 65,535 segments, so that none stops there
@@ -40,6 +40,7 @@ openedState st at p =
     record {
       phase = Between;
       message = st .message;
+      wish = st .wish;
       messages = st .messages;
       segments = st .segments;
       «opened_at» = at;
@@ -47,7 +48,6 @@ openedState st at p =
       «headed_at» = st .«headed_at»;
       reference = st .reference;
       place = st .place;
-      wish = st .wish;
     }
 
 -- a UIH has come, with its type and its reference
@@ -56,6 +56,7 @@ headedState st at message p =
     record {
       phase = Inside;
       message = message;
+      wish = st .wish;
       messages = st .messages;
       segments = 1;
       «opened_at» = st .«opened_at»;
@@ -63,7 +64,6 @@ headedState st at message p =
       «headed_at» = at;
       reference = p;
       place = startPlace;
-      wish = st .wish;
     }
 
 -- another phase, other counts and another place; the type and what was written are as they were
@@ -72,6 +72,7 @@ withState st phase messages segments p =
     record {
       phase = phase;
       message = st .message;
+      wish = st .wish;
       messages = messages;
       segments = segments;
       «opened_at» = st .«opened_at»;
@@ -79,7 +80,6 @@ withState st phase messages segments p =
       «headed_at» = st .«headed_at»;
       reference = st .reference;
       place = p;
-      wish = st .wish;
     }
 
 -- a segment of the message is placed

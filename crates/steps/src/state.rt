@@ -24,6 +24,9 @@ pub struct State {
     pub phase: Phase,
     /// The message's type.
     pub message: MessageType,
+    /// Whether the caller asks for the old reading, in which a POP with neither form means every day. It stands beside the other small fields, so
+    /// that a state takes no more room for it.
+    pub wish: bool,
     /// Messages that are ended.
     pub messages: usize,
     /// Segments of the message, its UIH counted.
@@ -35,8 +38,6 @@ pub struct State {
     pub headed_at: usize,
     pub reference: Part,
     pub place: Place,
-    /// Whether the caller asks for the old reading, in which a POP with neither form means every day.
-    pub wish: bool,
 }
 
 /// A row of the reading.
@@ -68,6 +69,7 @@ impl State {
         State {
             phase: Phase::Opening,
             message: MessageType::Skdupd,
+            wish,
             messages: 0,
             segments: 0,
             opened_at: 0,
@@ -75,7 +77,6 @@ impl State {
             headed_at: 0,
             reference: Part { from: 0, to: 0 },
             place,
-            wish,
         }
     }
 
@@ -89,6 +90,7 @@ impl State {
         State {
             phase: Phase::Between,
             message,
+            wish: self.wish,
             messages: self.messages,
             segments: self.segments,
             opened_at: at,
@@ -96,7 +98,6 @@ impl State {
             headed_at: self.headed_at,
             reference,
             place,
-            wish: self.wish,
         }
     }
 
@@ -109,6 +110,7 @@ impl State {
         State {
             phase: Phase::Inside,
             message,
+            wish: self.wish,
             messages: self.messages,
             segments: 1,
             opened_at: self.opened_at,
@@ -116,7 +118,6 @@ impl State {
             headed_at: at,
             reference,
             place,
-            wish: self.wish,
         }
     }
 
@@ -130,6 +131,7 @@ impl State {
         State {
             phase,
             message,
+            wish: self.wish,
             messages,
             segments,
             opened_at: self.opened_at,
@@ -137,7 +139,6 @@ impl State {
             headed_at: self.headed_at,
             reference,
             place,
-            wish: self.wish,
         }
     }
 

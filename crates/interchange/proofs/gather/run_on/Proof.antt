@@ -8,7 +8,7 @@ use Rattle.interchange.proofs.run.run.Reads as run-reads
 use Rattle.interchange.proofs.run.stay.Reads as stay-reads
 use Rattle.interchange.proofs.standing.is_inside.Reads as is-inside-reads
 use Rattle.placing.proofs.tables.table_of.Reads as table-of-reads
-use mathlib.Core.Path.{sym, ap, _∙_}
+use mathlib.Core.Path.{refl, sym, ap, _∙_}
 use native.Mathlib.Omega.{arith}
 use borrow.Author.Tests.{not-false}
 use denote.Ref.{now}
@@ -52,7 +52,7 @@ run-requires c κs =
     let p = s .pre in
     let q = m .enum-told .given .1 in
     let w = own-given (now (a .tables)) (now (t .table-of .result)) (now (a .hints)) (now (h .hints-of .result)) (a .from .state .message) Skdupd q (p .0) (p .1) (t .table-of .ensures) (h .hints-of .ensures) in
-    (inside-is (a .from .state .phase) (sym (u .is-inside .ensures) ∙ not-false (u .is-inside .result) (i .if1 .left)), w .0, w .1, sym (ap periodRow q), p .2, p .3, p .4)
+    (inside-is (a .from .state .phase) (sym (u .is-inside .ensures) ∙ not-false (u .is-inside .result) (i .if1 .left)), w .0, w .1, sym (ap periodRow q), p .2, p .3, p .4, refl)
 
 enum-told-2 : tie.Need-enum-told-2
 enum-told-2 c = search needs
@@ -75,7 +75,7 @@ run-requires-2 c κs =
     let p = s .pre in
     let q = m .enum-told2 .given .1 in
     let w = own-given (now (a .tables)) (now (t .table-of2 .result)) (now (a .hints)) (now (h .hints-of2 .result)) (a .from .state .message) Tsdupd q (p .0) (p .1) (t .table-of2 .ensures) (h .hints-of2 .ensures) in
-    (inside-is (a .from .state .phase) (sym (u .is-inside .ensures) ∙ not-false (u .is-inside .result) (i .if1 .left)), w .0, w .1, sym (ap periodRow q), p .2, p .3, p .4)
+    (inside-is (a .from .state .phase) (sym (u .is-inside .ensures) ∙ not-false (u .is-inside .result) (i .if1 .left)), w .0, w .1, sym (ap periodRow q), p .2, p .3, p .4, refl)
 
 same-length : tie.Need-same-length
 same-length c = search needs

@@ -10,17 +10,20 @@ use Rattle.interchange.proofs.run.counted.Reads as counted-reads
 use Rattle.interchange.proofs.run.is_within.Reads as is-within-reads
 use Rattle.interchange.proofs.run.placed.Reads as placed-reads
 use Rattle.interchange.proofs.run.stay.Reads as stay-reads
-use mathlib.Core.Path.{_≡_, refl, sym, ap, _∙_}
+use mathlib.Core.Path.{_≡_, refl, sym, ap, subst, _∙_}
+use mathlib.Core.Bool.{Bool, true}
 use mathlib.Core.List.{List}
 use Prim.Native.Nat.{ℕ, _+_, _-_, _/_, _≤_, _<_}
 use native.Mathlib.Omega.{arith}
 use borrow.Author.Needs.{needs}
 use borrow.Author.Tests.{not-false}
 use denote.Ref.{now}
-use lib.Dec.{T}
+use lib.Dec.{T, eqb}
 use lib.ListN.{length, drop}
 use Rattle.syntax.specs.Ends.{end-within}
-use Rattle.syntax.specs.Segment.{tagNumber}
+use Rattle.laws.specs.Choice.{pick}
+use Rattle.period.specs.Period.{isGood, periodOf}
+use Rattle.syntax.specs.Segment.{bodyAt, tagNumber}
 use Rattle.steps.specs.declared.state.Row.{Row}
 use Rattle.placing.specs.Table.{Table, groupAt}
 use Rattle.hints.specs.Told.{right}
@@ -82,7 +85,7 @@ module _ (k : tie.After-to Inv-loop μ-loop) where
 
   -- the row of the period, by the caller's wish
   abbrev read : PeriodRow
-  read = record { row = start own .args .period; wish = start own .args .from .state .wish }
+  read = start own .args .period
 
   told : Tells (list own) (own .loop .at) table (own .loop .row) (own .loop .counts) read to next end
   told = led-known (list own) (own .loop .at) table (own .loop .row) (own .loop .counts) read (k .before .before .lead-on .ensures) (k .to .given .1)
@@ -213,7 +216,7 @@ loop-again c =
           (passed-told (list o) st (a .from .at) (a .from .numbers) (now (a .room)) st (p .0) (table k) (p .1)
           (o .loop .row) (o .loop .counts) (countedOf (st .segments) ((o .loop .numbers - a .from .numbers) / 3)) (o .loop .at) (o .loop .numbers) (o .loop .room) (i .0)
           (end k) (t .whole) (tagNumber (drop (o .loop .at) (list o))) refl (to k) (next k) (t .on)
-          (a .period) (p .3) (t .good)
+          (a .period .row) (p .3) (subst (λ (u : Bool). pick (eqb (to k) (a .period .row)) (isGood (periodOf u (bodyAt (list o) (o .loop .at)))) true ≡ true) (p .7) (t .good))
           (groupAt (table k) (to k)) refl
           (omega arith) (d .put-row .last .0)
           (d .put-row .ensures ∙ ap (putRow (o .loop .room) (o .loop .numbers)) (f .placed .ensures ∙ ap (rowWith (o .loop .at) (groupAt (table k) (to k))) (t .tagged)))),
