@@ -1,3 +1,4 @@
 pub mod Groups
 pub mod Rows
 pub mod Theorems
+pub mod Staged
