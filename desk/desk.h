@@ -45,7 +45,7 @@ int read_command(const char *name, bool every_day);
 // commands.c. A command over a register, by its words.
 bool read_number(const char *word, uint32_t *to);
 int perform(const char *name, int count, char **words);
-bool says(const char *word, const char *option);
+bool says(const char *word, const char *option); // whether there is a word, and it is this option
 int wrong(const char *what, const char *then); // says so, and gives USAGE
 
 #endif
