@@ -5,7 +5,7 @@
 //   bench where            what our time goes to, by interchanges that differ in one thing
 //   bench parcels          the whole reader's time over that in parcels of 1,460 bytes, and what a byte costs byte by byte (parcels.c)
 //   bench compare_parcels N SEED   N interchanges in parcels, under cuts by chance, and by the whole reader; stops at the first difference
-//   bench once WHO KIND N  one reading by `ours`, `parcels`, `yardstick` or `nobody` of `skdupd` or `tsdupd` of N bytes, for counting instructions
+//   bench once WHO KIND N  one reading by `ours`, `parcels`, `yardstick` or `nobody` of `skdupd`, `tsdupd` or `12b` of N bytes, for counting instructions
 #include "measure.h"
 #include "parcels.h"
 #include "samples.h"
@@ -297,7 +297,7 @@ static void put_segment(const char *tag, int read, unsigned density) {
 }
 
 // Walks the places of a group, or of a message, from one up to another.
-static void put_places(const struct place *t, size_t from, size_t to, int skdupd, unsigned density) {
+static void put_places(const struct place *t, size_t from, size_t to, int type, unsigned density) {
     char tag[4];
     for (size_t p = from; p < to; p += 1u + t[p].held) {
         unsigned times = t[p].mandatory;
@@ -320,11 +320,11 @@ static void put_places(const struct place *t, size_t from, size_t to, int skdupd
         tag_text(t[p].tag, tag);
         for (; times && pool.n < (target != NO_TARGET ? 55000 : 25000); times--) {
             if (!t[p].held) {
-                put_segment(tag, skdupd && t[p].group == 4, thin ? 0 : density);
+                put_segment(tag, type == SKDUPD && t[p].group == 4, thin ? 0 : density);
                 continue;
             }
-            put_segment(tag, skdupd && t[p].group == 4, thin ? 0 : density);
-            put_places(t, p + 2, p + 1 + t[p].held, skdupd, thin ? 0 : t[p].level > 1 ? density / 2 : density - density / 4);
+            put_segment(tag, type == SKDUPD && t[p].group == 4, thin ? 0 : density);
+            put_places(t, p + 2, p + 1 + t[p].held, type, thin ? 0 : t[p].level > 1 ? density / 2 : density - density / 4);
         }
     }
 }
@@ -332,20 +332,23 @@ static void put_places(const struct place *t, size_t from, size_t to, int skdupd
 // What an interchange looks into: anything, the greatest number of one place, or the contents of a period.
 enum { ANYTHING, AT_LIMIT, PERIODS };
 
+// SKDUPD as often as TSDUPD, of either directory.
+static int any_type(void) { return one_in(2) ? SKDUPD : one_in(2) ? TSDUPD : TSDUPD_12B; }
+
 static int faulty(void) { return fault_rate && one_in(2 * fault_rate); }
 
-static void put_header(int skdupd, unsigned density) {
+static void put_header(int type, unsigned density) {
     struct segment *g = begin("UIH", HEADER);
     static struct text reference;
     reference.n = 0;
     for (unsigned n = 1 + below(one_in(4) ? 20 : 3); n; n--)
         put(&reference, any_character());
     puts_to(&pool, "+");
-    put_word(&pool, faulty() ? (one_in(2) ? "" : "SKDUP") : skdupd ? "SKDUPD" : "TSDUPD");
+    put_word(&pool, faulty() ? (one_in(2) ? "" : one_in(2) ? "SKDUP" : "SKDUPD") : type == SKDUPD ? "SKDUPD" : "TSDUPD");
     puts_to(&pool, ":");
     put_word(&pool, faulty() ? (one_in(2) ? "" : "E") : "D");
     puts_to(&pool, ":");
-    put_word(&pool, faulty() ? (one_in(2) ? "" : "12B") : "04A");
+    put_word(&pool, faulty() ? (one_in(2) ? "" : one_in(2) ? "12B" : "04B") : type == TSDUPD_12B ? "12B" : "04A");
     puts_to(&pool, ":");
     put_word(&pool, faulty() ? "X" : "");
     puts_to(&pool, ":");
@@ -369,15 +372,15 @@ static void put_header(int skdupd, unsigned density) {
     end(g);
 }
 
-static void put_message(int skdupd, unsigned density, int at_limit) {
-    const struct place *t = skdupd ? yardstick_skdupd : yardstick_tsdupd;
-    size_t places = skdupd ? yardstick_skdupd_places : yardstick_tsdupd_places;
-    put_header(skdupd, density);
+static void put_message(int type, unsigned density, int at_limit) {
+    const struct place *t = type == SKDUPD ? yardstick_skdupd : type == TSDUPD ? yardstick_tsdupd : yardstick_tsdupd_12b;
+    size_t places = type == SKDUPD ? yardstick_skdupd_places : type == TSDUPD ? yardstick_tsdupd_places : yardstick_tsdupd_12b_places;
+    put_header(type, density);
     // a group of up to 99,999 is more than an interchange holds
     target = at_limit ? 1 + below((unsigned)places - 2) : NO_TARGET;
     if (at_limit && t[target].most > 2000)
         target++;
-    put_places(t, 1, places - 1, skdupd, density);
+    put_places(t, 1, places - 1, type, density);
     target = NO_TARGET;
     end(begin("UIT", TRAILER));
 }
@@ -410,7 +413,7 @@ static void put_interchange(int focus) {
         put_elements(&pool, 5);
     end(g);
     if (focus == AT_LIMIT) {
-        put_message(one_in(2), 0, 1);
+        put_message(any_type(), 0, 1);
     } else if (focus == PERIODS) {
         put_header(1, 0);
         put_segment("MSD", 0, 0);
@@ -424,7 +427,7 @@ static void put_interchange(int focus) {
         end(begin("UIT", TRAILER));
     } else {
         for (unsigned n = one_in(40) ? 12 : one_in(3) ? 1 + below(4) : 1; n; n--)
-            put_message(one_in(2), below(8), 0);
+            put_message(any_type(), below(8), 0);
     }
     end(begin("UIZ", CLOSER));
 }
@@ -689,19 +692,20 @@ static void damage_bytes(void) {
 
 // A message of so many bytes, whole, or one byte over: stations, or services, up to the length.
 static void put_sized(size_t n) {
-    int skdupd = one_in(2);
+    static const char *const headers[TYPES] = {"UIH+TSDUPD:D:04A::UN+", "UIH+SKDUPD:D:04A::UN+", "UIH+TSDUPD:D:12B::UN+"};
+    int type = any_type();
     pool.n = segment_count = dialogue.n = 0;
     release_rate = fault_rate = 0;
     puts_to(&dialogue, "7");
     struct segment *g = begin("UIB+UNOB:4+7", PLAIN);
     end(g);
-    g = begin(skdupd ? "UIH+SKDUPD:D:04A::UN+" : "UIH+TSDUPD:D:04A::UN+", HEADER);
+    g = begin(headers[type], HEADER);
     g->reference = pool.n;
     put(&pool, '1');
     g->reference_n = 1;
     end(g);
     end(begin("MSD", PLAIN));
-    if (skdupd) {
+    if (type == SKDUPD) {
         end(begin("ORG", PLAIN));
         end(begin("HDR", PLAIN));
     }
@@ -716,7 +720,7 @@ static void put_sized(size_t n) {
         if (left < 4)
             break;
         for (unsigned k = left > 6000 ? 200 : left > 600 ? 10 : 1; k; k--) {
-            g = begin(skdupd ? "PRD" : "ALS", PLAIN);
+            g = begin(type == SKDUPD ? "PRD" : "ALS", PLAIN);
             size_t most = left < 1200 ? left - 4 : 500;
             if (most && (left < 1200 || !shortest)) {
                 put(&pool, '+');
@@ -860,8 +864,8 @@ static int compare(unsigned long n, unsigned long seed) {
 // ---- Interchanges for the costs ----
 
 // Some text again and again while the interchange stays below a length.
-static void put_same(struct text *t, int skdupd, const char *first, const char *again, size_t longest) {
-    open_text(t, skdupd);
+static void put_same(struct text *t, int type, const char *first, const char *again, size_t longest) {
+    open_text(t, type);
     puts_to(t, first);
     while (t->n + strlen(again) + 40 <= longest)
         puts_to(t, again);
@@ -915,14 +919,16 @@ static void time_one(const char *name, unsigned rounds) {
 
 static void time_all(unsigned rounds) {
     printf("ratio: the yardstick's time over ours, so that 1.0 or more means at least as fast\n");
-    put_realistic(&sample, 1, LONGEST);
+    put_realistic(&sample, SKDUPD, LONGEST);
     time_one("SKDUPD, 60,000 bytes", rounds);
-    put_realistic(&sample, 0, LONGEST);
+    put_realistic(&sample, TSDUPD, LONGEST);
     time_one("TSDUPD, 60,000 bytes", rounds);
-    put_realistic(&sample, 1, 6000);
+    put_realistic(&sample, SKDUPD, 6000);
     time_one("SKDUPD, 6,000 bytes", rounds);
-    put_realistic(&sample, 0, 6000);
+    put_realistic(&sample, TSDUPD, 6000);
     time_one("TSDUPD, 6,000 bytes", rounds);
+    put_realistic(&sample, TSDUPD_12B, LONGEST);
+    time_one("D.12B, 60,000 bytes", rounds);
 }
 
 static double usual_ours, usual_theirs;
@@ -968,20 +974,20 @@ static void put_long_parts(void) {
 
 static void costs(unsigned rounds) {
     char *p = long_text;
-    put_realistic(&sample, 1, LONGEST);
+    put_realistic(&sample, SKDUPD, LONGEST);
     cost_one("realistic SKDUPD", rounds);
-    put_same(&sample, 0, "", "ALS'", LONGEST);
+    put_same(&sample, TSDUPD, "", "ALS'", LONGEST);
     cost_one("shortest segments, ALS", rounds);
-    put_same(&sample, 1, "", "PRD'", LONGEST);
+    put_same(&sample, SKDUPD, "", "PRD'", LONGEST);
     cost_one("shortest segments, PRD", rounds);
-    put_same(&sample, 0, "", "ALS'RFR'PRD'", LONGEST);
+    put_same(&sample, TSDUPD, "", "ALS'RFR'PRD'", LONGEST);
     cost_one("shortest, far apart", rounds);
     memcpy(p, "ALS+", 4);
     p += 4;
     for (unsigned k = 0; k < 512; k++, p += 2)
         memcpy(p, k % 3 ? "??" : "?'", 2);
     memcpy(p, "'", 2);
-    put_same(&sample, 0, "", long_text, LONGEST);
+    put_same(&sample, TSDUPD, "", long_text, LONGEST);
     cost_one("releases", rounds);
     p = long_text;
     memcpy(p, "POP+273:2000-01-01/2001-05-26::", 31);
@@ -989,12 +995,12 @@ static void costs(unsigned rounds) {
     for (unsigned k = 0; k < 512; k++)
         *p++ = "0110111"[k % 7];
     memcpy(p, "'", 2);
-    put_same(&sample, 1, "PRD+1'", long_text, LONGEST);
+    put_same(&sample, SKDUPD, "PRD+1'", long_text, LONGEST);
     cost_one("periods of 512 days", rounds);
     memcpy(long_text + 31 + 400, "'", 2);
-    put_same(&sample, 1, "PRD+1'", long_text, LONGEST);
+    put_same(&sample, SKDUPD, "PRD+1'", long_text, LONGEST);
     cost_one("400 characters for 512", rounds);
-    put_same(&sample, 1, "", "PRD'POP+273:2000-01-01/2001-05-26'", LONGEST);
+    put_same(&sample, SKDUPD, "", "PRD'POP+273:2000-01-01/2001-05-26'", LONGEST);
     cost_one("periods without days", rounds);
     put_long_parts();
     cost_one("parts not read, 512 each", rounds);
@@ -1004,9 +1010,9 @@ static void costs(unsigned rounds) {
     for (unsigned k = 0; k < 500; k++)
         *p++ = 'A';
     memcpy(p, "'", 2);
-    put_same(&sample, 0, "", long_text, LONGEST);
+    put_same(&sample, TSDUPD, "", long_text, LONGEST);
     cost_one("long plain text", rounds);
-    put_same(&sample, 0, "", "ALS+A:B:C:D*A:B:C:D+A:B:C*D:E+A:B:C:D'", LONGEST);
+    put_same(&sample, TSDUPD, "", "ALS+A:B:C:D*A:B:C:D+A:B:C*D:E+A:B:C:D'", LONGEST);
     cost_one("many marks", rounds);
 }
 
@@ -1027,7 +1033,7 @@ static struct reply nobody(const uint8_t *s, size_t n, _Bool old_reading, uint32
 }
 
 static int once(const char *who, const char *kind, unsigned long longest) {
-    put_realistic(&sample, !strcmp(kind, "skdupd"), longest);
+    put_realistic(&sample, !strcmp(kind, "skdupd") ? SKDUPD : !strcmp(kind, "tsdupd") ? TSDUPD : TSDUPD_12B, longest);
     reader *read = !strcmp(who, "ours") ? drumcallisto_read : !strcmp(who, "parcels") ? read_in_parcels : !strcmp(who, "yardstick") ? yardstick_read : nobody;
     struct reply r = read(sample.at, sample.n, OLD_READING, ours, MOST_NUMBERS);
     printf("%s %s: %lu bytes, %lu segments, number %u\n", who, kind, (unsigned long)sample.n, (unsigned long)r.rows, r.number);

@@ -157,7 +157,7 @@ static void put_longest(void) {
     size_t end = 0, length = LONGEST + 2 - (one_in(2) ? 2 : below(5));
     int services = old_reading ? one_in(2) : one_in(8);
     uint64_t kept = chance;
-    put_realistic(&joined, services, LONGEST - 40);
+    put_realistic(&joined, services ? SKDUPD : TSDUPD, LONGEST - 40);
     chance = kept;
     while (joined.at[end] != '\'')
         end++;
@@ -326,10 +326,10 @@ static double took(struct reply read(const uint8_t *, size_t, _Bool, uint32_t *,
 }
 
 // The three in turn, many rounds; the least time of each for a byte.
-static void time_one(const char *name, int skdupd, size_t longest, unsigned rounds) {
+static void time_one(const char *name, int type, size_t longest, unsigned rounds) {
     static struct text sample;
     static double a[MOST_ROUNDS], b[MOST_ROUNDS], c[MOST_ROUNDS];
-    put_realistic(&sample, skdupd, longest);
+    put_realistic(&sample, type, longest);
     double n = (double)sample.n;
     unsigned times = 1 + (unsigned)(2e6 / took(drumcallisto_read, &sample, 2)), few = 1 + (unsigned)(2e6 / took(read_by_bytes, &sample, 1));
     for (unsigned k = 0; k < rounds; k++) {
@@ -345,8 +345,8 @@ static void time_one(const char *name, int skdupd, size_t longest, unsigned roun
 
 void time_parcels(unsigned rounds) {
     printf("ratio: the whole reader's time over that in parcels of %d bytes; byte by byte, a byte should cost the same at both lengths\n", PARCEL);
-    time_one("SKDUPD, 60,000 bytes", 1, LONGEST, rounds);
-    time_one("TSDUPD, 60,000 bytes", 0, LONGEST, rounds);
-    time_one("SKDUPD, 6,000 bytes", 1, 6000, rounds);
-    time_one("TSDUPD, 6,000 bytes", 0, 6000, rounds);
+    time_one("SKDUPD, 60,000 bytes", SKDUPD, LONGEST, rounds);
+    time_one("TSDUPD, 60,000 bytes", TSDUPD, LONGEST, rounds);
+    time_one("SKDUPD, 6,000 bytes", SKDUPD, 6000, rounds);
+    time_one("TSDUPD, 6,000 bytes", TSDUPD, 6000, rounds);
 }

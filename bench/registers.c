@@ -214,7 +214,7 @@ static unsigned long segments_of(const struct text *t, size_t from) {
 static void put_message(struct text *t, const uint8_t *b, size_t account) {
     size_t from = t->n;
     int skdupd = !one_in(10);
-    puts_to(t, skdupd ? "UIH+SKDUPD:D:04A::UN+1'MSD+AAR:" : "UIH+TSDUPD:D:04A::UN+1'MSD+AAR:");
+    puts_to(t, skdupd ? "UIH+SKDUPD:D:04A::UN+1'MSD+AAR:" : one_in(2) ? "UIH+TSDUPD:D:04A::UN+1'MSD+AAR:" : "UIH+TSDUPD:D:12B::UN+1'MSD+AAR:");
     puts_to(t, one_in(2) ? "56'" : "61'");
     puts_to(t, skdupd ? "ORG'HDR'" : "ALS'RFR'PRD+1'POP'");
     unsigned many = two_bytes(b + 2) > 60 && one_in(3) ? 60 : 4;
@@ -657,7 +657,7 @@ static void time_call(const char *name, call *us, call *them, unsigned rounds) {
 
 // The services 1000 to 1255, each on every second day or so of the window.
 static void put_numbers(struct text *t, size_t from, size_t to) {
-    open_text(t, 1);
+    open_text(t, SKDUPD);
     for (; from < to; from++) {
         puts_to(t, "PRD+");
         put_number(t, 1000 + from, 1);
@@ -680,7 +680,7 @@ static void time_all(unsigned rounds) {
     double read_a, read_b, stage_a, stage_b;
     release_rate = 0;
     yardstick_open(empty, REGISTER_LENGTH, 2000, 8, 1, one_account);
-    put_realistic(&sample, 1, LONGEST);
+    put_realistic(&sample, SKDUPD, LONGEST);
     measure(our_read, their_read, empty, rounds, &read_a, &read_b);
     measure(our_stage, their_stage, empty, rounds, &stage_a, &stage_b);
     show_times("reading SKDUPD", read_a, read_b);

@@ -103,11 +103,15 @@ static unsigned long text_segments(const struct text *t, size_t from) {
     return n;
 }
 
-void open_text(struct text *t, int skdupd) {
+void open_text(struct text *t, int type) {
     t->n = 0;
     puts_to(t, "UIB+UNOB:4+0080-2000-0001+++0080+1187+20000715:142200'");
-    puts_to(t, skdupd ? "UIH+SKDUPD:D:04A::UN+1'MSD+AAR:61'ORG+0080+++0080'HDR+81+273:2000-08-01/2001-05-26*11:2000-07-15T1422*45:2000-07-15T1422+0003'"
-                      : "UIH+TSDUPD:D:04A::UN+1'MSD+AAR:61'HDR+81+273:2000-08-01/2001-05-26*45:2000-07-15T1422+0003'");
+    if (type == SKDUPD) {
+        puts_to(t, "UIH+SKDUPD:D:04A::UN+1'MSD+AAR:61'ORG+0080+++0080'HDR+81+273:2000-08-01/2001-05-26*11:2000-07-15T1422*45:2000-07-15T1422+0003'");
+        return;
+    }
+    puts_to(t, type == TSDUPD ? "UIH+TSDUPD:D:04A::UN+1'" : "UIH+TSDUPD:D:12B::UN+1'");
+    puts_to(t, "MSD+AAR:61'HDR+81+273:2000-08-01/2001-05-26*45:2000-07-15T1422+0003'");
 }
 
 void close_text(struct text *t) {
@@ -221,12 +225,12 @@ static void put_place(struct text *t) {
 }
 
 // Whole services, or stations, while the interchange stays below a length.
-void put_realistic(struct text *t, int skdupd, size_t longest) {
-    chance = 20000801u + longest + (unsigned)skdupd;
-    open_text(t, skdupd);
+void put_realistic(struct text *t, int type, size_t longest) {
+    chance = 20000801u + longest + (unsigned)(type == SKDUPD);
+    open_text(t, type);
     for (;;) {
         size_t n = t->n;
-        skdupd ? put_service(t) : put_place(t);
+        type == SKDUPD ? put_service(t) : put_place(t);
         if (t->n + 40 > longest) {
             t->n = n;
             break;

@@ -36,13 +36,13 @@ unsigned short_string(unsigned days);
 void put_date(struct text *t, unsigned day);
 
 // An interchange with one message, up to where its services or stations begin, and from where they end.
-void open_text(struct text *t, int skdupd);
+void open_text(struct text *t, int type);
 void close_text(struct text *t);
 
 // What is timed is read with the wish for the old reading: the services have POPs with neither form.
 enum { OLD_READING = 1 };
 
 // Whole services, or stations, while the interchange stays below a length.
-void put_realistic(struct text *t, int skdupd, size_t longest);
+void put_realistic(struct text *t, int type, size_t longest);
 
 #endif

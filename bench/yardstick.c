@@ -36,16 +36,21 @@ static int trailer(const uint8_t *g, const uint8_t *end, struct part reference, 
 }
 
 // "UIH names in S306 the type, D, 04A, an empty 0113 and UN; then the reference 0340": 0, or 7 where one is absent, or 8.
-static unsigned header(const uint8_t *g, const uint8_t *end, int *skdupd, struct part *reference) {
-    struct part type = part_of(g, end, 1, 1), version = part_of(g, end, 1, 2), release = part_of(g, end, 1, 3);
+// Document 02, A8: a TSDUPD may name 12B, "a SKDUPD that names 12B is still 8".
+static unsigned header(const uint8_t *g, const uint8_t *end, int *type, struct part *reference) {
+    struct part name = part_of(g, end, 1, 1), version = part_of(g, end, 1, 2), release = part_of(g, end, 1, 3);
     struct part agency = part_of(g, end, 1, 5);
     *reference = part_of(g, end, 2, 1);
-    if (!present(type) || !present(version) || !present(release) || !present(agency) || !present(*reference))
+    if (!present(name) || !present(version) || !present(release) || !present(agency) || !present(*reference))
         return 7;
-    if (!says(version, "D") || !says(release, "04A") || present(part_of(g, end, 1, 4)) || !says(agency, "UN"))
+    if (!says(version, "D") || present(part_of(g, end, 1, 4)) || !says(agency, "UN"))
         return 8;
-    *skdupd = says(type, "SKDUPD");
-    return *skdupd || says(type, "TSDUPD") ? 0 : 8;
+    if (!says(release, "04A")) {
+        *type = TSDUPD_12B;
+        return says(release, "12B") && says(name, "TSDUPD") ? 0 : 8;
+    }
+    *type = says(name, "SKDUPD") ? SKDUPD : TSDUPD;
+    return *type == SKDUPD || says(name, "TSDUPD") ? 0 : 8;
 }
 
 // How far a reading has come: the offset of the next segment, and where its row goes.
@@ -125,17 +130,17 @@ static unsigned inside(struct reading *d, const uint8_t *g, const uint8_t *end, 
 
 // A segment outside of messages: 0, or the number of its refusal.
 static unsigned outside(struct reading *d, const uint8_t *g, const uint8_t *end, uint32_t tag) {
-    int skdupd;
+    int type;
     if (d->phase == OPENING) {
         d->dialogue = part_of(g, end, 2, 1);
         d->phase = BETWEEN;
         return tag == TAG('U', 'I', 'B') && says(part_of(g, end, 1, 1), "UNOB") && says(part_of(g, end, 1, 2), "4") && present(d->dialogue) ? 0 : 7;
     }
     if (tag == TAG('U', 'I', 'H')) {
-        unsigned number = header(g, end, &skdupd, &d->reference);
+        unsigned number = header(g, end, &type, &d->reference);
         if (number)
             return number;
-        d->message = &yardstick_messages[skdupd];
+        d->message = &yardstick_messages[type];
         d->reached = (struct reached){0, {1}};
         d->segments = 1;
         d->phase = INSIDE;

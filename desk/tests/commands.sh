@@ -24,6 +24,7 @@ table="offset${tab}group${tab}tag${line}0${tab}0${tab}UIB${line}13${tab}0${tab}U
 expect 0 "$table" "" read "$samples/paper.edi"
 same "read -" "$table" "$("$DESK" read - < "$samples/paper.edi")"
 same "rows of samples/skdupd.edi" 35 "$("$DESK" read "$samples/skdupd.edi" | wc -l)"
+same "rows of samples/tsdupd-12b.edi" 23 "$("$DESK" read "$samples/tsdupd-12b.edi" | wc -l)"
 expect 3 "" "desk: none.edi: No such file or directory" read none.edi
 expect 3 "" "Is a directory" read .
 

@@ -39,7 +39,7 @@ repeated() {
 anew
 
 # Good files: as they are read by name, whole, in pieces and byte by byte.
-for name in paper skdupd tsdupd both timetable; do
+for name in paper skdupd tsdupd tsdupd-12b both directories timetable; do
     table=$("$DESK" read "$samples/$name.edi")
     piped 0 "$table" "" cat "$samples/$name.edi"
     piped 0 "$table" "" dd bs=1 if="$samples/$name.edi"

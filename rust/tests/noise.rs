@@ -91,7 +91,7 @@ fn damaged_samples() {
     let register = opened();
     let mut chance = Chance(2);
     let mut accepted = 0;
-    let samples = ["paper.edi", "skdupd.edi", "tsdupd.edi", "both.edi"].map(|name| (name, sample(name)));
+    let samples = ["paper.edi", "skdupd.edi", "tsdupd.edi", "directories.edi"].map(|name| (name, sample(name)));
     let neither = skdupd(&[put("17", "2000-08-01/2000-08-13")]);
     for (name, whole) in samples.into_iter().chain([("a POP with neither form", neither)]) {
         assert!(answers(&register, &whole), "{name}");

@@ -57,7 +57,7 @@ fn samples() {
         assert_eq!(read(&sample(name), Refused).unwrap_err(), refusal, "{name}");
         assert_eq!(read(&sample(name), EveryDay).unwrap_err(), refusal, "{name}");
     }
-    for (name, count) in [("paper.edi", 5), ("skdupd.edi", 34), ("tsdupd.edi", 16), ("both.edi", 19)] {
+    for (name, count) in [("paper.edi", 5), ("skdupd.edi", 34), ("tsdupd.edi", 16), ("tsdupd-12b.edi", 22), ("both.edi", 19), ("directories.edi", 26)] {
         let bytes = sample(name);
         let rows = rows(&bytes);
         assert_eq!(rows.len(), count, "{name}");

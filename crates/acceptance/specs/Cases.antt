@@ -1,4 +1,4 @@
--- "Printed whole", computed: the 63 bytes are an interchange with the rows that document 01 prints, and its two refusals.
+-- "Printed whole", computed: the 63 bytes are an interchange with the rows that document 01 prints, and its two refusals. The same of D.12B (document 02, A8).
 -- Assumes nothing.
 use mathlib.Core.Path.{_≡_, refl}
 use mathlib.Core.Bool.{true, false}
@@ -15,6 +15,7 @@ use Rattle.placing.specs.Rule.{reachable, firstFit, inGroup, again, laterOnes, 
 use Rattle.messages.specs.Tags.{UIB, UIH, MSD, UIT, UIZ}
 use Rattle.placing.specs.Skdupd.{skdupdTable}
 use Rattle.placing.specs.Tsdupd.{tsdupdTable}
+use Rattle.placing.specs.Tsdupd12B.{tsdupd12BTable}
 use Rattle.placing.specs.Tables.{tables, tableIn}
 use Rattle.laws.specs.Decimal.{decimalOn}
 use Rattle.laws.specs.Text.{bytes}
@@ -23,6 +24,7 @@ use Rattle.answers.specs.Answers.{refused, naming}
 use Rattle.steps.specs.Step.{opening, betweenMessages, closing, trailing, placed, insideMessage, stepBy}
 use Rattle.interchange.specs.Reader.{turnAt, readOn, readingOf, numbers}
 use Rattle.acceptance.specs.Interchange.{segmentsWritten, unbroken, isSegment, Interchange, segmentsOf, placesFrom, isMessage, rulesHold, rowsFrom, rowsOf}
+use Rattle.acceptance.specs.Before.{uihBefore, betweenBefore, readOnBefore, readingBefore}
 
 abbrev uib : List ℕ
 uib = bytes "UIB+UNOB:4+7"
@@ -74,3 +76,35 @@ refused-four = refl
 pub refused-newline : readingOf false (segmentsWritten (segmentsOf (one uit)) ++ (10 ∷ [])) .verdict ≡ refused (naming 7 63)
 unfolding segmentsWritten permittedOf plainOn firstPiece laterPieces partOf tagged componentFits occurrenceFits elementFits withinLimits wellFormed scanOf permittedRun spanOf countedAt elementAt sameText entryOf afterOf endOf placesOn reachable firstFit inGroup again laterOnes choicesFrom firstOf stepOf skdupdTable tsdupdTable tables tableIn decimalOn uibOf uihOf trailerOf opening betweenMessages closing trailing placed insideMessage stepBy turnAt readOn readingOf
 refused-newline = refl
+
+-- the same with another UIH
+abbrev headed-by : List ℕ → Interchange
+headed-by heading = record { opening = uib; messages = record { heading = heading; within = msd ∷ []; trailer = uit } ∷ []; closing = uiz }
+
+abbrev tsdupd12B : List ℕ
+tsdupd12B = bytes "UIH+TSDUPD:D:12B::UN+1"
+
+abbrev skdupd12B : List ℕ
+skdupd12B = bytes "UIH+SKDUPD:D:12B::UN+1"
+
+abbrev with-function : List ℕ
+with-function = bytes "UIH+TSDUPD:D:12B:X:UN+1"
+
+-- A8: "its UIH names 12B"
+pub later : rulesHold false (headed-by tsdupd12B) ≡ true
+unfolding rulesHold isMessage isSegment unbroken placesFrom permittedOf plainOn firstPiece laterPieces partOf tagged componentFits occurrenceFits elementFits withinLimits wellFormed spanOf countedAt elementAt sameText entryOf afterOf endOf placesOn reachable firstFit inGroup again laterOnes choicesFrom firstOf stepOf skdupdTable tsdupdTable tsdupd12BTable tables tableIn decimalOn uibOf uihOf trailerOf
+later = refl
+
+-- "a SKDUPD that names 12B is still 8", and so is a TSDUPD with 0113
+pub refused-skdupd : readingOf false (segmentsWritten (segmentsOf (headed-by skdupd12B))) .verdict ≡ refused (naming 8 13)
+unfolding segmentsWritten permittedOf plainOn firstPiece laterPieces partOf tagged componentFits occurrenceFits elementFits withinLimits wellFormed scanOf permittedRun spanOf countedAt elementAt sameText entryOf afterOf endOf placesOn reachable firstFit inGroup again laterOnes choicesFrom firstOf stepOf skdupdTable tsdupdTable tsdupd12BTable tables tableIn decimalOn uibOf uihOf trailerOf opening betweenMessages closing trailing placed insideMessage stepBy turnAt readOn readingOf
+refused-skdupd = refl
+
+pub refused-function : readingOf false (segmentsWritten (segmentsOf (headed-by with-function))) .verdict ≡ refused (naming 8 13)
+unfolding segmentsWritten permittedOf plainOn firstPiece laterPieces partOf tagged componentFits occurrenceFits elementFits withinLimits wellFormed scanOf permittedRun spanOf countedAt elementAt sameText entryOf afterOf endOf placesOn reachable firstFit inGroup again laterOnes choicesFrom firstOf stepOf skdupdTable tsdupdTable tsdupd12BTable tables tableIn decimalOn uibOf uihOf trailerOf opening betweenMessages closing trailing placed insideMessage stepBy turnAt readOn readingOf
+refused-function = refl
+
+-- it was 8 before
+pub later-before : readingBefore false (segmentsWritten (segmentsOf (headed-by tsdupd12B))) .verdict ≡ refused (naming 8 13)
+unfolding segmentsWritten permittedOf plainOn firstPiece laterPieces partOf tagged componentFits occurrenceFits elementFits withinLimits wellFormed scanOf permittedRun spanOf countedAt elementAt sameText entryOf afterOf endOf placesOn reachable firstFit inGroup again laterOnes choicesFrom firstOf stepOf skdupdTable tsdupdTable tsdupd12BTable tables tableIn decimalOn uibOf uihOf trailerOf opening betweenMessages closing trailing placed insideMessage stepBy turnAt readOn readingOf uihBefore betweenBefore readOnBefore readingBefore
+later-before = refl

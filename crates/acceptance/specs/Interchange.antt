@@ -71,7 +71,8 @@ abbrev pub names : Opened → Bool
 names (opened.Dialogue p) = true
 names opened.Wrong = false
 
--- "UIH names in S306 .. the type, `D`, `04A`, an empty 0113 and `UN`; then the reference 0340."
+-- "UIH names in S306 .. the type, `D`, `04A`, an empty 0113 and `UN`; then the reference 0340." Document 02, A8: that of a TSDUPD may name 12B,
+-- and "each message's UIH decides".
 abbrev pub known : Headed → Bool
 known (headed.Message m p) = true
 known headed.Missing = false

@@ -8,5 +8,7 @@ pub mod When
 pub mod Only
 pub mod Same
 pub mod Theorems
-pub mod Cases
 pub mod Wishes
+pub mod Before
+pub mod Narrowed
+pub mod Cases

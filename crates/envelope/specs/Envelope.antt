@@ -14,7 +14,7 @@ use Rattle.parts.specs.declared.Part.{Part}
 use Rattle.parts.specs.Places.{partAt, present}
 use Rattle.values.specs.Values.{sameText}
 use Rattle.messages.specs.declared.MessageType.{MessageType}
-use Rattle.messages.specs.declared.MessageType.the-variants.{Skdupd, Tsdupd}
+use Rattle.messages.specs.declared.MessageType.the-variants.{Skdupd, Tsdupd, Tsdupd12B}
 use Rattle.envelope.specs.declared.Opened.{Opened}
 use Rattle.envelope.specs.declared.Opened.the-variants.{Dialogue, Wrong}
 use Rattle.envelope.specs.declared.Headed.{Headed}
@@ -53,6 +53,9 @@ versionD = bytes "D"
 abbrev pub release04A : List ℕ
 release04A = bytes "04A"
 
+abbrev pub release12B : List ℕ
+release12B = bytes "12B"
+
 abbrev pub agencyUN : List ℕ
 agencyUN = bytes "UN"
 
@@ -87,20 +90,32 @@ referenceOf g = valueOf g 2 1
 abbrev pub complete : List ℕ → List ℕ → List ℕ → List ℕ → List ℕ → Bool
 complete type version release agency reference = all present (type ∷ version ∷ release ∷ agency ∷ reference ∷ [])
 
--- "(..; in S306 another than these is 8)": the parts of S306 after the type
+-- "(..; in S306 another than these is 8)": the parts of S306 after the type, in the directory of a release
+abbrev pub directoryOf : List ℕ → List ℕ → List ℕ → List ℕ → List ℕ → Bool
+directoryOf named version release subFunction agency =
+    both (says version versionD) (both (says release named) (both (not (present subFunction)) (says agency agencyUN)))
+
 abbrev pub directory : List ℕ → List ℕ → List ℕ → List ℕ → Bool
-directory version release subFunction agency =
-    both (says version versionD) (both (says release release04A) (both (not (present subFunction)) (says agency agencyUN)))
+directory = directoryOf release04A
+
+-- Document 02, A8: "its UIH names 12B"; document 003, UIH: "0065 TSDUPD 0052 D 0054 12B 0051 UN"
+abbrev pub directory12B : List ℕ → List ℕ → List ℕ → List ℕ → Bool
+directory12B = directoryOf release12B
 
 -- the type; with it goes the place of 0340
 abbrev pub typed : List ℕ → Part → Headed
 typed type reference = pick (says type SKDUPD) (Message Skdupd reference) (pick (says type TSDUPD) (Message Tsdupd reference) Unknown)
 
--- an absent part is 7 also where another part is wrong; then what is not known is 8
+-- A8: "a SKDUPD that names 12B is still 8"
+abbrev pub typed12B : List ℕ → Part → Headed
+typed12B type reference = pick (says type TSDUPD) (Message Tsdupd12B reference) Unknown
+
+-- an absent part is 7 also where another part is wrong; then what is not known is 8. A8: "Take both; each message's UIH decides"
 unfoldable pub uihOf : List ℕ → Headed
 uihOf g =
     pick (complete (typeOf g) (versionOf g) (releaseNumberOf g) (agencyOf g) (referenceOf g))
-    (pick (directory (versionOf g) (releaseNumberOf g) (subFunctionOf g) (agencyOf g)) (typed (typeOf g) (placeOf g 2 1)) Unknown)
+    (pick (directory (versionOf g) (releaseNumberOf g) (subFunctionOf g) (agencyOf g)) (typed (typeOf g) (placeOf g 2 1))
+    (pick (directory12B (versionOf g) (releaseNumberOf g) (subFunctionOf g) (agencyOf g)) (typed12B (typeOf g) (placeOf g 2 1)) Unknown))
     Missing
 
 -- A trailer repeats a reference, as it was written, in its first element and gives a count in its second.
@@ -144,10 +159,14 @@ typeAnswer at type reference =
     pick (says type SKDUPD) (done (record { message = Skdupd; reference = reference }))
     (pick (says type TSDUPD) (done (record { message = Tsdupd; reference = reference })) (unknownType at))
 
+abbrev pub type12BAnswer : ℕ → List ℕ → Part → Answer Head
+type12BAnswer at type reference = pick (says type TSDUPD) (done (record { message = Tsdupd12B; reference = reference })) (unknownType at)
+
 unfoldable pub uihAnswer : ℕ → List ℕ → Answer Head
 uihAnswer at g =
     pick (complete (typeOf g) (versionOf g) (releaseNumberOf g) (agencyOf g) (referenceOf g))
-    (pick (directory (versionOf g) (releaseNumberOf g) (subFunctionOf g) (agencyOf g)) (typeAnswer at (typeOf g) (placeOf g 2 1)) (unknownType at))
+    (pick (directory (versionOf g) (releaseNumberOf g) (subFunctionOf g) (agencyOf g)) (typeAnswer at (typeOf g) (placeOf g 2 1))
+    (pick (directory12B (versionOf g) (releaseNumberOf g) (subFunctionOf g) (agencyOf g)) (type12BAnswer at (typeOf g) (placeOf g 2 1)) (unknownType at)))
     (wrongEnvelope at)
 
 abbrev pub uitAnswer : ℕ → List ℕ → List ℕ → ℕ → Answer (Unit {0})

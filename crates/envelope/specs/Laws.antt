@@ -18,10 +18,10 @@ use Rattle.parts.specs.declared.Part.{Part}
 use Rattle.parts.specs.Places.{present, bytesOf, elementAt, occurrenceAt}
 use Rattle.parts.specs.Located.{Inside, part-bytes, part-inside, absent-bytes, bytes-present}
 use Rattle.messages.specs.declared.MessageType.{MessageType}
-use Rattle.messages.specs.declared.MessageType.the-variants.{Skdupd, Tsdupd}
+use Rattle.messages.specs.declared.MessageType.the-variants.{Skdupd, Tsdupd, Tsdupd12B}
 use Rattle.envelope.specs.declared.Opened.the-variants.{Dialogue, Wrong}
 use Rattle.envelope.specs.declared.Headed.the-variants.{Message, Missing, Unknown}
-use Rattle.envelope.specs.Envelope.{says, valueOf, placeOf, complete, directory, typed, typeOf, versionOf, releaseNumberOf, agencyOf, subFunctionOf, referenceOf, UNOB, version4, SKDUPD, TSDUPD, uibOf, uihOf}
+use Rattle.envelope.specs.Envelope.{says, valueOf, placeOf, complete, directory, directory12B, typed, typed12B, typeOf, versionOf, releaseNumberOf, agencyOf, subFunctionOf, referenceOf, UNOB, version4, SKDUPD, TSDUPD, uibOf, uihOf}
 
 -- what stands up to a list's end; the parts of the whole segment are the segment's
 pub between-end : (g : List ℕ) (a : ℕ) → between g a (length g) ≡ drop a g
@@ -120,6 +120,9 @@ typed-place l a p m q =
     choose (says l TSDUPD) (λ t. message-place Tsdupd m a p (rw (k, t) at q))
     (λ t. absurd (unknown≢message m p (rw (k, t) at q))))
 
+typed12B-place : (l : List ℕ) (a p : Part) (m : MessageType) → typed12B l a ≡ Message m p → a ≡ p
+typed12B-place l a p m q = choose (says l TSDUPD) (λ t. message-place Tsdupd12B m a p (rw t at q)) (λ t. absurd (unknown≢message m p (rw t at q)))
+
 complete-reference : (a b d e r : List ℕ) → complete a b d e r ≡ true → present r ≡ true
 complete-reference a b d e r q =
     let w = both-parts (present a) (both (present b) (both (present d) (both (present e) (both (present r) true)))) q .1 in
@@ -134,13 +137,15 @@ module _ (g : List ℕ) (m : MessageType) (p : Part) where
   unfolding uihOf
   good-head q =
       choose (complete (typeOf g) (versionOf g) (releaseNumberOf g) (agencyOf g) (referenceOf g))
-      (λ k.
-      choose (directory (versionOf g) (releaseNumberOf g) (subFunctionOf g) (agencyOf g))
-      (λ d. (
+      (λ k. (
         complete-reference (typeOf g) (versionOf g) (releaseNumberOf g) (agencyOf g) (referenceOf g) k,
-        typed-place (typeOf g) (placeOf g 2 1) p m (rw (k, d) at q),
+        choose (directory (versionOf g) (releaseNumberOf g) (subFunctionOf g) (agencyOf g))
+            (λ d. typed-place (typeOf g) (placeOf g 2 1) p m (rw (k, d) at q))
+            (λ d.
+            choose (directory12B (versionOf g) (releaseNumberOf g) (subFunctionOf g) (agencyOf g))
+            (λ e. typed12B-place (typeOf g) (placeOf g 2 1) p m (rw (k, d, e) at q))
+            (λ e. absurd (unknown≢message m p (rw (k, d, e) at q)))),
       ))
-      (λ d. absurd (unknown≢message m p (rw (k, d) at q))))
       (λ k. absurd (missing≢message m p (rw k at q)))
 
   pub uih-place : uihOf g ≡ Message m p → p ≡ placeOf g 2 1

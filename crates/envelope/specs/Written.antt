@@ -18,7 +18,7 @@ use Rattle.parts.specs.declared.Part.{Part}
 use Rattle.parts.specs.Places.{partAt, elementAt, occurrenceAt, componentAt, spanOf, present}
 use Rattle.parts.specs.Next.{behind-component}
 use Rattle.messages.specs.declared.MessageType.{MessageType}
-use Rattle.messages.specs.declared.MessageType.the-variants.{Skdupd, Tsdupd}
+use Rattle.messages.specs.declared.MessageType.the-variants.{Skdupd, Tsdupd, Tsdupd12B}
 use Rattle.envelope.specs.declared.Opened.{Opened}
 use Rattle.envelope.specs.declared.Opened.the-variants.{Dialogue, Wrong}
 use Rattle.envelope.specs.declared.Headed.{Headed}
@@ -60,7 +60,7 @@ begins-split (b ∷ g) (t ∷ text) q =
     let w = both-parts (eqb b t) (beginsWith g text) q in
     rw (eqb-true b t (w .0)) (ap (λ (x : List ℕ). t ∷ x) (begins-split g text (w .1)))
 
--- a UIB and the two types of a UIH, as they are mostly written
+-- a UIB and the types of a UIH, as they are mostly written
 abbrev pub headUNOB : List ℕ
 headUNOB = bytes "UIB+UNOB:4+"
 
@@ -69,6 +69,9 @@ headSKDUPD = bytes "UIH+SKDUPD:D:04A::UN+"
 
 abbrev pub headTSDUPD : List ℕ
 headTSDUPD = bytes "UIH+TSDUPD:D:04A::UN+"
+
+abbrev pub headTSDUPD12B : List ℕ
+headTSDUPD12B = bytes "UIH+TSDUPD:D:12B::UN+"
 
 -- From the `+` at the end of such a text on, the second element is the first: a reference's place is found without passing what is known.
 unfoldable pub besides : ℕ → List ℕ → Part
@@ -118,6 +121,14 @@ tsdupd =
     record {
       element = λ rest. rw (between-end (headTSDUPD ++ rest) 20, whole-bytes (headTSDUPD ++ rest));
       good = λ rest. rw (both-true (present (referenceOf (headTSDUPD ++ rest))));
+    }
+
+tsdupd12B : Known headTSDUPD12B 20 uihOf Missing (Message Tsdupd12B)
+unfolding uihOf partOf firstPiece laterPieces plainOn sameText elementAt spanOf
+tsdupd12B =
+    record {
+      element = λ rest. rw (between-end (headTSDUPD12B ++ rest) 20, whole-bytes (headTSDUPD12B ++ rest));
+      good = λ rest. rw (both-true (present (referenceOf (headTSDUPD12B ++ rest))));
     }
 
 module _ {A : Type 0} (text : List ℕ) (at : ℕ) (of : List ℕ → A) (missing : A) (found : Part → A) (k : Known text at of missing found) where
@@ -171,3 +182,6 @@ skdupd-head g q = written headSKDUPD 20 uihOf Missing (Message Skdupd) skdupd g 
 
 pub tsdupd-head : (g : List ℕ) → beginsWith g headTSDUPD ≡ true → writtenOf Tsdupd g ≡ uihOf g
 tsdupd-head g q = written headTSDUPD 20 uihOf Missing (Message Tsdupd) tsdupd g q
+
+pub tsdupd12B-head : (g : List ℕ) → beginsWith g headTSDUPD12B ≡ true → writtenOf Tsdupd12B g ≡ uihOf g
+tsdupd12B-head g q = written headTSDUPD12B 20 uihOf Missing (Message Tsdupd12B) tsdupd12B g q

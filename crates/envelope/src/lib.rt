@@ -13,8 +13,9 @@ ghost use Rattle.laws.specs.Decimal.{decimalOf};
 ghost use Rattle.syntax.specs.Bytes.{plain};
 ghost use Rattle.parts.specs.Places.{present};
 ghost use Rattle.values.specs.Values.{sameText};
-ghost use Rattle.envelope.specs.Envelope.{valueOf, placeOf, directory, typed, uibOf, uihOf, trailerOf, uitOf, uizOf, openingAnswer, headedAnswer, trailerAnswer, uibAnswer, uihAnswer, uitAnswer, uizAnswer};
+ghost use Rattle.envelope.specs.Envelope.{valueOf, placeOf, typed, typed12B, uibOf, uihOf, trailerOf, uitOf, uizOf, openingAnswer, headedAnswer, trailerAnswer, uibAnswer, uihAnswer, uitAnswer, uizAnswer};
 ghost use Rattle.envelope.specs.Laws.{occurrenceFound};
+ghost use Rattle.envelope.specs.Ways.{besidesRelease};
 ghost use Rattle.envelope.specs.Written.{beginsWith, besides, openedOf, writtenOf};
 
 /// What a UIB says.
@@ -204,14 +205,11 @@ fn is_complete(message_type: &[u8], version: &[u8], release: &[u8], agency: &[u8
     is_present(agency)
 }
 
-// Whether the parts of S306 after the type are those of directory D.04A.
-fn is_directory(version: &[u8], release: &[u8], sub_function: &[u8], agency: &[u8]) -> bool
-    ensures { λ r. ⌜ r ≡ directory (now (version .entry)) (now (release .entry)) (now («sub_function» .entry)) (now (agency .entry)) ⌝ }
+// Whether the parts of S306 that are the same in every directory are right: all after the type but the release.
+fn is_directory(version: &[u8], sub_function: &[u8], agency: &[u8]) -> bool
+    ensures { λ r. ⌜ r ≡ besidesRelease (now (version .entry)) (now («sub_function» .entry)) (now (agency .entry)) ⌝ }
 {
     if !values::equals(version, b"D") {
-        return false;
-    }
-    if !values::equals(release, b"04A") {
         return false;
     }
     if is_present(sub_function) {
@@ -220,7 +218,7 @@ fn is_directory(version: &[u8], release: &[u8], sub_function: &[u8], agency: &[u
     values::equals(agency, b"UN")
 }
 
-// The message of a type whose reference stands at a place.
+// The message of a type of D.04A whose reference stands at a place.
 fn message(message_type: &[u8], reference: Part) -> Headed
     ensures { λ r. ⌜ r ≡ typed (now («message_type» .entry)) reference ⌝ }
 {
@@ -231,6 +229,16 @@ fn message(message_type: &[u8], reference: Part) -> Headed
         return Headed::Message(MessageType::Tsdupd, reference);
     }
     Headed::Unknown
+}
+
+// The same of D.12B, in which TSDUPD alone is taken.
+fn message_12b(message_type: &[u8], reference: Part) -> Headed
+    ensures { λ r. ⌜ r ≡ typed12B (now («message_type» .entry)) reference ⌝ }
+{
+    if !values::equals(message_type, b"TSDUPD") {
+        return Headed::Unknown;
+    }
+    Headed::Message(MessageType::Tsdupd12B, reference)
 }
 
 // A UIH that begins as most are written: only its reference may be missing.
@@ -260,10 +268,16 @@ fn read_any(segment: &[u8]) -> Headed
     if !is_complete(message_type, version, release, agency) {
         return Headed::Missing;
     }
-    if !is_directory(version, release, value_in(segment, identifier, 4), agency) {
+    if !is_directory(version, value_in(segment, identifier, 4), agency) {
         return Headed::Unknown;
     }
-    message(message_type, reference)
+    if values::equals(release, b"04A") {
+        return message(message_type, reference);
+    }
+    if values::equals(release, b"12B") {
+        return message_12b(message_type, reference);
+    }
+    Headed::Unknown
 }
 
 /// The type and the reference of a message, or what is wrong with its UIH.
@@ -276,6 +290,9 @@ pub fn read_uih(segment: &[u8]) -> Headed
     }
     if begins(segment, b"UIH+TSDUPD:D:04A::UN+") {
         return read_written(segment, MessageType::Tsdupd);
+    }
+    if begins(segment, b"UIH+TSDUPD:D:12B::UN+") {
+        return read_written(segment, MessageType::Tsdupd12B);
     }
     read_any(segment)
 }

@@ -21,7 +21,7 @@ use Rattle.placing.specs.Rule.{reachable, noneLeft, orFit, firstFit, fits, go, 
 use Rattle.placing.specs.Walks.{first-append, first-pick-none, more-fits, more-none, step-start}
 use Rattle.messages.specs.Tags.{UIT}
 use Rattle.messages.specs.declared.MessageType.{MessageType}
-use Rattle.messages.specs.declared.MessageType.the-variants.{Skdupd, Tsdupd}
+use Rattle.messages.specs.declared.MessageType.the-variants.{Skdupd, Tsdupd, Tsdupd12B}
 use Rattle.placing.specs.Tables.{tableOf}
 use Rattle.placing.specs.Tables as tables
 use Rattle.placing.specs.Skdupd.{skdupdTable}
@@ -30,7 +30,7 @@ use Rattle.hints.specs.Kinds.{rowIn, kindIn, lastIn}
 use Rattle.hints.specs.Told.{Told, More, Next, Silent, nextTold, toldBy, laterFit, passed, toldFrom, anewFrom, toldBehind, hintTold, saysHint, agrees, hintRight, rightFrom, right}
 use Rattle.hints.specs.Hints.{hintsOf}
 use Rattle.hints.specs.Hints as hints
-use Rattle.hints.specs.Right.{skdupd-right, tsdupd-right}
+use Rattle.hints.specs.Right.{skdupd-right, tsdupd-right, tsdupd12B-right}
 
 module _ (t : Table) (p : Place) where
   -- what is told comes true, if no number forbids it
@@ -236,3 +236,4 @@ each-right t l g row j =
 pub own-right : (message : MessageType) → T (right (tableOf message) (hintsOf message))
 own-right Skdupd = rw (tables.skdupd-own, hints.skdupd-own) skdupd-right
 own-right Tsdupd = rw (tables.tsdupd-own, hints.tsdupd-own) tsdupd-right
+own-right Tsdupd12B = rw (tables.tsdupd12B-own, hints.tsdupd12B-own) tsdupd12B-right

@@ -4,7 +4,7 @@ ghost use mathlib.Core.Path.{_≡_};
 ghost use Rattle.laws.specs.Lists.{between};
 ghost use Rattle.hints.specs.Hints.{hints, hintsIn};
 
-/// The hints of all types, sixteen for each row of their tables. A hint is 32 times the row to which it leads, and its kind.
+/// The hints of all types, sixteen for each row of the tables of D.04A; TSDUPD of D.12B has those of TSDUPD. A hint is 32 times the row to which it leads, and its kind.
 pub fn hints() -> [[u16; 16]; 104]
     ensures { λ r. ⌜ r ≡ hints ⌝ }
 {
@@ -838,5 +838,6 @@ pub fn hints_of(hints: &[[u16; 16]], message: MessageType) -> &[[u16; 16]]
     match message {
         MessageType::Skdupd => rows_between(hints, 0, 55),
         MessageType::Tsdupd => rows_between(hints, 55, 104),
+        MessageType::Tsdupd12B => rows_between(hints, 55, 104),
     }
 }

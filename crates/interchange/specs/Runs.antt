@@ -16,7 +16,7 @@ use Rattle.syntax.specs.Ends.{end-tag}
 use Rattle.placing.specs.declared.Place.{Place}
 use Rattle.placing.specs.declared.Stepped.the-variants.{Placed}
 use Rattle.messages.specs.declared.MessageType.{MessageType}
-use Rattle.messages.specs.declared.MessageType.the-variants.{Skdupd, Tsdupd}
+use Rattle.messages.specs.declared.MessageType.the-variants.{Skdupd, Tsdupd, Tsdupd12B}
 use Rattle.messages.specs.Tags.{UIT}
 use Rattle.messages.specs.Types.{isPeriod}
 use Rattle.placing.specs.Tables.{tables, tableIn, tableOf}
@@ -25,6 +25,7 @@ use Rattle.placing.specs.Table.{Table, rows, entryOf, tagAt, groupAt}
 use Rattle.placing.specs.Tables as placing
 use Rattle.placing.specs.Skdupd.{skdupdTable}
 use Rattle.placing.specs.Tsdupd.{tsdupdTable}
+use Rattle.placing.specs.Tsdupd12B.{tsdupd12BTable}
 use Rattle.placing.specs.Laws.{placed-row, placed-tag, placed-segment}
 use Rattle.hints.specs.Hints.{hints, hintsIn, hintsOf}
 use Rattle.hints.specs.Hints as hinting
@@ -149,18 +150,20 @@ passed-here s st at n room l q k at₁ n₁ e f g h = rw (e, f, g, h) (passed-no
 
 -- as many rows of hints as of the table
 own-length : (message : MessageType) → length (hintsOf message) ≡ length (tableOf message)
-unfolding skdupdTable tsdupdTable laidOut skdupdHints tsdupdHints skdupdOnward tsdupdOnward
+unfolding skdupdTable tsdupdTable tsdupd12BTable laidOut skdupdHints tsdupdHints skdupdOnward tsdupdOnward
 own-length Skdupd = rw (hinting.skdupd-own, placing.skdupd-own)
 own-length Tsdupd = rw (hinting.tsdupd-own, placing.tsdupd-own)
+own-length Tsdupd12B = rw (hinting.tsdupd12B-own, placing.tsdupd12B-own)
 
 -- they are right, and their rows are few
 pub own-both : (message : MessageType) (t : Table) (l : List (List ℕ)) → t ≡ tableOf message → l ≡ hintsOf message → (length l ≡ length t) × T (right t l)
 own-both message t l e f = (rw (e, f) (own-length message), rw (e, f) (own-right message))
 
 few : (message : MessageType) → length (tableOf message) ≤ 104
-unfolding skdupdTable tsdupdTable
+unfolding skdupdTable tsdupdTable tsdupd12BTable
 few Skdupd = rw placing.skdupd-own (omega arith)
 few Tsdupd = rw placing.tsdupd-own (omega arith)
+few Tsdupd12B = rw placing.tsdupd12B-own (omega arith)
 
 pub own-few : (message : MessageType) (t : Table) → t ≡ tableOf message → length t ≤ 104
 own-few message t e = rw e (few message)
@@ -169,6 +172,7 @@ own-few message t e = rw e (few message)
 abbrev pub periodRow : MessageType → ℕ
 periodRow Skdupd = 22
 periodRow Tsdupd = 104
+periodRow Tsdupd12B = 104
 
 -- a tag of a table is three capital letters, and no row but that one is a period that is read
 abbrev rowTold : MessageType → Table → ℕ → Bool
@@ -184,9 +188,14 @@ tsdupd-rows : T (below (rowTold Tsdupd tsdupdTable) (rows tsdupdTable))
 unfolding tsdupdTable entryOf
 tsdupd-rows = tt
 
+tsdupd12B-rows : T (below (rowTold Tsdupd12B tsdupd12BTable) (rows tsdupd12BTable))
+unfolding tsdupd12BTable entryOf
+tsdupd12B-rows = tt
+
 own-rows : (message : MessageType) → T (below (rowTold message (tableOf message)) (rows (tableOf message)))
 own-rows Skdupd = rw placing.skdupd-own skdupd-rows
 own-rows Tsdupd = rw placing.tsdupd-own tsdupd-rows
+own-rows Tsdupd12B = rw placing.tsdupd12B-own tsdupd12B-rows
 
 either-left : (a b : Bool) → T (either a b) → a ≡ false → b ≡ true
 either-left true b h q = absurd (false≢true (sym q))

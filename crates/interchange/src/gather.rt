@@ -14,7 +14,8 @@ use crate::turn::take_turn;
 use answers::Refusal;
 use hints::tables::hints_of;
 use messages::MessageType;
-use placing::tables::table_of;
+use segment_tables::table_of;
+use segment_tables::tsdupd_12b;
 use steps::state::Phase;
 use steps::state::State;
 ghost use mathlib.Core.Path.{_≡_};
@@ -74,25 +75,30 @@ pub(crate) fn run_on(
         return stay(from);
     }
     let message = st.message;
+    let read = PeriodRow {
+        row: PERIOD,
+        wish: st.wish,
+    };
+    let none = PeriodRow {
+        row: NO_PERIOD,
+        wish: st.wish,
+    };
     // A call for each type: called from one place only, `run` would be made a part of its caller and lose its registers.
     match message {
         MessageType::Skdupd => {
             let table = table_of(tables, MessageType::Skdupd);
             let hinted = hints_of(hints, MessageType::Skdupd);
-            let period = PeriodRow {
-                row: PERIOD,
-                wish: st.wish,
-            };
-            run(s, from, table, hinted, room, period)
+            run(s, from, table, hinted, room, read)
         }
         MessageType::Tsdupd => {
             let table = table_of(tables, MessageType::Tsdupd);
             let hinted = hints_of(hints, MessageType::Tsdupd);
-            let period = PeriodRow {
-                row: NO_PERIOD,
-                wish: st.wish,
-            };
-            run(s, from, table, hinted, room, period)
+            run(s, from, table, hinted, room, none)
+        }
+        MessageType::Tsdupd12B => {
+            let table = tsdupd_12b();
+            let hinted = hints_of(hints, MessageType::Tsdupd12B);
+            run(s, from, &table, hinted, room, none)
         }
     }
 }

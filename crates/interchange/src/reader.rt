@@ -7,7 +7,7 @@ use crate::run::ROOM;
 use crate::standing::Standing;
 use answers::Refusal;
 use hints::tables::hints;
-use placing::tables::tables;
+use segment_tables::tables;
 use steps::state::State;
 ghost use mathlib.Core.Path.{_≡_};
 ghost use Prim.Native.Nat.{_+_, _*_, _≤_, _<_};

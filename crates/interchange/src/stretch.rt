@@ -11,7 +11,7 @@ use crate::turn::turn_with;
 use answers::Refusal;
 use cuts::find_terminator;
 use hints::tables::hints;
-use placing::tables::tables;
+use segment_tables::tables;
 use steps::state::State;
 ghost use mathlib.Core.Path.{_≡_};
 ghost use Prim.Native.Nat.{_*_, _≤_};

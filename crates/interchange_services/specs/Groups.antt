@@ -8,7 +8,7 @@ use lib.ListN.{length}
 use Rattle.laws.specs.Choice.{pick, both}
 use Rattle.syntax.specs.Segment.{tagNumber}
 use Rattle.messages.specs.declared.MessageType.{MessageType}
-use Rattle.messages.specs.declared.MessageType.the-variants.{Skdupd, Tsdupd}
+use Rattle.messages.specs.declared.MessageType.the-variants.{Skdupd, Tsdupd, Tsdupd12B}
 use Rattle.messages.specs.Tags.{PRD}
 use Rattle.acceptance.specs.Interchange.{segmentsWritten, Message, segmentsIn, Interchange, messageTypeOf, groupsIn}
 use Rattle.services.specs.Rows.{keep}
@@ -16,6 +16,7 @@ use Rattle.services.specs.Rows.{keep}
 abbrev pub isSkdupd : MessageType → Bool
 isSkdupd Skdupd = true
 isSkdupd Tsdupd = false
+isSkdupd Tsdupd12B = false
 
 -- whether a segment, with the group that it is placed in, begins a group 2
 abbrev pub begins : List ℕ × ℕ → Bool

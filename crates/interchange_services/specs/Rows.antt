@@ -14,11 +14,12 @@ use Rattle.placing.specs.declared.Place.{Place}
 use Rattle.placing.specs.declared.Stepped.{Stepped}
 use Rattle.placing.specs.declared.Stepped.the-variants.{Placed, OutOfPlace}
 use Rattle.messages.specs.declared.MessageType.{MessageType}
-use Rattle.messages.specs.declared.MessageType.the-variants.{Skdupd, Tsdupd}
+use Rattle.messages.specs.declared.MessageType.the-variants.{Skdupd, Tsdupd, Tsdupd12B}
 use Rattle.messages.specs.Tags.{PRD}
 use Rattle.placing.specs.Table.{Table, groupAt}
 use Rattle.placing.specs.Tsdupd.{tsdupdTable}
-use Rattle.placing.specs.Tables.{tableOf, tsdupd-own}
+use Rattle.placing.specs.Tsdupd12B.{tsdupd12BTable}
+use Rattle.placing.specs.Tables.{tableOf, tsdupd-own, tsdupd12B-own}
 use Rattle.placing.specs.Place.{startPlace}
 use Rattle.placing.specs.Rule.{stepOf, placeAfter}
 use Rattle.placing.specs.Walks.{entry-in}
@@ -26,7 +27,7 @@ use Rattle.placing.specs.Laws.{placed-tag, placed-row}
 use Rattle.steps.specs.declared.state.Row.{Row}
 use Rattle.acceptance.specs.Interchange.{segmentsWritten, Message, segmentsIn, Interchange, eachOf, messageTypeOf, placesFrom, groupIn, withGroup, groupsIn, rowsFrom, rowsOf}
 use Rattle.services.specs.Rows.{keep}
-use Rattle.services.specs.Tables.{no-service}
+use Rattle.services.specs.Tables.{elsewhere, NoService, tsdupd-none, tsdupd12B-none}
 use Rattle.interchange_services.specs.Groups.{isSkdupd, begins, beginnings, groupsAt, groupsFrom, groupsOf}
 
 -- the offsets of the PRDs in group 2 among some rows
@@ -75,29 +76,29 @@ not-is : (b : Bool) → not b ≡ true → b ≡ false
 not-is true e = sym e
 not-is false e = refl
 
--- no segment of a TSDUPD begins a group 2
-module _ (tag : ℕ) where
-  step-none : (p : Place) (x : Stepped) → stepOf tsdupdTable p tag ≡ x → both (eqb (groupIn tsdupdTable x) 2) (eqb tag PRD) ≡ false
-  step-none p OutOfPlace e = refl
-  step-none p (Placed q) e =
-      let row = getD tsdupdTable (q .row) [] in
-      let a = entry-in tsdupdTable (q .row) 1 (omega arith) in
-      let b = entry-in tsdupdTable (q .row) 4 (omega arith) in
-      let w = all-at (λ (r : List ℕ). not (both (eqb (getD r 1 0) PRD) (eqb (getD r 4 0) 2))) tsdupdTable (q .row) [] no-service (placed-row tsdupdTable tag p q e) in
-      both-comm (eqb (groupAt tsdupdTable (q .row)) 2) (eqb tag PRD)
-      ∙ ap (λ (x : ℕ). both (eqb x PRD) (eqb (groupAt tsdupdTable (q .row)) 2)) (sym (placed-tag tsdupdTable tag p q e) ∙ a)
-      ∙ ap (λ (x : ℕ). both (eqb (getD (getD tsdupdTable (q .row) []) 1 0) PRD) (eqb x 2)) b
-      ∙ not-is (both (eqb (getD (getD tsdupdTable (q .row) []) 1 0) PRD) (eqb (getD (getD tsdupdTable (q .row) []) 4 0) 2)) w
+-- where a table has no service, none of its segments begins a group 2
+module _ (t : Table) (none : NoService t) where
+  module _ (tag : ℕ) where
+    step-none : (p : Place) (x : Stepped) → stepOf t p tag ≡ x → both (eqb (groupIn t x) 2) (eqb tag PRD) ≡ false
+    step-none p OutOfPlace e = refl
+    step-none p (Placed q) e =
+        let row = getD t (q .row) [] in
+        let a = entry-in t (q .row) 1 (omega arith) in
+        let b = entry-in t (q .row) 4 (omega arith) in
+        let w = all-at (elsewhere 2 PRD) t (q .row) [] (none .no-service) (placed-row t tag p q e) in
+        both-comm (eqb (groupAt t (q .row)) 2) (eqb tag PRD)
+        ∙ ap (λ (x : ℕ). both (eqb x PRD) (eqb (groupAt t (q .row)) 2)) (sym (placed-tag t tag p q e) ∙ a)
+        ∙ ap (λ (x : ℕ). both (eqb (getD row 1 0) PRD) (eqb x 2)) b
+        ∙ not-is (both (eqb (getD row 1 0) PRD) (eqb (getD row 4 0) 2)) w
 
-  after-none : (p : Stepped) → both (eqb (groupIn tsdupdTable (placeAfter tsdupdTable p tag)) 2) (eqb tag PRD) ≡ false
-  after-none (Placed p) = step-none p (stepOf tsdupdTable p tag) refl
-  after-none OutOfPlace = refl
+    after-none : (p : Stepped) → both (eqb (groupIn t (placeAfter t p tag)) 2) (eqb tag PRD) ≡ false
+    after-none (Placed p) = step-none p (stepOf t p tag) refl
+    after-none OutOfPlace = refl
 
-tsdupd-none : (at : ℕ) (p : Stepped) (gs : List (List ℕ)) → beginnings at (map (withGroup tsdupdTable) (placesFrom tsdupdTable p gs)) ≡ []
-unfolding beginnings placesFrom
-tsdupd-none at p [] = refl
-tsdupd-none at p (g ∷ gs) =
-    rw (after-none (tagNumber g) p) (tsdupd-none (at + length g + 1) (placeAfter tsdupdTable p (tagNumber g)) gs)
+  table-none : (at : ℕ) (p : Stepped) (gs : List (List ℕ)) → beginnings at (map (withGroup t) (placesFrom t p gs)) ≡ []
+  unfolding beginnings placesFrom
+  table-none at p [] = refl
+  table-none at p (g ∷ gs) = rw (after-none (tagNumber g) p) (table-none (at + length g + 1) (placeAfter t p (tagNumber g)) gs)
 
 -- a message, then those behind it
 module _ (at : ℕ) (m : Message) where
@@ -107,7 +108,8 @@ module _ (at : ℕ) (m : Message) where
     where
       by-type : (t : MessageType) → messageTypeOf m ≡ t → beginnings at (groupsIn m) ≡ groupsAt at m
       by-type Skdupd q = rw q
-      by-type Tsdupd q = rw (q, tsdupd-own) (tsdupd-none (at + length (m .heading) + 1) (Placed startPlace) (m .within ++ (m .trailer ∷ [])))
+      by-type Tsdupd q = rw (q, tsdupd-own) (table-none tsdupdTable tsdupd-none (at + length (m .heading) + 1) (Placed startPlace) (m .within ++ (m .trailer ∷ [])))
+      by-type Tsdupd12B q = rw (q, tsdupd12B-own) (table-none tsdupd12BTable tsdupd12B-none (at + length (m .heading) + 1) (Placed startPlace) (m .within ++ (m .trailer ∷ [])))
 
   message-size : at + size (groupsIn m) ≡ at + length (segmentsWritten (segmentsIn m))
   unfolding size segmentsWritten

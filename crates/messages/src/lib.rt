@@ -1,12 +1,13 @@
 //! What the floors above call a message's type and its segments' tags. A tag is its three bytes as one number.
 
 ghost use mathlib.Core.Path.{_≡_};
-ghost use Rattle.messages.specs.Types.{isPeriod};
+ghost use Rattle.messages.specs.Types.{is12B, isPeriod};
 
-/// The type of a message.
+/// The type of a message, and the directory that it is of: D.04A, or D.12B where the name says so.
 pub enum MessageType {
     Skdupd,
     Tsdupd,
+    Tsdupd12B,
 }
 
 /// Address.
@@ -102,6 +103,17 @@ pub const UIT: u32 = 0x554954;
 /// Interactive interchange trailer.
 pub const UIZ: u32 = 0x55495a;
 
+/// Whether a message is of directory D.12B.
+pub fn is_12b(message: MessageType) -> bool
+    ensures { λ r. ⌜ r ≡ is12B message ⌝ }
+{
+    match message {
+        MessageType::Skdupd => false,
+        MessageType::Tsdupd => false,
+        MessageType::Tsdupd12B => true,
+    }
+}
+
 /// Whether a segment is a period that is read: POP in group 4 of SKDUPD.
 pub fn is_period(message: MessageType, tag: u32, group: u32) -> bool
     ensures { λ r. ⌜ r ≡ isPeriod message tag group ⌝ }
@@ -114,5 +126,6 @@ pub fn is_period(message: MessageType, tag: u32, group: u32) -> bool
             group == 4
         }
         MessageType::Tsdupd => false,
+        MessageType::Tsdupd12B => false,
     }
 }

@@ -3,13 +3,14 @@ use mathlib.Core.Path.{subst⁻¹}
 use Prim.Native.Nat.{ℕ}
 use lib.Dec.{T}
 use Rattle.messages.specs.declared.MessageType.{MessageType}
-use Rattle.messages.specs.declared.MessageType.the-variants.{Skdupd, Tsdupd}
+use Rattle.messages.specs.declared.MessageType.the-variants.{Skdupd, Tsdupd, Tsdupd12B}
 use Rattle.placing.specs.Table.{Table, entryOf, afterOf, endOf, placesOn}
 use Rattle.placing.specs.Rule.{reachable, again, laterOnes, choicesFrom}
-use Rattle.placing.specs.Envelope.{MessageTable, skdupd-messages, tsdupd-messages}
+use Rattle.placing.specs.Envelope.{MessageTable, skdupd-messages, tsdupd-messages, tsdupd12B-messages}
 use Rattle.placing.specs.Skdupd.{skdupdTable}
 use Rattle.placing.specs.Tsdupd.{tsdupdTable}
-use Rattle.placing.specs.Tables.{tableOf, skdupd-own, tsdupd-own}
+use Rattle.placing.specs.Tsdupd12B.{tsdupd12BTable}
+use Rattle.placing.specs.Tables.{tableOf, skdupd-own, tsdupd-own, tsdupd12B-own}
 use Rattle.one_way.specs.Placings.{firstChoices}
 use Rattle.one_way.specs.Test.{OneFits, differ, oneWay}
 use Rattle.one_way.specs.Theorems.{tested}
@@ -32,6 +33,11 @@ pub tsdupd-one-way : OneWayTable tsdupdTable
 unfolding oneWay differ firstChoices choicesFrom again laterOnes reachable placesOn afterOf endOf entryOf tsdupdTable
 tsdupd-one-way = one-way-table tsdupdTable 48 tsdupd-messages tt
 
+pub tsdupd12B-one-way : OneWayTable tsdupd12BTable
+unfolding oneWay differ firstChoices choicesFrom again laterOnes reachable placesOn afterOf endOf entryOf tsdupd12BTable
+tsdupd12B-one-way = one-way-table tsdupd12BTable 48 tsdupd12B-messages tt
+
 pub own-one-way : (message : MessageType) → OneWayTable (tableOf message)
 own-one-way Skdupd = subst⁻¹ OneWayTable skdupd-own skdupd-one-way
 own-one-way Tsdupd = subst⁻¹ OneWayTable tsdupd-own tsdupd-one-way
+own-one-way Tsdupd12B = subst⁻¹ OneWayTable tsdupd12B-own tsdupd12B-one-way

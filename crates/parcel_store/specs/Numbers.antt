@@ -13,7 +13,7 @@ use lib.ListN.{length, getD}
 use Rattle.laws.specs.Put.{putAt}
 use Rattle.answers.specs.Answers.{done, refused}
 use Rattle.messages.specs.declared.MessageType.{MessageType}
-use Rattle.messages.specs.declared.MessageType.the-variants.{Skdupd, Tsdupd}
+use Rattle.messages.specs.declared.MessageType.the-variants.{Skdupd, Tsdupd, Tsdupd12B}
 use Rattle.parts.specs.Places.{absent}
 use Rattle.placing.specs.declared.Place.{Place}
 use Rattle.steps.specs.declared.state.Phase.{Phase}
@@ -92,10 +92,12 @@ phase-small Closed = omega arith
 pub message-read : (m : MessageType) → messageOf (messageNumber m) ≡ m
 message-read Skdupd = refl
 message-read Tsdupd = refl
+message-read Tsdupd12B = refl
 
 message-small : (m : MessageType) → messageNumber m < 65536
 message-small Skdupd = omega arith
 message-small Tsdupd = omega arith
+message-small Tsdupd12B = omega arith
 
 pub flag-read : (b : Bool) → eqb (flagNumber b) 1 ≡ b
 flag-read true = refl

@@ -7,7 +7,7 @@ use native.Mathlib.Omega.{arith}
 use lib.Dec.{eqb, ltb, leb}
 use Rattle.laws.specs.Choice.{choose}
 use Rattle.messages.specs.declared.MessageType.{MessageType}
-use Rattle.messages.specs.declared.MessageType.the-variants.{Skdupd, Tsdupd}
+use Rattle.messages.specs.declared.MessageType.the-variants.{Skdupd, Tsdupd, Tsdupd12B}
 use Rattle.placing.specs.declared.Place.{Place}
 use Rattle.placing.specs.declared.Fit.{Fit}
 use Rattle.placing.specs.declared.Fit.the-variants.{At, Nowhere}
@@ -16,6 +16,7 @@ use Rattle.placing.specs.declared.Stepped.the-variants.{Placed, OutOfPlace}
 use Rattle.placing.specs.Table.{Table, rows, most, levelOf, outer, later}
 use Rattle.placing.specs.Skdupd.{skdupdTable}
 use Rattle.placing.specs.Tsdupd.{tsdupdTable}
+use Rattle.placing.specs.Tsdupd12B.{tsdupd12BTable}
 use Rattle.placing.specs.Tables.{tables, tableIn}
 use Rattle.placing.specs.Place.{countAt, keptOf}
 use Rattle.placing.specs.Rule.{reachable, noneLeft, fits, Choice, go, again, laterOnes, ifNoneLeft, choicesFrom, choices, placedAt, chosen, orStepped, firstOf, stepOf}
@@ -112,9 +113,10 @@ module _ (t : Table) (k : ℕ) (p : Place) (counted : Counted k p) where
 
 -- the rows of a type's table are few
 table-short : (m : MessageType) → rows (tableIn tables m) < 65536
-unfolding tables tableIn skdupdTable tsdupdTable
+unfolding tables tableIn skdupdTable tsdupdTable tsdupd12BTable
 table-short Skdupd = omega arith
 table-short Tsdupd = omega arith
+table-short Tsdupd12B = omega arith
 
 pub step-row : (m : MessageType) (p : Place) (tag : ℕ) (q : Place) → stepOf (tableIn tables m) p tag ≡ Placed q → q .row < 65536
 step-row m p tag q e =

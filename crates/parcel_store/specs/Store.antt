@@ -12,7 +12,7 @@ use Rattle.laws.specs.Put.{putAt}
 use Rattle.laws.specs.Filled.{filledUp}
 use Rattle.answers.specs.Answers.{done, refused}
 use Rattle.messages.specs.declared.MessageType.{MessageType}
-use Rattle.messages.specs.declared.MessageType.the-variants.{Skdupd, Tsdupd}
+use Rattle.messages.specs.declared.MessageType.the-variants.{Skdupd, Tsdupd, Tsdupd12B}
 use Rattle.parts.specs.Places.{absent}
 use Rattle.placing.specs.declared.Place.{Place}
 use Rattle.steps.specs.declared.state.Phase.{Phase}
@@ -50,7 +50,7 @@ abbrev pub phaseOf : ℕ → Phase
 phaseOf n = pick (eqb n 0) Opening (pick (eqb n 1) Between (pick (eqb n 2) Inside Closed))
 
 abbrev pub messageOf : ℕ → MessageType
-messageOf n = pick (eqb n 0) Skdupd Tsdupd
+messageOf n = pick (eqb n 0) Skdupd (pick (eqb n 2) Tsdupd12B Tsdupd)
 
 -- 0 is none yet, 1 is accepted, any other number of the table a refusal, with a part that may stand beside it; what is no such refusal is none
 abbrev pub finalOf : ℕ → ℕ → ℕ → Final
@@ -138,6 +138,7 @@ phaseNumber Closed = 3
 abbrev pub messageNumber : MessageType → ℕ
 messageNumber Skdupd = 0
 messageNumber Tsdupd = 1
+messageNumber Tsdupd12B = 2
 
 abbrev pub flagNumber : Bool → ℕ
 flagNumber true = 1

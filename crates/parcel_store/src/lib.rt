@@ -71,6 +71,9 @@ fn message_of(n: usize) -> MessageType
     if n == 0 {
         return MessageType::Skdupd;
     }
+    if n == 2 {
+        return MessageType::Tsdupd12B;
+    }
     MessageType::Tsdupd
 }
 
@@ -203,6 +206,7 @@ fn message_number(message: MessageType) -> usize
     match message {
         MessageType::Skdupd => 0,
         MessageType::Tsdupd => 1,
+        MessageType::Tsdupd12B => 2,
     }
 }
 

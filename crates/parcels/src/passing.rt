@@ -15,7 +15,7 @@ use parcel_store::Kept;
 use parcel_store::REFERENCE;
 use parts::Part;
 use parts::bytes_of;
-use placing::tables::tables;
+use segment_tables::tables;
 use steps::state::Phase;
 use steps::state::State;
 use steps::state::one_more;

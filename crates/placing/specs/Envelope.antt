@@ -1,4 +1,4 @@
--- UIH, UIT, UIB and UIZ in a message of either table. Assumes nothing.
+-- UIH, UIT, UIB and UIZ in a message of any of the tables. Assumes nothing.
 -- "UIH is the first place of a message and UIT the last. Inside a message a further UIH, UIB or UIZ is out of place" (01)
 use mathlib.Core.Path.{_≡_, refl, ap}
 use mathlib.Core.Bool.{Bool, true, false}
@@ -17,11 +17,12 @@ use Rattle.placing.specs.Rule.{reachable, again, laterOnes, choicesFrom,
 use Rattle.placing.specs.Walks.{after-grows, places-past}
 use Rattle.placing.specs.Laws.{absentTag, onlyAt, absent-out, only-there, placed-row, placed-segment}
 use Rattle.placing.specs.Formed.{nth, group-none, group-inside}
-use Rattle.placing.specs.WellFormed.{isNot, every, wellFormed, skdupd-formed, tsdupd-formed}
+use Rattle.placing.specs.WellFormed.{isNot, every, wellFormed, skdupd-formed, tsdupd-formed, tsdupd12B-formed}
 use Rattle.placing.specs.Message.{InMessage, start-in, first-out}
 use Rattle.messages.specs.Tags.{UIH, UIT, UIB, UIZ}
 use Rattle.placing.specs.Skdupd.{skdupdTable}
 use Rattle.placing.specs.Tsdupd.{tsdupdTable}
+use Rattle.placing.specs.Tsdupd12B.{tsdupd12BTable}
 
 -- no row at level 0 before the last reaches over it
 abbrev pub apart : Table → ℕ → ℕ → Bool
@@ -85,6 +86,10 @@ skdupd-messages = tested skdupdTable 54 skdupd-formed tt
 pub tsdupd-messages : MessageTable tsdupdTable 48
 unfolding tsdupdTable entryOf afterOf
 tsdupd-messages = tested tsdupdTable 48 tsdupd-formed tt
+
+pub tsdupd12B-messages : MessageTable tsdupd12BTable 48
+unfolding tsdupd12BTable entryOf afterOf
+tsdupd12B-messages = tested tsdupd12BTable 48 tsdupd12B-formed tt
 
 module _ (t : Table) (last : ℕ) (m : MessageTable t last) where
   pub begins : InMessage t startPlace

@@ -6,6 +6,7 @@ pub mod Said
 pub mod Reading
 pub mod Skdupd
 pub mod Tsdupd
+pub mod Tsdupd12B
 pub mod Tables
 pub mod Walks
 pub mod Laws

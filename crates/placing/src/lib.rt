@@ -1,5 +1,4 @@
 //! The placing rule of document 01, over any table: a place by value, and the step to the next segment.
-pub mod tables;
 
 use messages::UIT;
 ghost use mathlib.Core.Path.{_≡_};

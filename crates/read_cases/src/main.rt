@@ -210,7 +210,7 @@ fn answer_all(text: &[u8]) {
 }
 
 fn main() {
-    let mut buffer = [0u8; 65536];
+    let mut buffer = [0u8; 131072];
     let n = read_input(&mut buffer);
     answer_all(&buffer[..n]);
     // The largest numbers that are printed; and rows that the buffer does not hold are none.

@@ -16,18 +16,21 @@ use messages::UIB;
 use messages::UIH;
 use messages::UIT;
 use messages::UIZ;
+use messages::is_12b;
 use messages::is_period;
 use parts::Part;
 use period::Period;
 use period::read_period;
 use placing::Place;
 use placing::Stepped;
-use placing::tables::table_of;
+use segment_tables::table_of;
+use segment_tables::tsdupd_12b;
 use syntax::segment::tag_at;
 ghost use mathlib.Core.Path.{_≡_};
 ghost use Rattle.answers.specs.Answers as answers;
 ghost use Rattle.envelope.specs.Envelope.{uihOf};
 ghost use Rattle.period.specs.Period.{periodOf};
+ghost use Rattle.placing.specs.Tables.{tableIn};
 ghost use Rattle.steps.specs.Step.{stepAnswer, rowOf, opening, headed, closing, betweenMessages, trailing, judged, placed, insideMessage, segmentStep};
 
 fn refused(number: u8, position: usize) -> Step
@@ -172,6 +175,18 @@ fn next_segment(st: State, at: usize, segment: &[u8], reference: &[u8], table: &
     }
 }
 
+// Inside a message, by the table of its type; that of D.12B is not among the rows that are lent.
+fn in_message(st: State, at: usize, segment: &[u8], reference: &[u8], tables: &[[u32; 8]]) -> Step
+    ensures { λ r. ⌜ stepAnswer r ≡ insideMessage (tableIn (now (tables .entry)) (st .message)) st at (now (segment .entry)) (now (reference .entry)) ⌝ }
+{
+    let message = st.message;
+    if is_12b(message) {
+        let own = tsdupd_12b();
+        return next_segment(st, at, segment, reference, &own);
+    }
+    next_segment(st, at, segment, reference, table_of(tables, message))
+}
+
 /// The step of a segment, without its terminator, that starts at an offset of the whole. The dialogue reference and the
 /// message's reference are lent as they were written; a reader whose earlier bytes are gone lends its own store.
 pub fn step_segment(
@@ -188,10 +203,7 @@ pub fn step_segment(
     match phase {
         Phase::Opening => open_dialogue(st, at, segment),
         Phase::Between => next_message(st, at, segment, dialogue),
-        Phase::Inside => {
-            let message = st.message;
-            next_segment(st, at, segment, reference, table_of(tables, message))
-        }
+        Phase::Inside => in_message(st, at, segment, reference, tables),
         Phase::Closed => refused(7, at),
     }
 }

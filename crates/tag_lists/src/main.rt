@@ -1,5 +1,5 @@
 //! Runs the tag lists of standard input through a table and prints where each segment is placed.
-//! A line is a table (S for SKDUPD, T for TSDUPD, X for a made-up one), then tags; `RFR*000010` is ten RFR in a row.
+//! A line is a table (S for SKDUPD, T for TSDUPD, B for TSDUPD of D.12B, X for a made-up one), then tags; `RFR*000010` is ten RFR in a row.
 //! The line is copied, and below it stands for each tag the group and the position of the last one, with a full stop
 //! where the message may end there, or `out` and which one of them was out of place; the line is then left.
 
@@ -17,7 +17,8 @@ use messages::UIH;
 use messages::UIT;
 use placing::Place;
 use placing::Stepped;
-use placing::tables::table_of;
+use segment_tables::table_of;
+use segment_tables::tsdupd_12b;
 ghost use mathlib.Core.Path.{_≡_};
 ghost use Prim.Native.Nat.{_+_, _*_};
 
@@ -89,7 +90,7 @@ fn repeated(place: Place, table: &[[u32; 8]], tag: u32, times: usize) -> Run {
     Run::All(p)
 }
 
-// The position of a row, in the four digits of document 000.
+// The position of a row, in the four digits of document 000; document 003 has a zero before them.
 fn print_position(table: &[[u32; 8]], row: usize) {
     if row < table.len() {
         say(&four_digits(table[row][0]));
@@ -142,6 +143,9 @@ fn run_line(line: &[u8], tables: &[[u32; 8]], other: &[[u32; 8]]) {
     if line[0] == b'T' {
         run_tags(line, table_of(tables, MessageType::Tsdupd));
     }
+    if line[0] == b'B' {
+        run_tags(line, &tsdupd_12b());
+    }
     if line[0] == b'X' {
         run_tags(line, other);
     }
@@ -158,5 +162,5 @@ fn run_text(text: &[u8], tables: &[[u32; 8]], other: &[[u32; 8]]) {
 fn main() {
     let mut buffer = [0u8; 65536];
     let n = read_input(&mut buffer);
-    run_text(&buffer[..n], &placing::tables::tables(), &made_up());
+    run_text(&buffer[..n], &segment_tables::tables(), &made_up());
 }

@@ -10,9 +10,9 @@ use lib.Dec.{leb}
 use Rattle.laws.specs.Choice.{all}
 use Rattle.parts.specs.declared.Part.{Part}
 use Rattle.parts.specs.Places.{present}
-use Rattle.envelope.specs.Envelope.{placeOf, directory, typed, typeOf, versionOf, releaseNumberOf, subFunctionOf, agencyOf, referenceOf}
+use Rattle.envelope.specs.Envelope.{says, placeOf, typed, typed12B, release04A, release12B, typeOf, versionOf, releaseNumberOf, subFunctionOf, agencyOf, referenceOf}
 use Rattle.envelope.specs.Laws.{place-absent, place-present}
-use Rattle.envelope.specs.Ways.{of-four, uih-absent, uih-missing, uih-unknown, uih-typed}
+use Rattle.envelope.specs.Ways.{of-three, of-four, besidesRelease, uih-absent, uih-missing, uih-unknown, uih-typed, uih-typed12B, uih-other}
 use borrow.Author.Needs.{needs}
 use Rattle.envelope.proofs.read_any.Statement.{statement}
 use Rattle.envelope.proofs.read_any.Tie as tie
@@ -45,10 +45,30 @@ module _ (t : tie.After-is-directory) where
   abbrev whole : List ℕ
   whole = own (t .before .before .before)
 
-  codes : directory (versionOf whole) (releaseNumberOf whole) (subFunctionOf whole) (agencyOf whole) ≡ t .is-directory .result
+  complete : all present (typeOf whole ∷ versionOf whole ∷ releaseNumberOf whole ∷ agencyOf whole ∷ []) ≡ true
+  complete = let k = t .before .before .before in identifier k ∙ not-false (k .is-complete .result) (t .before .before .if2 .left)
+
+  codes : besidesRelease (versionOf whole) (subFunctionOf whole) (agencyOf whole) ≡ t .is-directory .result
   codes =
       let v = t .before .before .before .before in
-      sym (t .is-directory .ensures ∙ of-four directory (v .before .before .value-in2 .ensures) (v .before .value-in3 .ensures) (t .before .value-in5 .ensures) (v .value-in4 .ensures))
+      sym (t .is-directory .ensures ∙ of-three besidesRelease (v .before .before .value-in2 .ensures) (t .before .value-in5 .ensures) (v .value-in4 .ensures))
+
+-- and those of the release
+module _ (e : tie.After-equals) where
+  abbrev directed : tie.After-is-directory
+  directed = e .before .before .before
+
+  abbrev all-parts : List ℕ
+  all-parts = whole directed
+
+  same-codes : besidesRelease (versionOf all-parts) (subFunctionOf all-parts) (agencyOf all-parts) ≡ true
+  same-codes = codes directed ∙ not-false (directed .is-directory .result) (e .before .before .if3 .left)
+
+  release-said : (text : List ℕ) → says (now (directed .before .before .before .before .before .value-in3 .result)) text ≡ says (releaseNumberOf all-parts) text
+  release-said text = ap (λ (x : List ℕ). says x text) (directed .before .before .before .before .before .value-in3 .ensures)
+
+  earlier : says (releaseNumberOf all-parts) release04A ≡ e .equals .result
+  earlier = sym (e .equals .ensures ∙ release-said release04A)
 
 place-requires : tie.Need-place-requires
 place-requires c κs = search needs
@@ -93,20 +113,53 @@ is-directory-requires c κs = search needs
 returns-3 : tie.Need-returns-3
 returns-3 c =
     let t = c .before in
-    let k = t .before .before .before in
-    uih-unknown (own k) (reference k) (identifier k ∙ not-false (k .is-complete .result) (t .before .before .if2 .left)) (codes t ∙ not-true (t .is-directory .result) (c .if3 .taken))
+    uih-unknown (whole t) (reference (t .before .before .before)) (complete t) (codes t ∙ not-true (t .is-directory .result) (c .if3 .taken))
+
+slice-aggregate-equals : tie.Need-slice-aggregate-equals
+slice-aggregate-equals c = search needs
+
+equals-requires : tie.Need-equals-requires
+equals-requires c κs = search needs
 
 message-requires : tie.Need-message-requires
 message-requires c κs = search needs
 
 returns-4 : tie.Need-returns-4
 returns-4 c =
-    let t = c .before .before in
+    let e = c .before .before in
+    let t = directed e in
     let k = t .before .before .before in
     c .message .ensures
     ∙ ap (λ (x : List ℕ). typed x (start k .before .before .place .result)) (k .before .before .before .before .value-in .ensures)
     ∙ ap (typed (typeOf (own k))) (start k .before .before .place .ensures)
-    ∙ uih-typed (own k) (reference k) (identifier k ∙ not-false (k .is-complete .result) (t .before .before .if2 .left)) (codes t ∙ not-false (t .is-directory .result) (c .before .if3 .left))
+    ∙ uih-typed (own k) (reference k) (complete t) (same-codes e) (earlier e ∙ c .before .if4 .taken)
+
+slice-aggregate-equals-2 : tie.Need-slice-aggregate-equals-2
+slice-aggregate-equals-2 c = search needs
+
+equals-requires-2 : tie.Need-equals-requires-2
+equals-requires-2 c κs = search needs
+
+message-12b-requires : tie.Need-message-12b-requires
+message-12b-requires c κs = search needs
+
+returns-5 : tie.Need-returns-5
+returns-5 c =
+    let f = c .before .before in
+    let e = f .before .before .before in
+    let t = directed e in
+    let k = t .before .before .before in
+    c .message-12b .ensures
+    ∙ ap (λ (x : List ℕ). typed12B x (start k .before .before .place .result)) (k .before .before .before .before .value-in .ensures)
+    ∙ ap (typed12B (typeOf (own k))) (start k .before .before .place .ensures)
+    ∙ uih-typed12B (own k) (reference k) (complete t) (same-codes e) (earlier e ∙ f .before .before .if4 .left) (sym (release-said e release12B) ∙ sym (f .equals2 .ensures) ∙ c .before .if5 .taken)
+
+returns-6 : tie.Need-returns-6
+returns-6 c =
+    let f = c .before in
+    let e = f .before .before .before in
+    let t = directed e in
+    uih-other (whole t) (reference (t .before .before .before)) (complete t) (same-codes e) (earlier e ∙ f .before .before .if4 .left) (sym (release-said e release12B) ∙ sym (f .equals2 .ensures) ∙ c .if5 .left)
 
 pub read-any-spec : {M : Type 1} → statement M
 read-any-spec =
@@ -125,5 +178,12 @@ read-any-spec =
     value-in-requires-5
     is-directory-requires
     returns-3
+    slice-aggregate-equals
+    equals-requires
     message-requires
-    returns-4)
+    returns-4
+    slice-aggregate-equals-2
+    equals-requires-2
+    message-12b-requires
+    returns-5
+    returns-6)

@@ -3,7 +3,7 @@
 use mathlib.Core.Path.{sym, _∙_}
 use denote.Ref.{now}
 use Rattle.envelope.specs.Said.{uih-said}
-use Rattle.envelope.specs.Written.{skdupd-head, tsdupd-head}
+use Rattle.envelope.specs.Written.{skdupd-head, tsdupd-head, tsdupd12B-head}
 use borrow.Author.Needs.{needs}
 use Rattle.envelope.proofs.read_uih.Statement.{statement}
 use Rattle.envelope.proofs.read_uih.Tie as tie
@@ -36,11 +36,25 @@ returns-2 c =
     let g = now (c .before .before .before .before .before .before .before .before .args .segment) in
     uih-said g (c .read-written2 .ensures ∙ tsdupd-head g (sym (c .before .before .begins2 .ensures) ∙ c .before .if2 .taken))
 
+slice-aggregate-begins-3 : tie.Need-slice-aggregate-begins-3
+slice-aggregate-begins-3 c = search needs
+
+begins-requires-3 : tie.Need-begins-requires-3
+begins-requires-3 c κs = search needs
+
+read-written-requires-3 : tie.Need-read-written-requires-3
+read-written-requires-3 c κs = search needs
+
+returns-3 : tie.Need-returns-3
+returns-3 c =
+    let g = now (c .before .before .before .before .before .before .before .before .before .before .before .args .segment) in
+    uih-said g (c .read-written3 .ensures ∙ tsdupd12B-head g (sym (c .before .before .begins3 .ensures) ∙ c .before .if3 .taken))
+
 read-any-requires : tie.Need-read-any-requires
 read-any-requires c κs = search needs
 
-returns-3 : tie.Need-returns-3
-returns-3 c = uih-said (now (c .before .before .before .before .before .before .before .before .args .segment)) (c .read-any .ensures)
+returns-4 : tie.Need-returns-4
+returns-4 c = uih-said (now (c .before .before .before .before .before .before .before .before .before .before .before .args .segment)) (c .read-any .ensures)
 
 pub read-uih-spec : {M : Type 1} → statement M
 read-uih-spec =
@@ -54,5 +68,9 @@ read-uih-spec =
     begins-requires-2
     read-written-requires-2
     returns-2
+    slice-aggregate-begins-3
+    begins-requires-3
+    read-written-requires-3
+    returns-3
     read-any-requires
-    returns-3)
+    returns-4)

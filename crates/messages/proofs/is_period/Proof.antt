@@ -14,11 +14,17 @@ returns c = rw (c .before .enum-told .given .1, ne-eqb _ POP (c .if1 .taken))
 enum-told-2 : tie.Need-enum-told-2
 enum-told-2 c = search needs
 
+enum-told-3 : tie.Need-enum-told-3
+enum-told-3 c = search needs
+
 returns-2 : tie.Need-returns-2
 returns-2 c = rw (c .before .enum-told .given .1, eq-eqb _ POP (c .if1 .left))
 
 returns-3 : tie.Need-returns-3
 returns-3 c = search needs
 
+returns-4 : tie.Need-returns-4
+returns-4 c = search needs
+
 pub is-period-spec : {M : Type 1} → statement M
-is-period-spec = tie.close (tie.spec enum-told returns enum-told-2 returns-2 returns-3)
+is-period-spec = tie.close (tie.spec enum-told returns enum-told-2 enum-told-3 returns-2 returns-3 returns-4)

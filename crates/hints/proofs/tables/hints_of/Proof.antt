@@ -18,6 +18,12 @@ enum-told-2 c = search needs
 rows-between-requires-2 : tie.Need-rows-between-requires-2
 rows-between-requires-2 c κs = search needs
 
+enum-told-3 : tie.Need-enum-told-3
+enum-told-3 c = search needs
+
+rows-between-requires-3 : tie.Need-rows-between-requires-3
+rows-between-requires-3 c κs = search needs
+
 returns : tie.Need-returns
 unfolding hintsIn
 returns c =
@@ -30,6 +36,12 @@ returns-2 c =
     let q = c .before in
     c .rows-between2 .ensures ∙ sym (ap (hintsIn (now (q .before .before .args .hints))) (q .enum-told2 .given .1))
 
+returns-3 : tie.Need-returns-3
+unfolding hintsIn
+returns-3 c =
+    let q = c .before in
+    c .rows-between3 .ensures ∙ sym (ap (hintsIn (now (q .before .before .args .hints))) (q .enum-told3 .given .1))
+
 pub hints-of-spec : {M : Type 1} → statement M
 hints-of-spec =
     tie.close
@@ -38,5 +50,8 @@ hints-of-spec =
     rows-between-requires
     enum-told-2
     rows-between-requires-2
+    enum-told-3
+    rows-between-requires-3
     returns
-    returns-2)
+    returns-2
+    returns-3)

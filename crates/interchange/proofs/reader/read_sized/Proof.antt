@@ -6,7 +6,7 @@ use Rattle.interchange.proofs.reader.read_sized.Lts as lts
 use Rattle.hints.proofs.tables.hints.Reads as hints-reads
 use Rattle.interchange.proofs.reader.read_on.Reads as read-on-reads
 use Rattle.steps.proofs.state.State.opening.Reads as opening-reads
-use Rattle.placing.proofs.tables.tables.Reads as tables-reads
+use Rattle.segment_tables.proofs.tables.Reads as tables-reads
 use mathlib.Core.Path.{ap}
 use denote.Ref.{now}
 use Rattle.steps.specs.declared.state.State.{State}

@@ -12,7 +12,7 @@ use Rattle.interchange.proofs.stretch.read_stretch.Lts as lts
 use Rattle.hints.proofs.tables.hints.Reads as hints-reads
 use Rattle.interchange.proofs.stretch.halted.Reads as halted-reads
 use Rattle.interchange.proofs.stretch.stretch_on.Reads as stretch-on-reads
-use Rattle.placing.proofs.tables.tables.Reads as tables-reads
+use Rattle.segment_tables.proofs.tables.Reads as tables-reads
 
 halted-requires : tie.Need-halted-requires
 halted-requires c κs = search needs

@@ -9,7 +9,7 @@ use Rattle.parcels.proofs.passing.lent_turn.Reads as reads
 use Rattle.parcels.proofs.passing.lent_turn.Lts as lts
 use Rattle.interchange.proofs.turn.turn_with.Reads as turn-with-reads
 use Rattle.parts.proofs.bytes_of.Reads as bytes-of-reads
-use Rattle.placing.proofs.tables.tables.Reads as tables-reads
+use Rattle.segment_tables.proofs.tables.Reads as tables-reads
 
 add-t8 : tie.Need-add-t8
 add-t8 c = search needs

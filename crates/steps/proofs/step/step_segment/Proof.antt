@@ -1,18 +1,16 @@
 use mathlib.Core.Path.{_≡_, sym, ap, _∙_}
 use denote.Ref.{now}
 use Rattle.answers.specs.Answers.{Answer}
-use Rattle.placing.specs.Table.{Table}
 use Rattle.steps.specs.declared.state.Phase.{Phase}
 use Rattle.steps.specs.declared.state.Phase.the-variants.{Opening, Between, Inside, Closed}
-use Rattle.steps.specs.Step.{Taken, insideMessage, stepBy}
+use Rattle.steps.specs.Step.{Taken, stepBy}
 use borrow.Author.Needs.{needs}
 use Rattle.steps.proofs.step.step_segment.Statement.{statement}
 use Rattle.steps.proofs.step.step_segment.Tie as tie
 use Rattle.steps.proofs.step.step_segment.Reads as reads
 use Rattle.steps.proofs.step.step_segment.Lts as lts
-use Rattle.placing.proofs.tables.table_of.Reads as table-of-reads
 use Rattle.steps.proofs.step.next_message.Reads as next-message-reads
-use Rattle.steps.proofs.step.next_segment.Reads as next-segment-reads
+use Rattle.steps.proofs.step.in_message.Reads as in-message-reads
 use Rattle.steps.proofs.step.open_dialogue.Reads as open-dialogue-reads
 use Rattle.steps.proofs.step.refused.Reads as refused-reads
 
@@ -41,11 +39,8 @@ next-message-requires c κs = search needs
 enum-told-3 : tie.Need-enum-told-3
 enum-told-3 c = search needs
 
-table-of-requires : tie.Need-table-of-requires
-table-of-requires c κs = search needs
-
-next-segment-requires : tie.Need-next-segment-requires
-next-segment-requires c κs = search needs
+in-message-requires : tie.Need-in-message-requires
+in-message-requires c κs = search needs
 
 enum-told-4 : tie.Need-enum-told-4
 enum-told-4 c = search needs
@@ -68,11 +63,8 @@ returns-2 c =
 returns-3 : tie.Need-returns-3
 unfolding stepBy
 returns-3 c =
-    let e = c .before .before in
-    let a = e .before .before .before .before .before .args in
-    c .next-segment .ensures
-    ∙ ap (λ (t : Table). insideMessage t (a .st) (a .at) (now (a .segment)) (now (a .reference))) (c .before .table-of .ensures)
-    ∙ known (e .before .before) Inside (e .enum-told3 .given .1)
+    let e = c .before in
+    c .in-message .ensures ∙ known (e .before .before) Inside (e .enum-told3 .given .1)
 
 returns-4 : tie.Need-returns-4
 unfolding stepBy
@@ -89,8 +81,7 @@ step-segment-spec =
     enum-told-2
     next-message-requires
     enum-told-3
-    table-of-requires
-    next-segment-requires
+    in-message-requires
     enum-told-4
     refused-requires
     returns

@@ -1,11 +1,11 @@
--- `placing::tables::rows_between` meets its contract. Assumes nothing.
+-- `segment_tables::rows_between` meets its contract. Assumes nothing.
 use mathlib.Core.Path.{sym}
 use native.Mathlib.Omega.{arith}
 use denote.Ref.{now}
 use Rattle.laws.specs.Lists.{between-none, between-past, between-all}
 use borrow.Author.Needs.{needs}
-use Rattle.placing.proofs.tables.rows_between.Statement.{statement}
-use Rattle.placing.proofs.tables.rows_between.Tie as tie
+use Rattle.segment_tables.proofs.rows_between.Statement.{statement}
+use Rattle.segment_tables.proofs.rows_between.Tie as tie
 
 sub-result : tie.Need-sub-result
 sub-result c = search needs
