@@ -84,7 +84,7 @@ fn segments(bytes: &[u8]) -> Vec<(usize, [u8; 3])> {
 
 #[test]
 fn samples() {
-    for name in ["paper", "skdupd", "tsdupd", "both", "timetable"] {
+    for name in ["paper", "skdupd", "tsdupd", "tsdupd-12b", "both", "directories", "timetable"] {
         agrees(&sample(&format!("{name}.edi")));
     }
     for number in [3, 4, 5, 6, 7, 8, 9, 10] {

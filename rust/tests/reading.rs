@@ -69,6 +69,20 @@ fn samples() {
     assert_eq!(groups, [0, 0, 0, 0, 0, 2, 2, 4, 7, 7, 7, 7, 9, 10, 0, 0, 0, 0, 0]);
 }
 
+/// A SKDUPD, a TSDUPD of D.04A and one of D.12B in one file: each is placed by its own table, and the service is the SKDUPD's.
+#[test]
+fn each_header_decides() {
+    let bytes = sample("directories.edi");
+    let groups: Vec<_> = rows(&bytes).into_iter().map(|row| row.1).collect();
+    assert_eq!(groups, [0, 0, 0, 0, 0, 2, 4, 7, 7, 0, 0, 0, 2, 5, 5, 5, 0, 0, 0, 2, 4, 5, 5, 5, 0, 0]);
+    assert_eq!(read(&bytes, Refused).unwrap().services().count(), 1);
+    let text = String::from_utf8(bytes).unwrap();
+    let skdupd = text.find("UIH+SKDUPD").unwrap();
+    assert_eq!(read(text.replacen("04A", "12B", 1).as_bytes(), Refused).unwrap_err(), refused(8, skdupd));
+    let last = text.rfind("UIH").unwrap();
+    assert_eq!(read(text.replace("12B::", "12B:X:").as_bytes(), Refused).unwrap_err(), refused(8, last));
+}
+
 /// Whether day k of the window from a Tuesday is one of these weekdays, Monday 1 to Sunday 7.
 fn weekday(k: usize, days: &[usize]) -> bool {
     days.contains(&((k + 1) % 7 + 1))
