@@ -373,8 +373,8 @@ static void put_header(int type, unsigned density) {
 }
 
 static void put_message(int type, unsigned density, int at_limit) {
-    const struct place *t = type == SKDUPD ? yardstick_skdupd : type == TSDUPD ? yardstick_tsdupd : yardstick_tsdupd_12b;
-    size_t places = type == SKDUPD ? yardstick_skdupd_places : type == TSDUPD ? yardstick_tsdupd_places : yardstick_tsdupd_12b_places;
+    const struct place *t = type == SKDUPD ? yardstick_skdupd : yardstick_tsdupd;
+    size_t places = type == SKDUPD ? yardstick_skdupd_places : yardstick_tsdupd_places;
     put_header(type, density);
     // a group of up to 99,999 is more than an interchange holds
     target = at_limit ? 1 + below((unsigned)places - 2) : NO_TARGET;

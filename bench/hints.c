@@ -1,7 +1,7 @@
 // The placing rule by a walk over the table, and the hints that are made by it before the program begins.
 #include "hints.h"
 
-struct message yardstick_messages[TYPES];
+struct message yardstick_messages[2];
 
 // "the same place again while its number allows; a later place of the same group, no mandatory place still empty being passed; the
 // group once more ..; the places after the group one level up"
@@ -60,13 +60,11 @@ static void make_hint(struct message *m, size_t at, uint32_t tag) {
 }
 
 __attribute__((constructor)) static void make_hints(void) {
-    yardstick_messages[TSDUPD].table = yardstick_tsdupd;
-    yardstick_messages[TSDUPD].places = yardstick_tsdupd_places;
-    yardstick_messages[SKDUPD].table = yardstick_skdupd;
-    yardstick_messages[SKDUPD].places = yardstick_skdupd_places;
-    yardstick_messages[TSDUPD_12B].table = yardstick_tsdupd_12b;
-    yardstick_messages[TSDUPD_12B].places = yardstick_tsdupd_12b_places;
-    for (struct message *m = yardstick_messages; m < yardstick_messages + TYPES; m++)
+    yardstick_messages[0].table = yardstick_tsdupd;
+    yardstick_messages[0].places = yardstick_tsdupd_places;
+    yardstick_messages[1].table = yardstick_skdupd;
+    yardstick_messages[1].places = yardstick_skdupd_places;
+    for (struct message *m = yardstick_messages; m < yardstick_messages + 2; m++)
         for (size_t at = 0; at < m->places; at++)
             for (size_t k = 1; k < m->places && !m->table[at].held; k++)
                 make_hint(m, at, m->table[k].tag);

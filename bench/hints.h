@@ -30,7 +30,7 @@ struct message {
     size_t places;
     struct hint hints[MOST_PLACES][HINTS];
 };
-extern struct message yardstick_messages[TYPES];
+extern struct message yardstick_messages[2]; // TSDUPD, SKDUPD
 
 // Which of a place's hints is that of the tag at the head of a segment. The factor is one of those by which no two tags that may follow
 // on the same place share a hint; its lowest byte is zero, so that the byte after the tag has no part in it.

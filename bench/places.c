@@ -1,4 +1,4 @@
-// The segment tables of documents 000 and 003, with a place for each of their rows.
+// The segment tables of document 000, with a place for each of their rows.
 #include "parts.h"
 
 // Document 000, section 2.4.1.3: tag, greatest number, status, group, level, places held, place of the group around it.
@@ -114,57 +114,3 @@ const struct place yardstick_tsdupd[] = {
     {TAG('U', 'I', 'T'), 1, 1, 0, 0, 0, 0},
 };
 const size_t yardstick_tsdupd_places = sizeof yardstick_tsdupd / sizeof yardstick_tsdupd[0];
-
-// Document 003, the same columns. Its groups bear no status: they are conditional.
-const struct place yardstick_tsdupd_12b[] = {
-    {TAG('U', 'I', 'H'), 1, 1, 0, 0, 0, 0},
-    {TAG('M', 'S', 'D'), 1, 1, 0, 0, 0, 0},
-    {TAG('O', 'R', 'G'), 1, 0, 0, 0, 0, 0},
-    {TAG('H', 'D', 'R'), 1, 0, 0, 0, 0, 0},
-    {TAG('I', 'F', 'T'), 9, 0, 0, 0, 0, 0},
-    {TAG('R', 'F', 'R'), 1, 0, 0, 0, 0, 0},
-    {TAG('C', 'N', 'Y'), 1, 0, 0, 0, 0, 0},
-    {TAG('T', 'I', 'Z'), 1, 0, 0, 0, 0, 0},
-    {TAG('L', 'N', 'G'), 1, 0, 0, 0, 0, 0},
-    {TAG('E', 'R', 'I'), 99, 0, 1, 0, 3, 0}, // group 1
-    {TAG('E', 'R', 'I'), 1, 1, 1, 1, 0, 9},
-    {TAG('R', 'F', 'R'), 1, 0, 1, 1, 0, 9},
-    {TAG('I', 'F', 'T'), 1, 0, 1, 1, 0, 9},
-    {TAG('A', 'L', 'S'), 99999, 0, 2, 0, 27, 0}, // group 2
-    {TAG('A', 'L', 'S'), 1, 1, 2, 1, 0, 13},
-    {TAG('A', 'D', 'S'), 1, 0, 2, 1, 0, 13},
-    {TAG('P', 'O', 'P'), 9, 0, 2, 1, 0, 13},
-    {TAG('C', 'O', 'N'), 1, 0, 2, 1, 0, 13},
-    {TAG('T', 'R', 'F'), 1, 0, 2, 1, 0, 13},
-    {TAG('C', 'N', 'Y'), 1, 0, 2, 1, 0, 13},
-    {TAG('T', 'I', 'Z'), 1, 0, 2, 1, 0, 13},
-    {TAG('L', 'N', 'G'), 1, 0, 2, 1, 0, 13},
-    {TAG('S', 'E', 'R'), 1, 0, 2, 1, 0, 13},
-    {TAG('I', 'F', 'T'), 9, 0, 2, 1, 0, 13},
-    {TAG('A', 'S', 'D'), 99, 0, 3, 1, 2, 13}, // group 3
-    {TAG('A', 'S', 'D'), 1, 1, 3, 2, 0, 24},
-    {TAG('C', 'O', 'N'), 1, 0, 3, 2, 0, 24},
-    {TAG('P', 'R', 'D'), 99, 0, 4, 1, 5, 13}, // group 4
-    {TAG('P', 'R', 'D'), 1, 1, 4, 2, 0, 27},
-    {TAG('S', 'E', 'R'), 1, 0, 4, 2, 0, 27},
-    {TAG('F', 'R', 'Q'), 1, 0, 4, 2, 0, 27},
-    {TAG('I', 'F', 'T'), 1, 0, 4, 2, 0, 27},
-    {TAG('P', 'O', 'R'), 1, 0, 4, 2, 0, 27},
-    {TAG('R', 'F', 'R'), 99, 0, 5, 1, 7, 13}, // group 5
-    {TAG('R', 'F', 'R'), 1, 1, 5, 2, 0, 33},
-    {TAG('M', 'E', 'S'), 1, 0, 5, 2, 0, 33},
-    {TAG('R', 'L', 'S'), 1, 0, 5, 2, 0, 33},
-    {TAG('P', 'R', 'D'), 99, 0, 6, 2, 3, 33}, // group 6
-    {TAG('P', 'R', 'D'), 1, 1, 6, 3, 0, 37},
-    {TAG('P', 'O', 'P'), 1, 0, 6, 3, 0, 37},
-    {TAG('S', 'E', 'R'), 1, 0, 6, 3, 0, 37},
-    {TAG('N', 'M', 'E'), 99, 0, 7, 0, 6, 0}, // group 7
-    {TAG('N', 'M', 'E'), 1, 1, 7, 1, 0, 41},
-    {TAG('A', 'D', 'S'), 1, 0, 7, 1, 0, 41},
-    {TAG('C', 'O', 'N'), 1, 0, 7, 1, 0, 41},
-    {TAG('R', 'F', 'R'), 99, 0, 8, 1, 2, 41}, // group 8
-    {TAG('R', 'F', 'R'), 1, 1, 8, 2, 0, 45},
-    {TAG('R', 'L', 'S'), 1, 0, 8, 2, 0, 45},
-    {TAG('U', 'I', 'T'), 1, 1, 0, 0, 0, 0},
-};
-const size_t yardstick_tsdupd_12b_places = sizeof yardstick_tsdupd_12b / sizeof yardstick_tsdupd_12b[0];

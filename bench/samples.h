@@ -35,6 +35,9 @@ unsigned short_string(unsigned days);
 // The date so many days after 1990-01-01, which may lie past 2099.
 void put_date(struct text *t, unsigned day);
 
+// The types of messages, that of D.12B apart.
+enum { TSDUPD, SKDUPD, TSDUPD_12B, TYPES };
+
 // An interchange with one message, up to where its services or stations begin, and from where they end.
 void open_text(struct text *t, int type);
 void close_text(struct text *t);

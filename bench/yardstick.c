@@ -35,22 +35,18 @@ static int trailer(const uint8_t *g, const uint8_t *end, struct part reference, 
     return present(p) && same(p, reference) && counts(part_of(g, end, 2, 1), count);
 }
 
-// "UIH names in S306 the type, D, 04A, an empty 0113 and UN; then the reference 0340": 0, or 7 where one is absent, or 8.
-// Document 02, A8: a TSDUPD may name 12B, "a SKDUPD that names 12B is still 8".
-static unsigned header(const uint8_t *g, const uint8_t *end, int *type, struct part *reference) {
-    struct part name = part_of(g, end, 1, 1), version = part_of(g, end, 1, 2), release = part_of(g, end, 1, 3);
+// "UIH names in S306 the type, D, 04A, an empty 0113 and UN; then the reference 0340": 0, or 7 where one is absent, or 8. Document 02, A8: a TSDUPD
+// may name 12B; the table of document 003 has the places of document 000's, and what differs, the positions, no reader tells.
+static unsigned header(const uint8_t *g, const uint8_t *end, int *skdupd, struct part *reference) {
+    struct part type = part_of(g, end, 1, 1), version = part_of(g, end, 1, 2), release = part_of(g, end, 1, 3);
     struct part agency = part_of(g, end, 1, 5);
     *reference = part_of(g, end, 2, 1);
-    if (!present(name) || !present(version) || !present(release) || !present(agency) || !present(*reference))
+    if (!present(type) || !present(version) || !present(release) || !present(agency) || !present(*reference))
         return 7;
     if (!says(version, "D") || present(part_of(g, end, 1, 4)) || !says(agency, "UN"))
         return 8;
-    if (!says(release, "04A")) {
-        *type = TSDUPD_12B;
-        return says(release, "12B") && says(name, "TSDUPD") ? 0 : 8;
-    }
-    *type = says(name, "SKDUPD") ? SKDUPD : TSDUPD;
-    return *type == SKDUPD || says(name, "TSDUPD") ? 0 : 8;
+    *skdupd = says(release, "04A") && says(type, "SKDUPD");
+    return *skdupd || (says(type, "TSDUPD") && (says(release, "04A") || says(release, "12B"))) ? 0 : 8;
 }
 
 // How far a reading has come: the offset of the next segment, and where its row goes.
@@ -130,17 +126,17 @@ static unsigned inside(struct reading *d, const uint8_t *g, const uint8_t *end, 
 
 // A segment outside of messages: 0, or the number of its refusal.
 static unsigned outside(struct reading *d, const uint8_t *g, const uint8_t *end, uint32_t tag) {
-    int type;
+    int skdupd;
     if (d->phase == OPENING) {
         d->dialogue = part_of(g, end, 2, 1);
         d->phase = BETWEEN;
         return tag == TAG('U', 'I', 'B') && says(part_of(g, end, 1, 1), "UNOB") && says(part_of(g, end, 1, 2), "4") && present(d->dialogue) ? 0 : 7;
     }
     if (tag == TAG('U', 'I', 'H')) {
-        unsigned number = header(g, end, &type, &d->reference);
+        unsigned number = header(g, end, &skdupd, &d->reference);
         if (number)
             return number;
-        d->message = &yardstick_messages[type];
+        d->message = &yardstick_messages[skdupd];
         d->reached = (struct reached){0, {1}};
         d->segments = 1;
         d->phase = INSIDE;

@@ -33,15 +33,10 @@ struct place {
     uint8_t outer;     // the place of the group that it stands in
 };
 
-// The types of messages, that of D.12B apart.
-enum { TSDUPD, SKDUPD, TSDUPD_12B, TYPES };
-
-// Their tables, for the generator of the comparison.
+// The tables, for the generator of the comparison.
 extern const struct place yardstick_skdupd[];
 extern const struct place yardstick_tsdupd[];
-extern const struct place yardstick_tsdupd_12b[];
 extern const size_t yardstick_skdupd_places;
 extern const size_t yardstick_tsdupd_places;
-extern const size_t yardstick_tsdupd_12b_places;
 
 #endif
