@@ -106,7 +106,7 @@ impl State {
         ensures { λ r. ⌜ r ≡ headedState self at message reference ⌝ }
     {
         let dialogue = self.dialogue;
-        let place = Place::start();
+        let start = Place::start();
         State {
             phase: Phase::Inside,
             message,
@@ -117,7 +117,7 @@ impl State {
             dialogue,
             headed_at: at,
             reference,
-            place,
+            place: start,
         }
     }
 
