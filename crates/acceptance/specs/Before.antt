@@ -1,5 +1,5 @@
--- How an interchange was read while D.04A alone was taken: what a UIH says, word for word as it was, and the definitions of the step and of the reader that lead to it. The rows that
--- are lent, and the tables of SKDUPD and TSDUPD among them, are what they were. Assumes nothing; there is no proof here.
+-- How an interchange was read while D.04A alone was taken: what a UIH said, word for word as it was, and the step and the reader over whatever a UIH says. Over what it says now
+-- these are the reader's own (`reading-now`, Narrowed.antt). Assumes nothing; there is no proof here.
 use mathlib.Core.Bool.{Bool}
 use mathlib.Core.List.{List, []}
 use Prim.Native.Nat.{ℕ, zero, suc, _+_}
@@ -31,29 +31,33 @@ uihBefore g =
     (pick (directory (versionOf g) (releaseNumberOf g) (subFunctionOf g) (agencyOf g)) (typed (typeOf g) (placeOf g 2 1)) Unknown)
     Missing
 
-unfoldable pub betweenBefore : State → ℕ → List ℕ → List ℕ → Answer Taken
-betweenBefore st at g dialogue =
-    pick (eqb (tagNumber g) UIH) (headed st at g (uihBefore g))
+-- `uih` is what a UIH says
+unfoldable pub betweenOver : (List ℕ → Headed) → State → ℕ → List ℕ → List ℕ → Answer Taken
+betweenOver uih st at g dialogue =
+    pick (eqb (tagNumber g) UIH) (headed st at g (uih g))
     (pick (eqb (tagNumber g) UIZ) (closing st at g dialogue) (wrongEnvelope at))
 
-abbrev pub stepBefore : Phase → State → ℕ → List ℕ → List ℕ → List ℕ → Answer Taken
-stepBefore Opening st at g dialogue reference = opening st at g
-stepBefore Between st at g dialogue reference = betweenBefore st at g dialogue
-stepBefore Inside st at g dialogue reference = insideMessage (tableIn tables (st .message)) st at g reference
-stepBefore Closed st at g dialogue reference = wrongEnvelope at
+abbrev pub stepOver : (List ℕ → Headed) → Phase → State → ℕ → List ℕ → List ℕ → List ℕ → Answer Taken
+stepOver uih Opening st at g dialogue reference = opening st at g
+stepOver uih Between st at g dialogue reference = betweenOver uih st at g dialogue
+stepOver uih Inside st at g dialogue reference = insideMessage (tableIn tables (st .message)) st at g reference
+stepOver uih Closed st at g dialogue reference = wrongEnvelope at
 
-abbrev pub turnBefore : List ℕ → State → ℕ → Scanned → Turn
-turnBefore s st at (End e) = turnStep (e + 1) (stepBefore (st .phase) st at (bodyAt s at) (dialogueOf s st) (headedReference s st))
-turnBefore s st at (NotPermitted i) = Stop (refusalOf at (NotPermitted i))
-turnBefore s st at Unended = Stop (refusalOf at Unended)
-turnBefore s st at Malformed = Stop (refusalOf at Malformed)
+abbrev pub turnOver : (List ℕ → Headed) → List ℕ → State → ℕ → Scanned → Turn
+turnOver uih s st at (End e) = turnStep (e + 1) (stepOver uih (st .phase) st at (bodyAt s at) (dialogueOf s st) (headedReference s st))
+turnOver uih s st at (NotPermitted i) = Stop (refusalOf at (NotPermitted i))
+turnOver uih s st at Unended = Stop (refusalOf at Unended)
+turnOver uih s st at Malformed = Stop (refusalOf at Malformed)
 
-unfoldable pub readOnBefore : ℕ → List ℕ → State → ℕ → Outcome
-readOnBefore zero s st at = fault (wrongEnvelope at)
-readOnBefore (suc f) s st at =
+unfoldable pub readOnOver : (List ℕ → Headed) → ℕ → List ℕ → State → ℕ → Outcome
+readOnOver uih zero s st at = fault (wrongEnvelope at)
+readOnOver uih (suc f) s st at =
     pick (ltb at (length s))
-    (pick (isClosed (st .phase)) (fault (wrongEnvelope at)) (afterTurn (readOnBefore f s) (turnBefore s st at (segmentAt s at))))
+    (pick (isClosed (st .phase)) (fault (wrongEnvelope at)) (afterTurn (readOnOver uih f s) (turnOver uih s st at (segmentAt s at))))
     (pick (isClosed (st .phase)) (record { rows = []; verdict = accepted }) (fault (wrongEnvelope (length s))))
 
-unfoldable pub readingBefore : Bool → List ℕ → Outcome
-readingBefore wish s = pick (wrongSize s) (fault badSize) (readOnBefore (length s + 1) s (openingState wish) 0)
+unfoldable pub readingOver : (List ℕ → Headed) → Bool → List ℕ → Outcome
+readingOver uih wish s = pick (wrongSize s) (fault badSize) (readOnOver uih (length s + 1) s (openingState wish) 0)
+
+abbrev pub readingBefore : Bool → List ℕ → Outcome
+readingBefore wish s = readingOver uihBefore wish s

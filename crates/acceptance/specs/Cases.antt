@@ -24,7 +24,7 @@ use Rattle.answers.specs.Answers.{refused, naming}
 use Rattle.steps.specs.Step.{opening, betweenMessages, closing, trailing, placed, insideMessage, stepBy}
 use Rattle.interchange.specs.Reader.{turnAt, readOn, readingOf, numbers}
 use Rattle.acceptance.specs.Interchange.{segmentsWritten, unbroken, isSegment, Interchange, segmentsOf, placesFrom, isMessage, rulesHold, rowsFrom, rowsOf}
-use Rattle.acceptance.specs.Before.{uihBefore, betweenBefore, readOnBefore, readingBefore}
+use Rattle.acceptance.specs.Before.{uihBefore, betweenOver, readOnOver, readingOver, readingBefore}
 
 abbrev uib : List ℕ
 uib = bytes "UIB+UNOB:4+7"
@@ -106,5 +106,5 @@ refused-function = refl
 
 -- it was 8 before
 pub later-before : readingBefore false (segmentsWritten (segmentsOf (headed-by tsdupd12B))) .verdict ≡ refused (naming 8 13)
-unfolding segmentsWritten permittedOf plainOn firstPiece laterPieces partOf tagged componentFits occurrenceFits elementFits withinLimits wellFormed scanOf permittedRun spanOf countedAt elementAt sameText entryOf afterOf endOf placesOn reachable firstFit inGroup again laterOnes choicesFrom firstOf stepOf skdupdTable tsdupdTable tsdupd12BTable tables tableIn decimalOn uibOf uihOf trailerOf opening betweenMessages closing trailing placed insideMessage stepBy turnAt readOn readingOf uihBefore betweenBefore readOnBefore readingBefore
+unfolding segmentsWritten permittedOf plainOn firstPiece laterPieces partOf tagged componentFits occurrenceFits elementFits withinLimits wellFormed scanOf permittedRun spanOf countedAt elementAt sameText entryOf afterOf endOf placesOn reachable firstFit inGroup again laterOnes choicesFrom firstOf stepOf skdupdTable tsdupdTable tsdupd12BTable tables tableIn decimalOn uibOf uihOf trailerOf opening betweenMessages closing trailing placed insideMessage stepBy turnAt readOn readingOf uihBefore betweenOver readOnOver readingOver
 later-before = refl

@@ -30,7 +30,39 @@ use Rattle.interchange.specs.declared.turn.Turn.the-variants.{On, Stop}
 use Rattle.interchange.specs.Reader.{Outcome, accepted, before, isClosed, dialogueOf, headedReference, turnStep, turnScan, turnAt, afterTurn, readOn, wrongSize, readingOf}
 use Rattle.acceptance.specs.Interchange.{IsInterchange}
 use Rattle.acceptance.specs.Theorems.{accepted-exactly}
-use Rattle.acceptance.specs.Before.{uihBefore, betweenBefore, stepBefore, turnBefore, readOnBefore, readingBefore}
+use Rattle.acceptance.specs.Before.{uihBefore, betweenOver, stepOver, turnOver, readOnOver, readingOver, readingBefore}
+
+-- The step and the reader of Before.antt, over what a UIH says now, are those of Step.antt and Reader.antt
+
+step-now : (st : State) (at : ℕ) (g dialogue reference : List ℕ) (phase : Phase) → stepOver uihOf phase st at g dialogue reference ≡ stepBy tables phase st at g dialogue reference
+unfolding betweenOver betweenMessages stepBy
+step-now st at g dialogue reference Opening = refl
+step-now st at g dialogue reference Between = refl
+step-now st at g dialogue reference Inside = refl
+step-now st at g dialogue reference Closed = refl
+
+turn-now : (s : List ℕ) (st : State) (at : ℕ) (x : Scanned) → turnOver uihOf s st at x ≡ turnScan tables s st at x
+turn-now s st at (End e) = ap (turnStep (e + 1)) (step-now st at (bodyAt s at) (dialogueOf s st) (headedReference s st) (st .phase))
+turn-now s st at (NotPermitted i) = refl
+turn-now s st at Unended = refl
+turn-now s st at Malformed = refl
+
+after-now : (over more : State → ℕ → Outcome) → ((st : State) (next : ℕ) → over st next ≡ more st next) → (x : Turn) → afterTurn over x ≡ afterTurn more x
+after-now over more f (On st r next) = ap (before r) (f st next)
+after-now over more f (Stop refusal) = refl
+
+on-now : (f : ℕ) (s : List ℕ) (st : State) (at : ℕ) → readOnOver uihOf f s st at ≡ readOn f s st at
+unfolding readOn readOnOver turnAt
+on-now zero s st at = refl
+on-now (suc f) s st at =
+    choose (ltb at (length s))
+    (λ l. choose (isClosed (st .phase)) (λ c. rw (l, c))
+    (λ c. rw (l, c, turn-now s st at (segmentAt s at)) (after-now (readOnOver uihOf f s) (readOn f s) (on-now f s) (turnScan tables s st at (segmentAt s at)))))
+    (λ l. rw l)
+
+pub reading-now : (wish : Bool) (s : List ℕ) → readingOver uihOf wish s ≡ readingOf wish s
+unfolding readingOf readingOver
+reading-now wish s = choose (wrongSize s) (λ q. rw q) (λ q. rw q (on-now (length s + 1) s (openingState wish) 0))
 
 -- whether a UIH is that of a message of D.12B
 abbrev pub heads12B : Headed → Bool
@@ -70,21 +102,21 @@ module _ (s : List ℕ) (st : State) (at e : ℕ) where
   head-taken Missing q k t = absurd (false≢true k)
   head-taken Unknown q k t = absurd (false≢true k)
 
-  between-turned : (dialogue : List ℕ) → Turned s at (turnStep e (betweenMessages st at g dialogue)) (turnStep e (betweenBefore st at g dialogue))
-  unfolding betweenMessages betweenBefore
+  between-turned : (dialogue : List ℕ) → Turned s at (turnStep e (betweenMessages st at g dialogue)) (turnStep e (betweenOver uihBefore st at g dialogue))
+  unfolding betweenMessages betweenOver
   between-turned dialogue =
       choose (eqb (tagNumber g) UIH)
       (λ t. rw t (⊎-elim (λ q. rw q as-it-was) (λ w. rw (w .1) (head-taken (uihOf g) refl (w .0) t)) (head-narrowed g)))
       (λ t. rw t as-it-was)
 
-  step-turned : (phase : Phase) (dialogue reference : List ℕ) → Turned s at (turnStep e (stepBy tables phase st at g dialogue reference)) (turnStep e (stepBefore phase st at g dialogue reference))
+  step-turned : (phase : Phase) (dialogue reference : List ℕ) → Turned s at (turnStep e (stepBy tables phase st at g dialogue reference)) (turnStep e (stepOver uihBefore phase st at g dialogue reference))
   unfolding stepBy
   step-turned Opening dialogue reference = as-it-was
   step-turned Between dialogue reference = between-turned dialogue
   step-turned Inside dialogue reference = as-it-was
   step-turned Closed dialogue reference = as-it-was
 
-scan-turned : (s : List ℕ) (st : State) (at : ℕ) (x : Scanned) → Turned s at (turnScan tables s st at x) (turnBefore s st at x)
+scan-turned : (s : List ℕ) (st : State) (at : ℕ) (x : Scanned) → Turned s at (turnScan tables s st at x) (turnOver uihBefore s st at x)
 scan-turned s st at (End e) = step-turned s st at (e + 1) (st .phase) (dialogueOf s st) (headedReference s st)
 scan-turned s st at (NotPermitted i) = as-it-was
 scan-turned s st at Unended = as-it-was
@@ -108,17 +140,17 @@ after-narrowed s at more was f (as-it-was {x = On st r next}) = narrowed-behind 
 after-narrowed s at more was f (as-it-was {x = Stop refusal}) = same
 after-narrowed s at more was f (taken-now {st = st} {r = r} {next = next} h) = was-unknown {now = before r (more st next)} at (rw h) refl
 
-on-narrowed : (f : ℕ) (s : List ℕ) (st : State) (at : ℕ) → Narrowed s (readOn f s st at) (readOnBefore f s st at)
-unfolding readOn readOnBefore turnAt
+on-narrowed : (f : ℕ) (s : List ℕ) (st : State) (at : ℕ) → Narrowed s (readOn f s st at) (readOnOver uihBefore f s st at)
+unfolding readOn readOnOver turnAt
 on-narrowed zero s st at = same
 on-narrowed (suc f) s st at =
     choose (ltb at (length s))
     (λ l. choose (isClosed (st .phase)) (λ c. rw (l, c) same)
-    (λ c. rw (l, c) (after-narrowed s at (readOn f s) (readOnBefore f s) (on-narrowed f s) (scan-turned s st at (segmentAt s at)))))
+    (λ c. rw (l, c) (after-narrowed s at (readOn f s) (readOnOver uihBefore f s) (on-narrowed f s) (scan-turned s st at (segmentAt s at)))))
     (λ l. rw l same)
 
 pub narrowed : (wish : Bool) (s : List ℕ) → Narrowed s (readingOf wish s) (readingBefore wish s)
-unfolding readingOf readingBefore
+unfolding readingOf readingOver
 narrowed wish s = choose (wrongSize s) (λ q. rw q same) (λ q. rw q (on-narrowed (length s + 1) s (openingState wish) 0))
 
 -- so an interchange in which no message is of D.12B is read exactly as it was, its rows or its first fault with its place
