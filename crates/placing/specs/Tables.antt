@@ -1,8 +1,8 @@
 -- The tables of D.04A, in one list of rows that is lent to every step, and the table of a type. Assumes nothing.
-use mathlib.Core.Path.{_≡_, refl, sym}
+use mathlib.Core.Path.{_≡_, refl}
 use mathlib.Core.Bool.{true, false}
-use mathlib.Core.List.{_++_}
-use Rattle.laws.specs.Choice.{false≢true}
+use mathlib.Core.List.{[], _++_}
+use Rattle.laws.specs.Choice.{pick, false≢true}
 use Rattle.laws.specs.Lists.{between}
 use Rattle.messages.specs.declared.MessageType.{MessageType}
 use Rattle.messages.specs.declared.MessageType.the-variants.{Skdupd, Tsdupd, Tsdupd12B}
@@ -15,13 +15,7 @@ use Rattle.placing.specs.Tsdupd12B.{tsdupd12BTable}
 unfoldable pub tables : Table
 tables = skdupdTable ++ tsdupdTable
 
--- the part of a type among such rows: 55 rows are SKDUPD's, 49 TSDUPD's, and none those of D.12B
-unfoldable pub lentIn : Table → MessageType → Table
-lentIn t Skdupd = between t 0 55
-lentIn t Tsdupd = between t 55 104
-lentIn t Tsdupd12B = between t 0 0
-
--- the table of a type, by the rows that are lent; that of D.12B stands apart
+-- the table of a type: among such rows 55 are SKDUPD's and 49 TSDUPD's; that of D.12B stands apart
 unfoldable pub tableIn : Table → MessageType → Table
 tableIn t Skdupd = between t 0 55
 tableIn t Tsdupd = between t 55 104
@@ -43,7 +37,10 @@ pub tsdupd12B-own : tableOf Tsdupd12B ≡ tsdupd12BTable
 unfolding tableIn
 tsdupd12B-own = refl
 
--- that of D.12B is the table of 003, and the table of a type of D.04A is its part of the rows that are lent
+-- what of a type's table is among the rows that are lent: all of it in D.04A, nothing in D.12B
+unfoldable pub lentIn : Table → MessageType → Table
+lentIn t message = pick (is12B message) [] (tableIn t message)
+
 pub apart-own : (t : Table) (message : MessageType) → is12B message ≡ true → tsdupd12BTable ≡ tableIn t message
 unfolding tableIn
 apart-own t Skdupd h = absurd (false≢true h)
@@ -51,7 +48,5 @@ apart-own t Tsdupd h = absurd (false≢true h)
 apart-own t Tsdupd12B h = refl
 
 pub lent-own : (t : Table) (message : MessageType) → is12B message ≡ false → lentIn t message ≡ tableIn t message
-unfolding lentIn tableIn
-lent-own t Skdupd h = refl
-lent-own t Tsdupd h = refl
-lent-own t Tsdupd12B h = absurd (false≢true (sym h))
+unfolding lentIn
+lent-own t message h = rw h

@@ -1,4 +1,4 @@
-//! The segment tables of document 000, sections 2.4.1.3 and 2.4.2.2, and of document 003: rows of eight numbers, to be lent to every step of a reading.
+//! The segment tables of document 000, sections 2.4.1.3 and 2.4.2.2, and of document 003: rows of eight numbers, to be lent to the steps of a reading.
 use messages::ADS;
 use messages::ALS;
 use messages::ASD;

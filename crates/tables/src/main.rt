@@ -168,7 +168,7 @@ fn row_of(table: &[[u32; 8]], group: usize) -> usize {
     i
 }
 
-// The second field of a line is a group's number behind two letters, or the message's name, which begins with no digit there.
+// The second field of a line is `SG` and a group's number or, in the line of a whole message, its name, whose third character is no digit.
 fn group_named(line: &[u8]) -> usize {
     number(piece_at(line, past(line, 0, b';'), b';'), 2)
 }
@@ -192,7 +192,7 @@ fn hold_line(table: &[[u32; 8]], line: &[u8]) {
     }
 }
 
-// Whether a line is of release 04A, the third part of its first field.
+// Whether a line is of release 04A, and not of 08A: the third part of its first field.
 fn is_earlier(line: &[u8]) -> bool {
     let release = piece_at(line, past(line, past(line, 0, b':'), b':'), b':');
     if release.len() != 3 {
