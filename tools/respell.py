@@ -137,6 +137,7 @@ def main():
         for old, new in CRATES.items():
             new_text = re.sub(rf"\bRattle\.{old}\.", f"Rattle.{new}.", new_text)
             new_text = re.sub(rf"(?m)^((?:pub )?use ){old}::", rf"\1{new}::", new_text)
+            new_text = re.sub(rf"(?<![:\w]){old}::put_", f"{new}::put_", new_text)
         done[p] = new_text
     if problems:
         print("\n".join(sorted(set(problems))))

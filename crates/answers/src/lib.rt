@@ -1,5 +1,7 @@
 //! Document 01's table of numbers: its definitions, and what a refusal is. There is no function.
 
+#![tactic(auto)]
+
 /// What is refused, and where; of number 10 also which part of the POP is wrong.
 #[derive(Drop)]
 pub struct Refusal {

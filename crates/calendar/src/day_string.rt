@@ -69,9 +69,9 @@ fn write_characters(days: &[u8], first: Date, last: Date, n: usize, out: &mut [u
         return Written::NoRoom;
     }
     put_start(first, last, out);
-    bytes::put_bytes(out, 29, b"::");
+    raw_bytes::put_bytes(out, 29, b"::");
     put_days(days, n, out, 31);
-    bytes::put_bytes(out, 31 + n, b"'");
+    raw_bytes::put_bytes(out, 31 + n, b"'");
     Written::Bytes(32 + n)
 }
 

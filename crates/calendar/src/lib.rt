@@ -1,5 +1,7 @@
 //! Calendars: the days on which a service runs, as bits in lent bytes, and the two forms in which they are written.
 
+#![tactic(auto)]
+
 mod day_string;
 mod days;
 mod spans;

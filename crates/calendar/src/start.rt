@@ -13,10 +13,10 @@ pub(crate) fn put_start(first: Date, last: Date, out: &mut [u8])
     if out.len() < 29 {
         return;
     }
-    bytes::put_bytes(out, 0, b"POP+273:");
+    raw_bytes::put_bytes(out, 0, b"POP+273:");
     let from = first.text();
-    bytes::put_bytes(out, 8, &from);
-    bytes::put_bytes(out, 18, b"/");
+    raw_bytes::put_bytes(out, 8, &from);
+    raw_bytes::put_bytes(out, 18, b"/");
     let to = last.text();
-    bytes::put_bytes(out, 19, &to);
+    raw_bytes::put_bytes(out, 19, &to);
 }

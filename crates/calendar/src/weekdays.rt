@@ -105,9 +105,9 @@ fn write_named(first: Date, last: Date, weekdays: &[u8], out: &mut [u8]) -> Writ
         return Written::NoRoom;
     }
     put_start(first, last, out);
-    bytes::put_bytes(out, 29, b"+");
-    bytes::put_bytes(out, 30, weekdays);
-    bytes::put_bytes(out, 30 + n, b"'");
+    raw_bytes::put_bytes(out, 29, b"+");
+    raw_bytes::put_bytes(out, 30, weekdays);
+    raw_bytes::put_bytes(out, 30 + n, b"'");
     Written::Bytes(31 + n)
 }
 

@@ -1,5 +1,7 @@
 //! The characters of a part after release: one by its number, and whether one is among them.
 
+#![tactic(auto)]
+
 ghost use Rattle.std.specs.Prelude.{◌≡◌, get_or};
 ghost use Rattle.laws.specs.Choice.{among};
 ghost use Rattle.syntax.specs.Bytes.{plain};

@@ -1,6 +1,8 @@
 //! Whether lent bytes are a register: a head, eight rooms of slots and zeros behind them, 35,858 bytes in all.
 //! A slot is 140 bytes: a number filled up with zeros to 10, then twice a flag and a calendar of 64, live and pending.
 
+#![tactic(auto)]
+
 ghost use Rattle.std.specs.Prelude.{◌≡◌, ◌+◌, ◌*◌, ◌/◌, ◌%◌, ◌≤◌, ◌<◌, length, get_or, drop};
 ghost use Rattle.contents.specs.Written.{numbers_in, is_register};
 ghost use Rattle.checking.specs.Room.{is_room};

@@ -1,5 +1,7 @@
 //! Where a segment ends that was begun before, whatever bytes it has.
 
+#![tactic(auto)]
+
 ghost use Rattle.std.specs.Prelude.{◌≡◌, Bool, false, ℕ, ◌+◌, ◌≤◌, ◌<◌, length, get_or};
 ghost use Rattle.syntax.specs.Pieces.{first_piece};
 ghost use Rattle.cuts.specs.Cuts.{released_after};

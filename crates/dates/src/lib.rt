@@ -1,5 +1,7 @@
 //! Dates of the Gregorian calendar from 1990-01-01 to 2099-12-31: made, numbered, read and written.
 
+#![tactic(auto)]
+
 mod days;
 mod reading;
 

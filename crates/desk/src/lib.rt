@@ -1,5 +1,7 @@
 //! What C calls: numbers and slices only (include/drumcallisto.h). A slice is a pointer and, after it, a length.
 
+#![tactic(auto)]
+
 pub mod arriving;
 pub mod calendars;
 pub mod reading;

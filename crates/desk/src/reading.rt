@@ -107,7 +107,7 @@ fn write_days(
     match test_window(day, s, rows, among.from, among.to, wish) {
         Window::Inside => {
             let found = days_of(day, s, rows, among.from, among.to, wish);
-            bytes::put_bytes(days, 0, &found);
+            raw_bytes::put_bytes(days, 0, &found);
             done(0)
         }
         Window::Outside(at) => refused(13, at),

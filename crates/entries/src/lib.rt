@@ -1,4 +1,7 @@
 //! What release and withdraw do to an account's room, in place, on any bytes of a room. Document 01, "The register".
+
+#![tactic(auto)]
+
 ghost use Rattle.std.specs.Prelude.{◌≡◌, ◌++◌, ◌+◌, ◌*◌, ◌≤◌, length, get_or, take, drop};
 ghost use Rattle.std.proofs.Math.Seq.{paste};
 ghost use Rattle.laws.specs.Choice.{all};
@@ -43,7 +46,7 @@ fn whole_slot(room: &[u8], at: usize) -> [u8; 140]
 {
     let mut slot = [0u8; 140];
     let end = at + SLOT;
-    bytes::put_bytes(&mut slot, 0, &room[at..end]);
+    raw_bytes::put_bytes(&mut slot, 0, &room[at..end]);
     slot
 }
 
@@ -67,7 +70,7 @@ fn move_slot(room: &mut [u8], from: usize, to: usize)
 {
     let slot = whole_slot(room, from);
     let end = to + SLOT;
-    bytes::put_bytes(&mut room[to..end], 0, &slot);
+    raw_bytes::put_bytes(&mut room[to..end], 0, &slot);
 }
 
 // Writes what a release leaves of the slot at one index to another, and says where that ends. The slots behind it stay.
@@ -163,7 +166,7 @@ fn filled_up(number: &[u8]) -> [u8; 10]
     ensures { result ≡ filled_up 10 number.now }
 {
     let mut filled = [0u8; 10];
-    bytes::put_bytes(&mut filled, 0, number);
+    raw_bytes::put_bytes(&mut filled, 0, number);
     filled
 }
 
@@ -181,7 +184,7 @@ fn withdraw_at(room: &mut [u8], at: usize) -> bool
         return true;
     }
     let nothing = [0u8; 65];
-    bytes::put_bytes(room, at + PENDING, &nothing);
+    raw_bytes::put_bytes(room, at + PENDING, &nothing);
     true
 }
 

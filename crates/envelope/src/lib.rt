@@ -1,6 +1,8 @@
 //! The contents of the four service segments: UIB, UIH, UIT, UIZ.
 //! Each function takes a segment's own bytes, from its tag up to and without its terminator.
 
+#![tactic(auto)]
+
 ghost use Rattle.std.specs.Prelude.{◌≡◌, true, ℕ, ◌≤◌, length, take, [], ◌∷◌};
 ghost use Rattle.laws.specs.Choice.{all};
 ghost use Rattle.laws.specs.Decimal.{decimal_of};
@@ -73,7 +75,7 @@ pub fn is_decimal(part: &[u8], n: usize) -> bool
         return true;
     }
     let mut digits = [0u8; 20];
-    let count = bytes::put_decimal(&mut digits, 0, n);
+    let count = raw_bytes::put_decimal(&mut digits, 0, n);
     says_first(part, &digits, count)
 }
 

@@ -1,3 +1,5 @@
+#![tactic(auto)]
+
 // Holds the proved functions to another implementation of the calendar: data/dates has every date from 1990-01-01 to 2099-12-31 with
 // its day number and weekday, and data/refused has what is no date.
 use dates::{Date, Made, Number};

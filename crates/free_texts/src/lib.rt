@@ -1,1 +1,3 @@
 //! Texts with no service character, and a POP made of them: laws alone, under `specs`.
+
+#![tactic(auto)]

@@ -1,6 +1,9 @@
 //! The placing rule of document 01 by hints: for a row and a tag, the row to which the rule leads, and what becomes of the counts.
 //! A place's counts stand in one number here, fourteen bits a level. A hint is a row and a kind, and a kind is three numbers.
 //! Each number below 32 has an arm, so that they are looked up in constant memory with no test.
+
+#![tactic(auto)]
+
 pub mod tables;
 
 ghost use Rattle.std.specs.Prelude.{◌≡◌};

@@ -1,5 +1,7 @@
 //! The whole reader: the fold of one segment's step over an interchange.
 
+#![tactic(auto)]
+
 mod gather;
 mod heads;
 mod led;

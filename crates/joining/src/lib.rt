@@ -1,5 +1,7 @@
 //! The union of several periods over a window of days: each is joined into a lent calendar.
 
+#![tactic(auto)]
+
 ghost use Rattle.std.specs.Prelude.{◌≡◌, true, ℕ, ◌+◌, ◌*◌, ◌%◌, ◌≤◌, ◌<◌, min, eqb, length, get_or, drop};
 ghost use Rattle.laws.specs.Choice.{pick, all};
 ghost use Rattle.syntax.specs.Bytes.{plain};

@@ -1,6 +1,8 @@
 //! The reader over the lent interchange: the slice, and how far it has come ("The reader walks forward only").
 //! Its functions are thin: each takes the struct apart and calls a function that takes a plain slice.
 
+#![tactic(auto)]
+
 ghost use Rattle.std.specs.Prelude.{◌≡◌};
 ghost use Rattle.lent.specs.Lent.{offset_after, offset_past};
 ghost use Rattle.lent.specs.Answer.{Told};

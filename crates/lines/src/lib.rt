@@ -1,6 +1,8 @@
 //! What the programs share: a text cut into lines, fields and words, the numbers and bytes that are written there, and what is said
 //! on standard output.
 
+#![tactic(auto)]
+
 mod coded;
 mod standard;
 

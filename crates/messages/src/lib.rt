@@ -1,5 +1,7 @@
 //! What the floors above call a message's type and its segments' tags. A tag is its three bytes as one number.
 
+#![tactic(auto)]
+
 ghost use Rattle.std.specs.Prelude.{◌≡◌};
 ghost use Rattle.messages.specs.Types.{is_12b, is_period};
 

@@ -12,6 +12,8 @@
 //!
 //! More than 60 rows are told by `long`, how many they are, and a remainder by 65,521.
 
+#![tactic(auto)]
+
 ghost use Rattle.std.specs.Prelude.{◌<◌};
 
 use answers::Refusal;

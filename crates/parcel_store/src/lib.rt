@@ -1,5 +1,7 @@
 //! The store of a reading: what it keeps between two parcels, as numbers by value and as bytes.
 
+#![tactic(auto)]
+
 ghost use Rattle.std.specs.Prelude.{◌≡◌, ◌≤◌, ◌%◌, ◌/◌};
 ghost use Rattle.laws.specs.Put.{put_at};
 ghost use Rattle.parcel_store.specs.Store.{number_in, phase_of, message_of, final_of, length_of, place_in, state_in, kept_in, phase_number, message_number, flag_number, answer_number, answer_position, answer_part, state_head, other_with};

@@ -1,5 +1,7 @@
 //! Reading an interchange in parcels, each lent and then gone: `begin`, a `take` for each parcel, `finish`. Between two calls the reading is kept in a lent store.
 
+#![tactic(auto)]
+
 mod advance;
 mod passing;
 mod pieces;

@@ -1,5 +1,7 @@
 //! The parts of a segment, as places in the lent slice.
 
+#![tactic(auto)]
+
 mod ends;
 mod segments;
 

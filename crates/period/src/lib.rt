@@ -1,5 +1,7 @@
 //! A POP of SKDUPD's group 4: the days on which a service runs, read from the segment's parts.
 
+#![tactic(auto)]
+
 mod any;
 mod dated;
 mod elements;

@@ -1,5 +1,7 @@
 //! The placing rule of document 01, over any table: a place by value, and the step to the next segment.
 
+#![tactic(auto)]
+
 ghost use Rattle.std.specs.Prelude.{◌≡◌, ℕ, ◌-◌};
 ghost use Rattle.placing.specs.Table.{entry_of, after_of, end_of, level_of};
 ghost use Rattle.placing.specs.Place.{count_at, kept_of, reached_of, start_place};

@@ -3,6 +3,8 @@
 //! after joining stand the days of the window of 512 days from the date on. `ask`, a tab and 0 or 1: whether the lines below ask for the old
 //! reading of a POP with neither form; those before the first such line do.
 
+#![tactic(auto)]
+
 ghost use Rattle.std.specs.Prelude.{◌≡◌};
 
 use dates::{Date, Made, Number};

@@ -1,6 +1,8 @@
 //! Reads an interchange from standard input and prints its rows, or the refusal (document 01, "Printed whole").
 //! The text is gathered and written at once. The program asks for the old reading of a POP with neither form (document 02, A2).
 
+#![tactic(auto)]
+
 use answers::Refusal;
 use interchange::reader::{Reading, read};
 use lines::{read_input, say};

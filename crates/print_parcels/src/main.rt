@@ -1,6 +1,8 @@
 //! Reads an interchange from standard input as it comes, each read a parcel, and prints its rows parcel by parcel, then the refusal if
 //! there is one (document 01, "Printed whole"; document 02, A1). Of an accepted interchange it prints what `print` prints.
 
+#![tactic(auto)]
+
 use answers::Refusal;
 use interchange::reader::Reading;
 use libc::STDIN_FILENO;

@@ -1,5 +1,7 @@
 //! Bytes and decimal digits put into a lent buffer, small numbers and bytes as sizes, and eight bytes as one number.
 
+#![tactic(auto)]
+
 ghost use Rattle.std.specs.Prelude.{◌≡◌, ◌+◌, ◌*◌, ◌<◌, ◌≤◌, leb, length, get_or, drop};
 ghost use Rattle.laws.specs.Put.{put_at};
 ghost use Rattle.laws.specs.Decimal.{decimal_of};

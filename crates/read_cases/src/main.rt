@@ -5,6 +5,8 @@
 //! A table of more than 1,000 bytes is told by `long`, its rows, its bytes, and the remainder by 65,521 of the number that
 //! its bytes are.
 
+#![tactic(auto)]
+
 ghost use Rattle.std.specs.Prelude.{◌<◌, length};
 
 use answers::Refusal;

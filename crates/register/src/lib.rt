@@ -1,5 +1,8 @@
 //! The register's calls: open, release, withdraw, show, on any buffer and any account number. Document 01, "The register".
 //! Each call tests before it stores; a refusal changes no byte.
+
+#![tactic(auto)]
+
 ghost use Rattle.std.specs.Prelude.{◌≡◌, map, ◌+◌, ◌*◌, ◌≤◌, ◌<◌, length};
 ghost use Rattle.laws.specs.Joined.{joined, total};
 ghost use Rattle.laws.specs.Put.{put_at};
@@ -73,7 +76,7 @@ fn put_number(b: &mut [u8], at: usize, n: usize)
     ensures { b.new ≡ put_at b.old at (two_bytes n) }
 {
     let bytes = [(n % 256) as u8, (n / 256) as u8];
-    bytes::put_bytes(b, at, &bytes);
+    raw_bytes::put_bytes(b, at, &bytes);
 }
 
 // The quotas, behind the number of the first date.

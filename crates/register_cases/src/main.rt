@@ -9,6 +9,8 @@
 //! A command writes a line: number, position, part, value and a digest of the whole store. A show adds a digest of its whole
 //! output buffer, and what was written below the line.
 
+#![tactic(auto)]
+
 use checking::is_register;
 use dates::Date;
 use lines::{decode, field, past, piece_at, read_input, say, say_line, say_number};

@@ -1,5 +1,7 @@
 //! Where an account's room lies in a register's bytes, and the laws of what is read and written there (document 01, "The register").
 
+#![tactic(auto)]
+
 ghost use Rattle.std.specs.Prelude.{◌≡◌};
 ghost use Rattle.contents.specs.Written.{held};
 ghost use Rattle.rooms.specs.Views.{room_start, room_end};

@@ -1,6 +1,8 @@
 //! Walks inputs, a line each, from segment to segment with the reader over the lent interchange. Writes each segment's
 //! offset and tag, and how the walk ends: over at an offset, or refused with number, position and part.
 
+#![tactic(auto)]
+
 use lent::{Found, found_past};
 use lines::{letters, past, piece_at, read_input, say, say_line, say_number, say_refusal};
 

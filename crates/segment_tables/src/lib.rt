@@ -1,4 +1,7 @@
 //! The segment tables of document 000, sections 2.4.1.3 and 2.4.2.2, and of document 003: rows of eight numbers, to be lent to the steps of a reading.
+
+#![tactic(auto)]
+
 ghost use Rattle.std.specs.Prelude.{◌≡◌};
 ghost use Rattle.laws.specs.Lists.{between};
 ghost use Rattle.placing.specs.Tsdupd12B.{tsdupd_12b_table};

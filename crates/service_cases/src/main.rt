@@ -2,6 +2,8 @@
 //! A service is a line: the offset of its PRD, its number as written, `put` or `del`, and the offsets of its POPs.
 //! Below its services stands the answer: `services` and how many, or `refused`, number, position and part.
 
+#![tactic(auto)]
+
 use interchange::reader::{Reading, read};
 use lines::{past, piece_at, read_input, say, say_number, say_refusal};
 use parts::bytes_of;

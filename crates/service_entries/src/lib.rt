@@ -1,5 +1,7 @@
 //! What an account's room holds of a number, and what a service makes of it: on any bytes.
 
+#![tactic(auto)]
+
 mod numbers;
 mod orders;
 
@@ -75,7 +77,7 @@ pub(crate) fn entry_of(flag: u8, days: [u8; 64]) -> [u8; 65]
 {
     let mut entry = [0u8; 65];
     entry[0] = flag;
-    bytes::put_bytes(&mut entry, 1, &days);
+    raw_bytes::put_bytes(&mut entry, 1, &days);
     entry
 }
 
@@ -84,8 +86,8 @@ fn new_slot(number: [u8; 10], entry: [u8; 65]) -> [u8; 140]
     ensures { result ≡ new_slot number entry }
 {
     let mut slot = [0u8; 140];
-    bytes::put_bytes(&mut slot, 0, &number);
-    bytes::put_bytes(&mut slot, PENDING, &entry);
+    raw_bytes::put_bytes(&mut slot, 0, &number);
+    raw_bytes::put_bytes(&mut slot, PENDING, &entry);
     slot
 }
 
@@ -142,7 +144,7 @@ pub(crate) fn put_service(room: &mut [u8], number: [u8; 10], entry: [u8; 65], en
     match slots::find(room, &number) {
         slots::Found::At(k) => {
             let at = k * SLOT;
-            bytes::put_bytes(room, at + PENDING, &entry);
+            raw_bytes::put_bytes(room, at + PENDING, &entry);
             later(end, at + SLOT)
         }
         slots::Found::Gap(k) => {
@@ -162,7 +164,7 @@ fn remove_at(room: &mut [u8], at: usize)
         return;
     }
     let entry = entry_of(2, [0u8; 64]);
-    bytes::put_bytes(room, at + PENDING, &entry);
+    raw_bytes::put_bytes(room, at + PENDING, &entry);
 }
 
 // Removes the record of a number, if there is one.

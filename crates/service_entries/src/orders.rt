@@ -27,8 +27,8 @@ pub fn put_order(orders: &mut [u8], k: usize, number: [u8; 10], removal: bool, d
     }
     let entry = entry_of(flag_of(removal), days);
     let at = ORDER * k;
-    bytes::put_bytes(orders, at, &number);
-    bytes::put_bytes(orders, at + NUMBER, &entry);
+    raw_bytes::put_bytes(orders, at, &number);
+    raw_bytes::put_bytes(orders, at + NUMBER, &entry);
 }
 
 // Enters an order that puts. Takes and answers from where on the bytes are all 0.
@@ -41,9 +41,9 @@ fn enter_order(room: &mut [u8], order: &[u8], end: usize) -> usize
         return end;
     }
     let mut number = [0u8; 10];
-    bytes::put_bytes(&mut number, 0, &order[..NUMBER]);
+    raw_bytes::put_bytes(&mut number, 0, &order[..NUMBER]);
     let mut entry = [0u8; 65];
-    bytes::put_bytes(&mut entry, 0, &order[NUMBER..]);
+    raw_bytes::put_bytes(&mut entry, 0, &order[NUMBER..]);
     put_service(room, number, entry, end)
 }
 

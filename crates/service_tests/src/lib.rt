@@ -1,5 +1,7 @@
 //! The tests of the services, against the room as it stands before the first of them enters.
 
+#![tactic(auto)]
+
 mod numbers;
 
 ghost use Rattle.std.specs.Prelude.{◌≡◌, true, not, map, ◌≤◌, ◌<◌, length, set};

@@ -1,6 +1,8 @@
 //! The services of an accepted interchange, one by one, and the tests 11 and 12 (document 01, "The register", Stage).
 //! The rows are those that the reader wrote: three numbers each, offset, group and tag. Any other numbers do no harm.
 
+#![tactic(auto)]
+
 mod eights;
 mod numbers;
 mod rows;

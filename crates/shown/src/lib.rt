@@ -1,4 +1,7 @@
 //! The lines that show one record of an account's room, on any bytes of a room. Document 01, "The register".
+
+#![tactic(auto)]
+
 ghost use Rattle.std.specs.Prelude.{◌≡◌, ◌++◌, ◌∷◌, [], ◌+◌, ◌≤◌, length, take};
 ghost use Rattle.std.proofs.Math.Option.{some};
 ghost use Rattle.laws.specs.Put.{put_at};
@@ -46,10 +49,10 @@ fn put_line(out: &mut [u8], at: usize, number: &[u8], mark: &[u8], days: &[u8], 
 {
     let second = at + number.len();
     let third = second + mark.len();
-    bytes::put_bytes(out, at, number);
-    bytes::put_bytes(out, second, mark);
+    raw_bytes::put_bytes(out, at, number);
+    raw_bytes::put_bytes(out, second, mark);
     calendar::put_days(days, n, out, third);
-    bytes::put_bytes(out, third + n, b"\n");
+    raw_bytes::put_bytes(out, third + n, b"\n");
 }
 
 // How long the line of what is live is, 0 if nothing is.

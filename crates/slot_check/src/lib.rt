@@ -1,6 +1,8 @@
 //! Whether lent bytes are a slot in use. A slot is 140 bytes: a number filled up with zeros to 10, then twice a flag and a calendar of 64,
 //! the live one and the pending one.
 
+#![tactic(auto)]
+
 ghost use Rattle.std.specs.Prelude.{◌≡◌, length, take};
 ghost use Rattle.syntax.specs.Segment.{permitted_run};
 ghost use Rattle.slot_check.specs.Number.{is_number};

@@ -1,6 +1,8 @@
 //! A run of slots of one length in lent bytes: found by number, and checked.
 //! A slot is 140 bytes: its number, 10 bytes filled up with zeros, then two more. A slot whose first byte is 0 is not used.
 
+#![tactic(auto)]
+
 pub mod words;
 
 ghost use Rattle.std.specs.Prelude.{◌≡◌, ◌+◌, ◌≤◌, length, take, drop};

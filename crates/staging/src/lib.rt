@@ -1,5 +1,7 @@
 //! Staging an interchange: its services enter an account's pending entries, all of them or none (document 01, "The register").
 
+#![tactic(auto)]
+
 ghost use Rattle.std.specs.Prelude.{◌≡◌, Bool, true, ◌*◌, ◌≤◌, length};
 ghost use Rattle.contents.specs.Written.{is_register};
 ghost use Rattle.contents.specs.Calls.{is_account, answer_on, bytes_after};

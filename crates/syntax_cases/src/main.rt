@@ -2,6 +2,8 @@
 //! `segment` AT TEXT, `part` E O C TEXT, `repeated` E TEXT, `equal` TEXT TEXT, parted by tabs.
 //! In a text `~` and two hexadecimal digits stand for a byte.
 
+#![tactic(auto)]
+
 use lines::{
     decode, field, number, past, piece_at, read_input, say, say_line, say_number, say_refusal,
 };

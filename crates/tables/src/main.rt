@@ -2,6 +2,8 @@
 //! on standard input, one for a message and one for each of its groups: `TSDUPD:D:04A:UN::SG5;SG05;RFR;M;1;MES;C;1;SG6;C;99`.
 //! A line is copied, and below it stands each place that the table has and the line has not, and what of the line the table has not.
 
+#![tactic(auto)]
+
 use lines::{four_digits, letters, number, past, piece_at, read_input, say, say_line, say_number};
 use messages::MessageType;
 use placing::entry;

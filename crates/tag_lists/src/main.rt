@@ -3,6 +3,8 @@
 //! The line is copied, and below it stands for each tag the group and the position of the last one, with a full stop
 //! where the message may end there, or `out` and which one of them was out of place; the line is then left.
 
+#![tactic(auto)]
+
 ghost use Rattle.std.specs.Prelude.{◌≡◌, ◌+◌, ◌*◌};
 
 use lines::{four_digits, letters, number, past, piece_at, read_input, say, say_line, say_number};

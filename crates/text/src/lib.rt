@@ -1,6 +1,8 @@
 //! What the printing program prints (document 01, "Printed whole"): the rows of a reading as a table, or the line of a refusal.
 //! Each text is tested for room first; one for which there is none leaves the lent bytes as they were.
 
+#![tactic(auto)]
+
 ghost use Rattle.std.specs.Prelude.{◌≡◌, ◌+◌, ◌≤◌, leb, length, take};
 ghost use Rattle.laws.specs.Put.{put_at};
 ghost use Rattle.text.specs.Text.{pair_text, row_at, rows_text, table_text, refusal_text, written_answer, printed_answer};

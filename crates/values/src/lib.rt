@@ -1,5 +1,7 @@
 //! What a part says after release: its length, its bytes, whether it equals another.
 
+#![tactic(auto)]
+
 ghost use Rattle.std.specs.Prelude.{◌≡◌, ◌≤◌, length, drop};
 ghost use Rattle.laws.specs.Put.{put_at};
 ghost use Rattle.syntax.specs.Bytes.{plain};

@@ -1,3 +1,5 @@
+#![tactic(auto)]
+
 // Writes each calendar of standard input in its three forms. A line has two dates, parted by a slash, a space and the days as characters.
 // What it must write was made by another implementation, with Python's datetime.
 ghost use Rattle.std.specs.Prelude.{◌≤◌};
