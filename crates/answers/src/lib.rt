@@ -3,7 +3,7 @@
 #![tactic(auto)]
 
 /// What is refused, and where; of number 10 also which part of the POP is wrong.
-#[derive(Drop)]
+#[derive(Clone, Copy)]
 pub struct Refusal {
     pub number: u8,
     pub position: usize,

@@ -14,7 +14,7 @@ pub use spans::{days_between, days_from};
 pub use weekdays::write_weekdays;
 
 /// What came of writing a calendar.
-#[derive(Drop)]
+#[derive(Clone, Copy)]
 pub enum Written {
     /// How many bytes the segment has.
     Bytes(usize),
@@ -27,7 +27,7 @@ pub enum Written {
 }
 
 /// A period: the number of its first day, and how many days it has; or none.
-#[derive(Drop)]
+#[derive(Clone, Copy)]
 pub enum Span {
     Days(usize, usize),
     Bad,

@@ -14,7 +14,7 @@ use crate::{Span, Written};
 use dates::Date;
 
 // The weekdays that a form names, as digits, and how many they are.
-#[derive(Drop)]
+#[derive(Clone, Copy)]
 struct Digits {
     bytes: [u8; 7],
     count: usize,

@@ -10,7 +10,7 @@ ghost use Rattle.cuts.specs.Laws.{Left, Gone};
 use syntax::ends::find_end;
 
 /// The end of a segment in some bytes.
-#[derive(Drop)]
+#[derive(Clone, Copy)]
 pub struct Ending {
     /// The terminator's index, or the number of bytes where there is none.
     pub at: usize,

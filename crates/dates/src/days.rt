@@ -8,7 +8,7 @@ ghost use Rattle.dates.specs.Back.{InYear, InMonth};
 use crate::{Date, Number};
 
 // The year, or the month, that a day stands in, and how many of its days stand before that day.
-#[derive(Drop)]
+#[derive(Clone, Copy)]
 pub(crate) struct DayWithin {
     pub(crate) whole: u32,
     pub(crate) left: usize,

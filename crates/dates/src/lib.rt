@@ -16,7 +16,7 @@ pub use days::day_of;
 pub use reading::read_date;
 
 /// A day by its year, month and day of the month.
-#[derive(Drop)]
+#[derive(Clone, Copy)]
 pub struct Date {
     pub year: u16,
     pub month: u8,
@@ -24,7 +24,7 @@ pub struct Date {
 }
 
 /// What three numbers make.
-#[derive(Drop)]
+#[derive(Clone, Copy)]
 pub enum Made {
     Valid(Date),
     /// They are no date, or one before 1990 or after 2099.
@@ -32,7 +32,7 @@ pub enum Made {
 }
 
 /// The number of a day: 0 for 1990-01-01, and one more for each day after it.
-#[derive(Drop)]
+#[derive(Clone, Copy)]
 pub enum Number {
     Day(usize),
     /// The fields are no date.

@@ -6,7 +6,7 @@ ghost use Rattle.dates.specs.Text.{two_digits, digits_at, four_digits, date_at};
 use crate::{Date, Made};
 
 // Two bytes read as digits.
-#[derive(Drop)]
+#[derive(Clone, Copy)]
 enum Digits {
     Value(u32),
     NoDigits,

@@ -10,7 +10,7 @@ use dates::{Date, Made};
 
 /// A date as C gives it: any three numbers.
 #[repr(C)]
-#[derive(Drop)]
+#[derive(Clone, Copy)]
 pub struct Day {
     pub year: u32,
     pub month: u32,

@@ -18,7 +18,7 @@ use interchange::reader::{Reading, read};
 /// What a call comes to. Number 0 is done, with a value; any other number is a refusal, with its position, beside 10 the part of the
 /// POP that is wrong, and no value but the rows that a parcel brought before it.
 #[repr(C)]
-#[derive(Drop)]
+#[derive(Clone, Copy)]
 pub struct Reply {
     pub number: u8,
     pub position: usize,

@@ -18,7 +18,7 @@ use values::Copied;
 
 /// A service as C takes it, or that there is none more; then the rest is 0.
 #[repr(C)]
-#[derive(Drop)]
+#[derive(Clone, Copy)]
 pub struct ServiceFound {
     pub found: bool,
     pub removal: bool,
@@ -85,7 +85,7 @@ pub extern "C" fn drumcallisto_number(s: &[u8], from: usize, to: usize, out: &mu
 
 /// Some of the rows: from one up to and without another.
 #[repr(C)]
-#[derive(Drop)]
+#[derive(Clone, Copy)]
 pub struct Among {
     pub from: usize,
     pub to: usize,

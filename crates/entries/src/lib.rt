@@ -25,7 +25,7 @@ const PENDING: usize = 75;
 const ENTRY: usize = 65;
 
 // The slots in front of the first removal: how many they are, and how many had a pending entry.
-#[derive(Drop)]
+#[derive(Clone, Copy)]
 struct Front {
     slots: usize,
     pending: usize,

@@ -18,7 +18,7 @@ use messages::MessageType;
 use parts::Part;
 
 /// What a UIB says.
-#[derive(Drop)]
+#[derive(Clone, Copy)]
 pub enum Opened {
     /// Where its dialogue reference stands in the segment.
     Dialogue(Part),
@@ -27,7 +27,7 @@ pub enum Opened {
 }
 
 /// What a UIH says.
-#[derive(Drop)]
+#[derive(Clone, Copy)]
 pub enum Headed {
     /// The type, and where the reference 0340 stands in the segment.
     Message(MessageType, Part),

@@ -65,7 +65,7 @@ fn print(name: &[u8], lines: usize, held: usize) {
 }
 
 // How many lines were read, and how many of them are as they should be.
-#[derive(Drop)]
+#[derive(Clone, Copy)]
 struct Tally {
     lines: usize,
     held: usize,

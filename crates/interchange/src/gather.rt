@@ -27,7 +27,7 @@ const PERIOD: usize = 22;
 const NO_PERIOD: usize = 104;
 
 /// What is gathered of a reading.
-#[derive(Drop)]
+#[derive(Clone, Copy)]
 pub(crate) enum Gathered {
     /// All its rows: how many numbers they are.
     Numbers(usize),

@@ -11,7 +11,7 @@ use crate::packed::{Packed, next_place};
 use syntax::segment::Quick;
 
 /// Where a segment leads.
-#[derive(Drop)]
+#[derive(Clone, Copy)]
 pub(crate) enum Led {
     /// To a row and the counts of the place there; the terminator's index.
     To(usize, u64, usize),
@@ -20,7 +20,7 @@ pub(crate) enum Led {
 }
 
 /// The row of the period that is read, and whether the caller asks for the old reading of it.
-#[derive(Drop)]
+#[derive(Clone, Copy)]
 pub(crate) struct PeriodRow {
     pub row: usize,
     pub wish: bool,

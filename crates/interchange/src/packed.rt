@@ -10,7 +10,7 @@ use hints::{bound_of, kept_mask, more_of, slot_of};
 use placing::{Place, entry};
 
 /// A packed place. Where it is not told there is none.
-#[derive(Drop)]
+#[derive(Clone, Copy)]
 pub(crate) struct Packed {
     pub told: bool,
     pub row: usize,

@@ -22,7 +22,7 @@ use steps::state::State;
 const CALLS: usize = 121;
 
 /// What reading an interchange comes to.
-#[derive(Drop)]
+#[derive(Clone, Copy)]
 pub enum Reading {
     /// Accepted; how many rows were written.
     Rows(usize),

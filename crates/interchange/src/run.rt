@@ -29,7 +29,7 @@ const TAG: usize = 1;
 const GROUP: usize = 4;
 
 /// Where some segments of a message led.
-#[derive(Drop)]
+#[derive(Clone, Copy)]
 pub(crate) struct Ran {
     pub place: Place,
     pub segments: usize,

@@ -9,7 +9,7 @@ ghost use Rattle.interchange.specs.Stretches.{phase_number};
 use steps::state::{Phase, State};
 
 /// The state, the offset of the next segment, and how many numbers are gathered before it.
-#[derive(Drop)]
+#[derive(Clone, Copy)]
 pub(crate) struct Standing {
     pub state: State,
     pub at: usize,

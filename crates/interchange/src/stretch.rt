@@ -23,14 +23,14 @@ use segment_tables::tables;
 use steps::state::State;
 
 /// Whether the next segment has a fault.
-#[derive(Drop)]
+#[derive(Clone, Copy)]
 pub enum Halt {
     Sound,
     Faulty(Refusal),
 }
 
 /// What some segments come to. Offsets count from the front of the bytes.
-#[derive(Drop)]
+#[derive(Clone, Copy)]
 pub struct Stretch {
     /// The state after them.
     pub state: State,

@@ -13,7 +13,7 @@ use steps::step::step_segment;
 use syntax::segment::{Scanned, read_segment};
 
 /// What a turn comes to.
-#[derive(Drop)]
+#[derive(Clone, Copy)]
 pub enum Turn {
     /// The next state, the segment's row, and the offset of the next segment.
     On(State, Row, usize),

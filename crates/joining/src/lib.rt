@@ -28,7 +28,7 @@ use values::{Next, next_byte};
 const LOWEST: usize = 0x0101_0101_0101_0101;
 
 /// What came of joining a period.
-#[derive(Drop)]
+#[derive(Clone, Copy)]
 pub enum Joined {
     Done,
     /// 10: which part is wrong.

@@ -11,7 +11,7 @@ use answers::Refusal;
 use syntax::segment::{Scanned, read_segment, tag_at};
 
 /// What stands where the reader has come to.
-#[derive(Drop)]
+#[derive(Clone, Copy)]
 pub enum Found {
     /// A segment: its tag, and the offset past its terminator.
     Segment(u32, usize),

@@ -23,7 +23,7 @@ fn hexadecimal(b: u8) -> u8
 }
 
 /// A byte that a text says, and the index past the sign for it.
-#[derive(Drop)]
+#[derive(Clone, Copy)]
 pub struct Sign {
     pub byte: u8,
     pub next: usize,

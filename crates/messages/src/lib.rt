@@ -6,7 +6,7 @@ ghost use Rattle.std.specs.Prelude.{◌≡◌};
 ghost use Rattle.messages.specs.Types.{is_12b, is_period};
 
 /// The type of a message, and the directory that it is of: D.04A, or D.12B where the name says so.
-#[derive(Drop)]
+#[derive(Clone, Copy)]
 pub enum MessageType {
     Skdupd,
     Tsdupd,

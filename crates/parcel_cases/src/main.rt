@@ -112,7 +112,7 @@ fn print_rows(rows: &[u32], n: usize) {
 
 // How a reading went that asked or did not: how many numbers its rows are, its refusal (number 0 for none), and with which byte a parcel named it
 // (0 for none).
-#[derive(Drop)]
+#[derive(Clone, Copy)]
 struct Course {
     wish: bool,
     numbers: usize,

@@ -27,7 +27,7 @@ pub const REFERENCE: usize = 4136;
 pub const BODY: usize = 8232;
 
 /// The final answer.
-#[derive(Drop)]
+#[derive(Clone, Copy)]
 pub enum Final {
     Awaited,
     Accepted,
@@ -35,7 +35,7 @@ pub enum Final {
 }
 
 /// The numbers of a store.
-#[derive(Drop)]
+#[derive(Clone, Copy)]
 pub struct Kept {
     /// After the whole segments.
     pub state: State,

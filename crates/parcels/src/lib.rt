@@ -30,7 +30,7 @@ use steps::state::State;
 use syntax::bytes::permitted;
 
 /// What a parcel comes to.
-#[derive(Drop)]
+#[derive(Clone, Copy)]
 pub enum Parcel {
     /// So far nothing is wrong; how many rows were written.
     Rows(usize),

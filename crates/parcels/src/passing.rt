@@ -25,7 +25,7 @@ use segment_tables::tables;
 use steps::state::{Phase, State, one_more};
 
 /// How far a parcel is read.
-#[derive(Drop)]
+#[derive(Clone, Copy)]
 pub(crate) struct Progress {
     pub kept: Kept,
     /// The bytes of the parcel that are read.

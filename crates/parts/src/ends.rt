@@ -26,7 +26,7 @@ const BY_TWO: usize = 0x7e7e_7e7e_7e7e_7e7e;
 const BY_SIX: usize = 0x7a7a_7a7a_7a7a_7a7a;
 
 // How far a walk byte by byte came.
-#[derive(Drop)]
+#[derive(Clone, Copy)]
 enum Walked {
     /// The piece ends here.
     Ends(usize),

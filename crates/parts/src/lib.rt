@@ -14,7 +14,7 @@ use crate::ends::{component_end, piece_end};
 pub use segments::segment_at;
 
 /// The bytes from one index up to and without another. Absent where there are none.
-#[derive(Drop)]
+#[derive(Clone, Copy)]
 pub struct Part {
     pub from: usize,
     pub to: usize,

@@ -8,7 +8,7 @@ ghost use Rattle.period.specs.Elements.{element_found, text_in, again_in};
 use parts::{Part, bytes_of, part_at};
 
 // Where an element of a POP stands, and its first occurrence.
-#[derive(Drop)]
+#[derive(Clone, Copy)]
 pub(crate) struct Element {
     whole: Part,
     once: Part,

@@ -9,7 +9,7 @@ use crate::{Fault, Form};
 use values::{Next, next_byte};
 
 // The form in which the days are told, or what is wrong with it.
-#[derive(Drop)]
+#[derive(Clone, Copy)]
 pub(crate) enum Formed {
     Told(Form),
     Faulty(Fault),

@@ -25,7 +25,7 @@ pub use strings::are_days;
 use syntax::segment::{Scanned, read_segment};
 
 /// What tells the days of a period.
-#[derive(Drop)]
+#[derive(Clone, Copy)]
 pub enum Form {
     /// Neither form is given and the caller asks for the old reading: every day runs.
     Every,
@@ -49,7 +49,7 @@ impl Form {
 }
 
 /// Which part of a POP is wrong; where several are, the first of these.
-#[derive(Drop)]
+#[derive(Clone, Copy)]
 pub enum Fault {
     BadDates,
     BadDayString,
@@ -77,7 +77,7 @@ impl Fault {
 }
 
 /// What a POP says.
-#[derive(Drop)]
+#[derive(Clone, Copy)]
 pub enum Period {
     /// The number of its first day, how many days it has, and what tells those that run.
     Good(usize, usize, Form),
@@ -85,7 +85,7 @@ pub enum Period {
 }
 
 /// What stands at an offset where a POP is looked for.
-#[derive(Drop)]
+#[derive(Clone, Copy)]
 pub enum Pop {
     /// A whole segment that says a good period: the terminator's index, the number of its first day, how many days it has, and what tells
     /// those that run.

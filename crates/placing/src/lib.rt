@@ -13,7 +13,7 @@ use messages::UIT;
 
 /// The row reached, and how often each open level has been entered: the place itself at its own level,
 /// each group that it stands in at that group's level. Deeper levels have 0.
-#[derive(Drop)]
+#[derive(Clone, Copy)]
 pub struct Place {
     pub row: usize,
     pub c0: u32,
@@ -24,21 +24,21 @@ pub struct Place {
 }
 
 /// The place of the next segment; out of place is document 01's number 9.
-#[derive(Drop)]
+#[derive(Clone, Copy)]
 pub enum Stepped {
     Placed(Place),
     OutOfPlace,
 }
 
 /// Where a tag fits in one place: the row, and the depth that is left below it.
-#[derive(Drop)]
+#[derive(Clone, Copy)]
 pub enum Fit {
     At(usize, usize),
     Nowhere,
 }
 
 // What reading a group's places comes to: a fit, a mandatory place that is not passed, or their end.
-#[derive(Drop)]
+#[derive(Clone, Copy)]
 enum Reading {
     Found(usize, usize),
     Barred,
@@ -46,7 +46,7 @@ enum Reading {
 }
 
 // What one level comes to: the segment is placed, it is out of place, or the level above is asked.
-#[derive(Drop)]
+#[derive(Clone, Copy)]
 enum Turn {
     Here(Place),
     Out,

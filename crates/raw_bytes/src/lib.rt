@@ -14,7 +14,7 @@ const HIGH: usize = 0x8080_8080_8080_8080;
 const LOW: usize = 0x7f7f_7f7f_7f7f_7f7f;
 
 /// Eight bytes from an index on.
-#[derive(Drop)]
+#[derive(Clone, Copy)]
 pub enum Eight {
     /// As one number, the first in the lowest bits.
     Word(usize),

@@ -61,7 +61,7 @@ fn repeat(out: &mut [u8], from: usize, to: usize, times: usize) -> usize {
 }
 
 // How many bytes a notation has said, where the text that is repeated begins, and how often it stands.
-#[derive(Drop)]
+#[derive(Clone, Copy)]
 struct Said {
     bytes: usize,
     start: usize,

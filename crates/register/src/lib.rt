@@ -20,7 +20,7 @@ const LENGTH: usize = 35858;
 const HEAD: usize = 18;
 
 /// What came of opening.
-#[derive(Drop)]
+#[derive(Clone, Copy)]
 pub enum Opened {
     Done,
     WrongLength,
@@ -29,7 +29,7 @@ pub enum Opened {
 }
 
 /// What came of a release.
-#[derive(Drop)]
+#[derive(Clone, Copy)]
 pub enum Released {
     /// How many entries were pending.
     Entries(usize),
@@ -38,7 +38,7 @@ pub enum Released {
 }
 
 /// What came of a withdrawal.
-#[derive(Drop)]
+#[derive(Clone, Copy)]
 pub enum Withdrawn {
     Done,
     NotRegister,
@@ -47,7 +47,7 @@ pub enum Withdrawn {
 }
 
 /// What came of showing a record.
-#[derive(Drop)]
+#[derive(Clone, Copy)]
 pub enum Shown {
     /// How many bytes were written.
     Bytes(usize),

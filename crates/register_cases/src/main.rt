@@ -19,7 +19,7 @@ use register::{Opened, Released, Shown, Withdrawn};
 use staging::Staged;
 
 // What a command comes to, in document 01's numbers.
-#[derive(Drop)]
+#[derive(Clone, Copy)]
 struct Told {
     number: usize,
     position: usize,

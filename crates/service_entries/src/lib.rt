@@ -27,7 +27,7 @@ const LIVE: usize = 10;
 const PENDING: usize = 75;
 
 /// What an account holds of a number.
-#[derive(Drop)]
+#[derive(Clone, Copy)]
 pub enum Known {
     Nothing,
     /// A record: whether it has a live calendar, and whether its removal is pending.

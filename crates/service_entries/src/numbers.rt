@@ -11,7 +11,7 @@ ghost use Rattle.service_entries.specs.Room.{number_bytes};
 use parts::{Part, bytes_of};
 
 /// A number after release.
-#[derive(Drop)]
+#[derive(Clone, Copy)]
 pub struct Number {
     /// As it stands in a slot.
     pub bytes: [u8; 10],

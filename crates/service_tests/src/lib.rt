@@ -28,7 +28,7 @@ use service_entries::{Known, Number, held, put_order, read_number};
 use services::{Found, FoundPeriod, Service, next_period, next_service, test_service};
 
 /// What the services of an interchange come to.
-#[derive(Drop)]
+#[derive(Clone, Copy)]
 pub struct Totals {
     /// How many there are.
     pub services: usize,
@@ -41,7 +41,7 @@ pub struct Totals {
 }
 
 /// What the tests of the services come to.
-#[derive(Drop)]
+#[derive(Clone, Copy)]
 pub enum Tested {
     Passed(Totals),
     /// The first that is refused: 11, 12, 13 or 14.
@@ -49,7 +49,7 @@ pub enum Tested {
 }
 
 /// Where the first period that is not wholly in the window stands.
-#[derive(Drop)]
+#[derive(Clone, Copy)]
 pub enum Window {
     Inside,
     Outside(usize),
@@ -116,14 +116,14 @@ pub fn test_window(
 }
 
 // What the POPs of a service come to: the first that is not wholly in the window, and whether there is any POP.
-#[derive(Drop)]
+#[derive(Clone, Copy)]
 struct Walk {
     window: Window,
     carries: bool,
 }
 
 // The same, and the days of a service over the window, where none of its POPs goes past it.
-#[derive(Drop)]
+#[derive(Clone, Copy)]
 struct Days {
     walk: Walk,
     days: [u8; 64],

@@ -4,7 +4,7 @@ ghost use Rattle.std.specs.Prelude.{◌≡◌, ◌+◌, ◌-◌, ◌/◌, ◌≤
 ghost use Rattle.services.specs.Inner.{key_of, Passes};
 
 /// Rows that are looked for by one of their three numbers: its key is the number with some bits turned over, and is below a bound.
-#[derive(Drop)]
+#[derive(Clone, Copy)]
 pub struct Sought {
     /// Which of the three numbers.
     pub column: usize,

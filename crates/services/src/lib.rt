@@ -19,7 +19,7 @@ use messages::{MSD, PRD};
 use parts::{Part, bytes_of};
 
 /// A service: a group 2 of a SKDUPD message.
-#[derive(Drop)]
+#[derive(Clone, Copy)]
 pub struct Service {
     /// The offset of its PRD.
     pub prd: usize,
@@ -33,14 +33,14 @@ pub struct Service {
 }
 
 /// What is found from a row on.
-#[derive(Drop)]
+#[derive(Clone, Copy)]
 pub enum Found {
     At(Service),
     NoMore,
 }
 
 /// What is found from a row of a service on.
-#[derive(Drop)]
+#[derive(Clone, Copy)]
 pub enum FoundPeriod {
     /// The row of a POP, and its offset.
     Pop(usize, usize),
@@ -48,7 +48,7 @@ pub enum FoundPeriod {
 }
 
 /// What a service's tests come to.
-#[derive(Drop)]
+#[derive(Clone, Copy)]
 pub enum Tested {
     Good,
     /// 11 or 12.
@@ -56,7 +56,7 @@ pub enum Tested {
 }
 
 /// What the tests of all services come to.
-#[derive(Drop)]
+#[derive(Clone, Copy)]
 pub enum Counted {
     /// All are good; how many there are.
     Services(usize),

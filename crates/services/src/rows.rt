@@ -9,7 +9,7 @@ use crate::eights::{Sought, past_others};
 use messages::{POP, PRD, UIT};
 
 /// How far the rows of a service go.
-#[derive(Drop)]
+#[derive(Clone, Copy)]
 pub struct Extent {
     /// The row from which on no row is of group 2.
     pub own: usize,

@@ -18,7 +18,7 @@ const NUMBER: usize = 10;
 const DAYS: usize = 512;
 
 /// What came of showing a record.
-#[derive(Drop)]
+#[derive(Clone, Copy)]
 pub enum Lines {
     /// How many bytes were written.
     Bytes(usize),

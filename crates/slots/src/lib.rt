@@ -23,7 +23,7 @@ const NUMBER: usize = 10;
 const LEAST: usize = 0x0100_0000_0000_0000;
 
 /// How one text stands to another.
-#[derive(Drop)]
+#[derive(Clone, Copy)]
 pub enum Order {
     Before,
     Same,
@@ -31,7 +31,7 @@ pub enum Order {
 }
 
 /// Where a number is, or where it would go.
-#[derive(Drop)]
+#[derive(Clone, Copy)]
 pub enum Found {
     At(usize),
     Gap(usize),

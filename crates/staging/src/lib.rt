@@ -24,7 +24,7 @@ const SLOT: usize = 140;
 const ORDERS: usize = 256;
 
 /// What came of staging an interchange.
-#[derive(Drop)]
+#[derive(Clone, Copy)]
 pub enum Staged {
     /// All services entered; how many there are.
     Done(usize),

@@ -9,7 +9,7 @@ use parts::Part;
 use placing::Place;
 
 /// What may come next.
-#[derive(Drop)]
+#[derive(Clone, Copy)]
 pub enum Phase {
     /// The UIB.
     Opening,
@@ -22,7 +22,7 @@ pub enum Phase {
 }
 
 /// A reading after some whole segments.
-#[derive(Drop)]
+#[derive(Clone, Copy)]
 pub struct State {
     pub phase: Phase,
     /// The message's type.
@@ -44,7 +44,7 @@ pub struct State {
 }
 
 /// A row of the reading.
-#[derive(Drop)]
+#[derive(Clone, Copy)]
 pub struct Row {
     pub offset: usize,
     pub group: u32,
@@ -52,7 +52,7 @@ pub struct Row {
 }
 
 /// What a segment comes to: the next state and the segment's row, or a refusal.
-#[derive(Drop)]
+#[derive(Clone, Copy)]
 pub enum Step {
     Next(State, Row),
     Refused(Refusal),

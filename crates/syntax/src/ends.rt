@@ -9,7 +9,7 @@ ghost use Rattle.syntax.specs.Ran.{RunTold};
 use crate::bytes::{permitted, released_end, wide};
 
 /// Where a run of bytes that are passed over led.
-#[derive(Drop)]
+#[derive(Clone, Copy)]
 pub(crate) enum Run {
     /// To a byte that is to be looked at.
     Stops(usize),

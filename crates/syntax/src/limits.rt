@@ -4,7 +4,7 @@ ghost use Rattle.std.specs.Prelude.{◌≡◌};
 ghost use Rattle.syntax.specs.Counts.{none, text_of, passed_of, element_of, occurrence_of, component_of, mark_of};
 
 /// What stood before a place in a segment: `+` in it, `*` in the element, `:` in the occurrence, characters in the component.
-#[derive(Drop)]
+#[derive(Clone, Copy)]
 pub struct Counts {
     pub elements: usize,
     pub occurrences: usize,

@@ -15,7 +15,7 @@ use crate::texts::text_end;
 use answers::Refusal;
 
 /// What stands at an offset.
-#[derive(Drop)]
+#[derive(Clone, Copy)]
 pub enum Scanned {
     /// A whole segment; the terminator's index.
     End(usize),
@@ -28,7 +28,7 @@ pub enum Scanned {
 }
 
 /// What a quick look at a segment tells.
-#[derive(Drop)]
+#[derive(Clone, Copy)]
 pub enum Quick {
     /// It is whole, and too small to pass a limit; the terminator's index.
     Ends(usize),

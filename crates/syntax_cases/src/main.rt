@@ -11,7 +11,7 @@ use parts::{Part, bytes_of, is_repeated, part_at};
 use syntax::segment::{Scanned, read_segment};
 use values::{plain_length, same};
 
-#[derive(Drop)]
+#[derive(Clone, Copy)]
 struct Text {
     bytes: [u8; 2048],
     length: usize,

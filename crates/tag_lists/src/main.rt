@@ -12,7 +12,7 @@ use messages::{MessageType, UIH, UIT};
 use placing::{Place, Stepped};
 use segment_tables::{table_of, tsdupd_12b};
 
-#[derive(Drop)]
+#[derive(Clone, Copy)]
 enum Run {
     All(Place),
     Out(usize),

@@ -11,7 +11,7 @@ use answers::Refusal;
 use raw_bytes::{put_bytes, put_decimal, wide};
 
 /// What came of writing a text.
-#[derive(Drop)]
+#[derive(Clone, Copy)]
 pub enum Written {
     /// How many bytes it has.
     Bytes(usize),

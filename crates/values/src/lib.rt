@@ -8,14 +8,14 @@ ghost use Rattle.syntax.specs.Bytes.{plain};
 ghost use Rattle.values.specs.Values.{next_at, same_text, is_empty, copied_of};
 
 /// The next byte after release, and the index past it.
-#[derive(Drop)]
+#[derive(Clone, Copy)]
 pub enum Next {
     Byte(u8, usize),
     Done,
 }
 
 /// Whether the bytes of a part were copied.
-#[derive(Drop)]
+#[derive(Clone, Copy)]
 pub enum Copied {
     /// How many.
     Bytes(usize),

@@ -1,0 +1,17 @@
+-- `put_decimal` meets its contract: the digits still to be written stand before those that are.
+-- Assumes nothing.
+use mathlib.Core.Path.{◌≡◌, refl, ◌∙◌}
+use mathlib.Core.List.{◌++◌, append-nil}
+use Prim.Native.Nat.{◌+◌, ◌%◌, ◌≤◌}
+use native.Mathlib.Omega.{arith}
+use borrow.Author.Rules.{rules}
+use lib.ListN.{length, drop, length-set}
+use Rattle.laws.specs.Decimal.{decimal_on, decimal_of}
+use Rattle.laws.specs.Digits.{last_written, one_written, all_written, digits_put}
+use Rattle.raw_bytes.proofs.put_decimal.Given as goal
+
+abbrev pub invariant-loop-from : goal.invariant-loop-from
+invariant-loop-from l = (l.out ≡ l.initial.out) × (l.from ≤ 20) × (length l.digits ≡ 20) × (decimal_on l.from l.left ++ drop l.from l.digits ≡ decimal_of l.n)
+
+abbrev pub decreases-loop-from : goal.decreases-loop-from
+decreases-loop-from l = l.from

@@ -1,0 +1,17 @@
+-- `marks_in` meets its contract.
+-- Assumes nothing.
+use mathlib.Core.Path.{◌≡◌}
+use Prim.Native.Nat.{◌+◌, ◌-◌, ◌≤◌}
+use native.Mathlib.Omega.{arith}
+use native.Mathlib.Nat.{zero-add}
+use borrow.Author.Rules.{rules}
+use lib.ListN.{length, get_or, drop}
+use Rattle.syntax.specs.Bytes.{is_mark}
+use Rattle.syntax.specs.Few.{marks_in, marks_past, marks_here, unit_bound}
+use Rattle.syntax.proofs.marks.marks_in.Given as goal
+
+abbrev pub invariant-loop-i : goal.invariant-loop-i
+invariant-loop-i l = (l.marks ≤ l.i) × (l.i ≤ length l.p) × (l.marks + marks_in (drop l.i l.p) ≡ marks_in l.p) × (length l.p ≤ 128)
+
+abbrev pub decreases-loop-i : goal.decreases-loop-i
+decreases-loop-i l = length l.p - l.i

@@ -1,0 +1,52 @@
+-- `read_segment` meets its contract.
+-- Assumes nothing.
+use mathlib.Core.Path.{◌≡◌, refl, sym, ap, ◌∙◌}
+use mathlib.Core.Bool.{true}
+use mathlib.Core.List.{List}
+use Prim.Native.Nat.{ℕ, ◌+◌, ◌≤◌}
+use native.Mathlib.Omega.{arith}
+use lib.ListN.{length, drop}
+use Rattle.syntax.specs.declared.segment.Scanned.TheVariants.{End}
+use Rattle.syntax.specs.Tags.{tag_ahead}
+use Rattle.syntax.specs.Said.{scan_said}
+use Rattle.syntax.specs.Whole.{tag_facts, plus_after, whole_bare}
+use Rattle.syntax.specs.Quick.{quick_whole}
+use borrow.Author.Rules.{rules}
+use Rattle.syntax.proofs.segment.read_segment.Goals.{Then-is_tagged}
+use Rattle.syntax.proofs.segment.read_segment.Goals as goal
+
+-- the segment is tagged
+module _ (c : Then-is_tagged) where
+  ahead : tag_ahead (drop c.args.at c.args.s.now) ≡ true
+  ahead = sym c.is_tagged.ensures ∙ c.if-is_tagged.true
+
+  long : c.args.at + 4 ≤ length c.args.s.now
+  long = (tag_facts c.args.s.now c.args.at ahead).long
+
+pub overflow_add-at : goal.overflow_add-at
+overflow_add-at c = let h = long (goal.at.overflow_add-at c).Then-is_tagged in omega arith
+
+pub bounds-s-at : goal.bounds-s-at
+bounds-s-at c = let h = long (goal.at.bounds-s-at c).Then-is_tagged in omega arith
+
+pub overflow_add-result : goal.overflow_add-result
+overflow_add-result c = let h = long (goal.at.overflow_add-result c).Then-is_tagged in omega arith
+
+pub returns-then-s-at-eq39 : goal.returns-then-s-at-eq39
+returns-then-s-at-eq39 c = record { scan = (scan_said c.args.s.now c.args.at (whole_bare c.args.s.now c.args.at (ahead (goal.at.returns-then-s-at-eq39 c).Then-is_tagged) c.if-s-at-eq39.true)).0; said = (scan_said c.args.s.now c.args.at (whole_bare c.args.s.now c.args.at (ahead (goal.at.returns-then-s-at-eq39 c).Then-is_tagged) c.if-s-at-eq39.true)).1 }
+
+pub overflow_add-at-then-is_tagged : goal.overflow_add-at-then-is_tagged
+overflow_add-at-then-is_tagged c = let h = long (goal.at.overflow_add-at-then-is_tagged c).Then-is_tagged in omega arith
+
+pub small_end-end-requires : goal.small_end-end-requires
+small_end-end-requires c = let h = long (goal.at.small_end-end-requires c).Then-is_tagged in (h, refl, omega arith)
+
+pub returns-then-end-s : goal.returns-then-end-s
+returns-then-end-s c =
+    let e = c.small_end-end.ensures in record { scan = (scan_said c.args.s.now c.args.at
+    (ap End e ∙ sym (quick_whole c.args.s.now c.args.at (ahead (goal.at.returns-then-end-s c).Then-is_tagged) (plus_after c.args.s.now c.args.at (ahead (goal.at.returns-then-end-s c).Then-is_tagged) c.if-s-at-eq39.false) (omega arith)))).0; said = (scan_said c.args.s.now c.args.at
+    (ap End e ∙ sym (quick_whole c.args.s.now c.args.at (ahead (goal.at.returns-then-end-s c).Then-is_tagged) (plus_after c.args.s.now c.args.at (ahead (goal.at.returns-then-end-s c).Then-is_tagged) c.if-s-at-eq39.false) (omega arith)))).1 }
+
+pub returns : goal.returns
+returns c =
+    let a = c.args in record { scan = (scan_said a.s.now a.at c.counted.ensures).0; said = (scan_said a.s.now a.at c.counted.ensures).1 }
