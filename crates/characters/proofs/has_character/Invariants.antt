@@ -1,0 +1,19 @@
+-- `has_character` meets its contract.
+-- Assumes nothing.
+use mathlib.Core.Path.{◌≡◌, refl, sym, ◌∙◌}
+use mathlib.Core.List.{List}
+use Prim.Native.Nat.{ℕ, ◌-◌}
+use native.Mathlib.Omega.{arith}
+use borrow.Author.Rules.{rules}
+use lib.ListN.{length, drop}
+use Rattle.syntax.specs.Bytes.{plain}
+use Rattle.values.specs.Laws.{next_byte, next_done, plain_past, Follows}
+use Rattle.laws.specs.Choice.{among}
+use Rattle.characters.specs.Steps.{found_here, found_goes, found_none}
+use Rattle.characters.proofs.has_character.Given as goal
+
+abbrev pub invariant-loop-i : goal.invariant-loop-i
+invariant-loop-i l = among l.character (plain (drop l.i l.part)) ≡ among l.character (plain l.part)
+
+abbrev pub decreases-loop-i : goal.decreases-loop-i
+decreases-loop-i l = length l.part - l.i

@@ -1,0 +1,9 @@
+-- `Date::day_number` meets its contract.
+-- Assumes nothing.
+use Rattle.dates.specs.Dates.{day_of, number_of}
+use borrow.Author.Rules.{rules}
+use Rattle.dates.proofs.Date.day_number.Goals as goal
+
+pub returns : goal.returns
+unfolding day_of number_of
+returns c = c.day_of.ensures

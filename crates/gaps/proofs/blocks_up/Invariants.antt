@@ -1,0 +1,15 @@
+-- `gaps::blocks_up` meets its contract. Invariant: all from index i on hold what stood n before.
+-- Assumes nothing.
+use mathlib.Core.Path.{◌≡◌, refl, ◌∙◌}
+use Prim.Native.Nat.{◌≤◌, ◌-◌}
+use native.Mathlib.Omega.{arith}
+use borrow.Author.Rules.{rules}
+use lib.ListN.{length}
+use Rattle.gaps.specs.Move.{moved_up, up_start, up_block}
+use Rattle.gaps.proofs.blocks_up.Given as goal
+
+abbrev pub invariant-loop-i : goal.invariant-loop-i
+invariant-loop-i l = (length l.b ≡ length l.initial.b) × (l.low ≤ l.i) × (l.i ≤ length l.initial.b) × (l.b ≡ moved_up l.initial.b l.n l.i)
+
+abbrev pub decreases-loop-i : goal.decreases-loop-i
+decreases-loop-i l = l.i

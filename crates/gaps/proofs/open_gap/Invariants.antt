@@ -1,0 +1,17 @@
+-- `gaps::open_gap` meets its contract. Invariant: of whatever bytes the buffer held all moved from where the loop starts on, it holds them
+-- moved from index i on.
+-- Assumes nothing.
+use mathlib.Core.Path.{◌≡◌, refl, sym, ◌∙◌}
+use mathlib.Core.List.{List}
+use Prim.Native.Nat.{ℕ, ◌≤◌}
+use native.Mathlib.Omega.{arith}
+use borrow.Author.Rules.{rules}
+use lib.ListN.{length, length-set}
+use Rattle.gaps.specs.Move.{moved_up, up_turn, up_end}
+use Rattle.gaps.proofs.open_gap.Given as goal
+
+abbrev pub invariant-loop-i : goal.invariant-loop-i
+invariant-loop-i l = (length l.b ≡ length l.initial.b) × (l.low ≤ l.i) × (l.i ≤ length l.initial.b) × ((s : List ℕ) → length s ≡ length l.initial.b → l.initial.b ≡ moved_up s l.n l.initial.i → l.b ≡ moved_up s l.n l.i)
+
+abbrev pub decreases-loop-i : goal.decreases-loop-i
+decreases-loop-i l = l.i

@@ -1,0 +1,36 @@
+-- `end_of` meets its contract: what stands from here on ends where the whole does.
+-- Assumes nothing.
+use mathlib.Core.Path.{◌≡◌, refl, sym, ◌∙◌}
+use mathlib.Core.Logic.{⊎_elim}
+use Prim.Native.Nat.{◌+◌, ◌-◌}
+use native.Mathlib.Omega.{arith}
+use lib.ListN.{length, drop}
+use Rattle.syntax.specs.Bytes.{terminator}
+use Rattle.syntax.specs.Pieces.{first_piece}
+use Rattle.syntax.specs.Segment.{body_at}
+use Rattle.parts.specs.Segments.{body_past, body_here, body_released, body_goes}
+use Rattle.parts.proofs.segments.end_of.Goals.{then-released, else-released+else-b-eq39}
+use Rattle.parts.proofs.segments.end_of.Goals as goal
+
+pub returns-then-b-eq39 : goal.returns-then-b-eq39
+returns-then-b-eq39 c =
+    let a = c.args in
+    let e = body_here a.s.now c.loop-i.i c.loop-i-test.true c.if-b-eq39.true in
+    let v = rw c.if-released.false at c.loop-i.invariant in
+    omega arith
+
+pub loop-i-preserved : goal.loop-i-preserved
+loop-i-preserved c =
+    let a = c.args in
+    let v = c.loop-i.invariant in
+    elim c.if-released.branch [
+      then-released w ↦ rw w.released-is (sym (body_released a.s.now c.loop-i.i c.loop-i-test.true) ∙ (rw w.if-released.true at v))
+    | else-released+else-b-eq39 w ↦ rw w.released-is (sym (body_goes a.s.now c.loop-i.i c.loop-i-test.true w.if-b-eq39.false) ∙ (rw w.if-released.false at v))
+    ]
+
+pub returns : goal.returns
+returns c =
+    let a = c.args in
+    let e = body_past a.s.now c.loop-i.i c.loop-i.released c.loop-i-test.false in
+    let v = c.loop-i.invariant in
+    omega arith

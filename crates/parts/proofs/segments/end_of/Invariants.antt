@@ -1,0 +1,18 @@
+-- `end_of` meets its contract: what stands from here on ends where the whole does.
+-- Assumes nothing.
+use mathlib.Core.Path.{◌≡◌, refl, sym, ◌∙◌}
+use mathlib.Core.Logic.{⊎_elim}
+use Prim.Native.Nat.{◌+◌, ◌-◌}
+use native.Mathlib.Omega.{arith}
+use lib.ListN.{length, drop}
+use Rattle.syntax.specs.Bytes.{terminator}
+use Rattle.syntax.specs.Pieces.{first_piece}
+use Rattle.syntax.specs.Segment.{body_at}
+use Rattle.parts.specs.Segments.{body_past, body_here, body_released, body_goes}
+use Rattle.parts.proofs.segments.end_of.Given as goal
+
+abbrev pub invariant-loop-i : goal.invariant-loop-i
+invariant-loop-i l = l.i + length (first_piece terminator l.released (drop l.i l.s)) ≡ l.from + length (body_at l.s l.from)
+
+abbrev pub decreases-loop-i : goal.decreases-loop-i
+decreases-loop-i l = length l.s - l.i
