@@ -1,0 +1,21 @@
+-- `envelope::behind` meets its contract.
+-- Assumes nothing.
+use mathlib.Core.Path.{◌∙◌}
+use native.Mathlib.Omega.{arith}
+use borrow.Author.Tests.{eqb-true}
+use lib.ListN.{length, get_or}
+use Rattle.parts.specs.Next.{behind_mark}
+use Rattle.envelope.specs.Written.{besides}
+use borrow.Author.Rules.{rules}
+use Rattle.envelope.proofs.behind.Goals as goal
+
+pub returns-then-segment-at-eq43 : goal.returns-then-segment-at-eq43
+unfolding besides
+returns-then-segment-at-eq43 c =
+    let a = c.args in
+    c.component_from.ensures
+    ∙ behind_mark a.segment.now a.at (length a.segment.now) c.if-at-to.true (omega arith) (eqb-true (get_or a.segment.now a.at 0) 43 c.if-segment-at-eq43.true)
+
+pub returns : goal.returns
+unfolding besides
+returns c = c.part_at.ensures
