@@ -1,14 +1,10 @@
 -- `fits` meets its contract: what is left of the room is for the rows that are left.
 -- Assumes nothing.
-use mathlib.Core.Path.{◌≡◌, ◌∙◌}
+use mathlib.Core.Path.{◌≡◌}
 use Prim.Native.Nat.{◌-◌, ◌≤◌}
-use native.Mathlib.Omega.{arith}
-use native.Mathlib.Nat.{sub-zero}
-use borrow.Author.Rules.{rules}
 use lib.Dec.{leb}
 use lib.ListN.{length, drop}
 use Rattle.text.specs.Text.{rows_text}
-use Rattle.text.specs.Laws.{rows_none, rows_short, room_none, room_step, room_over}
 use Rattle.text.proofs.fits.Given as goal
 
 abbrev pub invariant-loop-k : goal.invariant-loop-k

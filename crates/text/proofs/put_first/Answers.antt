@@ -5,7 +5,6 @@ use Prim.Native.Nat.{ℕ}
 use native.Mathlib.Nat.{sub-zero}
 use lib.ListN.{take}
 use Rattle.laws.specs.Put.{put_at}
-use borrow.Author.Rules.{rules}
 use Rattle.text.proofs.put_first.Goals as goal
 
 pub returns : goal.returns

@@ -1,8 +1,6 @@
 -- `put_pair` meets its contract.
 -- Assumes nothing.
 use Rattle.text.specs.Laws.{pair_put}
-use native.Mathlib.Omega.{arith}
-use borrow.Author.Rules.{rules}
 use Rattle.text.proofs.put_pair.Goals as goal
 
 pub returns : goal.returns

@@ -1,7 +1,6 @@
 -- `put_row` meets its contract.
 -- Assumes nothing.
 use Rattle.text.specs.Laws.{row_put}
-use borrow.Author.Rules.{rules}
 use Rattle.text.proofs.put_row.Goals as goal
 
 pub returns : goal.returns

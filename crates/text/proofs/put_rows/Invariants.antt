@@ -1,14 +1,10 @@
 -- `put_rows` meets its contract: the rows that are left, put behind those that stand, give the whole text.
 -- Assumes nothing.
-use mathlib.Core.Path.{◌≡◌, refl, ap, ◌∙◌}
+use mathlib.Core.Path.{◌≡◌}
 use Prim.Native.Nat.{◌-◌, ◌≤◌, ◌+◌}
-use native.Mathlib.Omega.{arith}
-use native.Mathlib.Nat.{sub-zero}
-use borrow.Author.Rules.{rules}
-use lib.ListN.{length, take, drop}
-use Rattle.laws.specs.Put.{put_at, length_put}
+use lib.ListN.{length, drop}
+use Rattle.laws.specs.Put.{put_at}
 use Rattle.text.specs.Text.{rows_text}
-use Rattle.text.specs.Laws.{rows_none, rows_short, rows_length, one_put, all_put}
 use Rattle.text.proofs.put_rows.Given as goal
 
 abbrev pub invariant-loop-k : goal.invariant-loop-k

@@ -1,14 +1,11 @@
 -- `write_refusal` meets its contract.
 -- Assumes nothing.
 use mathlib.Core.Path.{◌≡◌, refl}
-use mathlib.Core.List.{List}
-use Prim.Native.Nat.{ℕ}
 use native.Mathlib.Omega.{arith}
 use lib.ListN.{replicate}
 use Rattle.laws.specs.Put.{put_at}
 use Rattle.text.specs.Text.{refusal_text}
 use Rattle.text.specs.Laws.{refusal_refused, refusal_put, refusal_written}
-use borrow.Author.Rules.{rules}
 use Rattle.text.proofs.write_refusal.Goals.{After-put_bytes, After-put_bytes-2, After-put_decimal-k, After-put_pair-n, Start}
 use Rattle.text.proofs.write_refusal.Goals as goal
 
@@ -25,6 +22,9 @@ returns-then-out-n c =
 
 pub returns : goal.returns
 returns c =
-    let a = c.args in record { told = (refusal_written a.refusal c.put_pair-n.result c.put_decimal-k.result c.put_pair-n.ensures.told.1 c.put_decimal-k.ensures.told.1 a.out.now (replicate 72 0) c.put_bytes-2.new.out
-    (line (goal.at.returns c).After-put_bytes-2) refl c.put_pair-n.ensures.told.0 c.put_decimal-k.ensures.told.0 (omega arith) c.put_first.ensures).0; left = (refusal_written a.refusal c.put_pair-n.result c.put_decimal-k.result c.put_pair-n.ensures.told.1 c.put_decimal-k.ensures.told.1 a.out.now (replicate 72 0) c.put_bytes-2.new.out
-    (line (goal.at.returns c).After-put_bytes-2) refl c.put_pair-n.ensures.told.0 c.put_decimal-k.ensures.told.0 (omega arith) c.put_first.ensures).1 }
+    let a = c.args in record {
+      told = (refusal_written a.refusal c.put_pair-n.result c.put_decimal-k.result c.put_pair-n.ensures.told.1 c.put_decimal-k.ensures.told.1 a.out.now (replicate 72 0) c.put_bytes-2.new.out
+          (line (goal.at.returns c).After-put_bytes-2) refl c.put_pair-n.ensures.told.0 c.put_decimal-k.ensures.told.0 (omega arith) c.put_first.ensures).0;
+      left = (refusal_written a.refusal c.put_pair-n.result c.put_decimal-k.result c.put_pair-n.ensures.told.1 c.put_decimal-k.ensures.told.1 a.out.now (replicate 72 0) c.put_bytes-2.new.out
+          (line (goal.at.returns c).After-put_bytes-2) refl c.put_pair-n.ensures.told.0 c.put_decimal-k.ensures.told.0 (omega arith) c.put_first.ensures).1;
+    }
