@@ -14,7 +14,7 @@ unfolding besides
 returns-then-segment-at-eq43 c =
     let a = c.args in
     c.component_from.ensures
-    ∙ behind_mark a.segment.now a.at (length a.segment.now) c.if-at-to.true (omega arith) (eqb-true (get_or a.segment.now a.at 0) 43 c.if-segment-at-eq43.true)
+    ∙ behind_mark a.segment.now a.at (length a.segment.now) c.if-at-to.true (omega arith) c.if-segment-at-eq43.true
 
 pub returns : goal.returns
 unfolding besides

@@ -1,5 +1,4 @@
-use borrow.Author.Rules.{rules}
-use mathlib.Core.Path.{◌≡◌, sym, ◌∙◌}
+use mathlib.Core.Path.{sym, ◌∙◌}
 use Rattle.lent.specs.declared.Found.TheVariants.{Segment, Over, Refused}
 use Rattle.lent.specs.Laws.{after_found_lem}
 use Rattle.lent.proofs.offset_after.Goals as goal
