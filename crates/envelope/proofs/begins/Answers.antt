@@ -1,10 +1,8 @@
 -- `envelope::begins` meets its contract.
 -- Assumes nothing.
-use mathlib.Core.Path.{◌≡◌, refl, sym, ◌∙◌}
-use Prim.Native.Nat.{◌-◌, ◌≤◌}
+use mathlib.Core.Path.{refl, sym, ◌∙◌}
 use native.Mathlib.Omega.{arith}
-use lib.ListN.{length, drop}
-use Rattle.envelope.specs.Written.{begins_with, begins_short, begins_past, begins_not, begins_goes}
+use Rattle.envelope.specs.Written.{begins_short, begins_past, begins_not, begins_goes}
 use Rattle.envelope.proofs.begins.Goals as goal
 
 pub returns-then-segment-text : goal.returns-then-segment-text

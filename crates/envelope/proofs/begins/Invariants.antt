@@ -1,10 +1,9 @@
 -- `envelope::begins` meets its contract.
 -- Assumes nothing.
-use mathlib.Core.Path.{◌≡◌, refl, sym, ◌∙◌}
+use mathlib.Core.Path.{◌≡◌}
 use Prim.Native.Nat.{◌-◌, ◌≤◌}
-use native.Mathlib.Omega.{arith}
 use lib.ListN.{length, drop}
-use Rattle.envelope.specs.Written.{begins_with, begins_short, begins_past, begins_not, begins_goes}
+use Rattle.envelope.specs.Written.{begins_with}
 use Rattle.envelope.proofs.begins.Given as goal
 
 abbrev pub invariant-loop-i : goal.invariant-loop-i

@@ -2,11 +2,9 @@
 -- Assumes nothing.
 use mathlib.Core.Path.{◌∙◌}
 use native.Mathlib.Omega.{arith}
-use borrow.Author.Tests.{eqb-true}
-use lib.ListN.{length, get_or}
+use lib.ListN.{length}
 use Rattle.parts.specs.Next.{behind_mark}
 use Rattle.envelope.specs.Written.{besides}
-use borrow.Author.Rules.{rules}
 use Rattle.envelope.proofs.behind.Goals as goal
 
 pub returns-then-segment-at-eq43 : goal.returns-then-segment-at-eq43

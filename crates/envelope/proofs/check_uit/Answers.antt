@@ -1,6 +1,5 @@
 -- `envelope::check_uit` meets its contract.
 -- Assumes nothing.
-use borrow.Author.Rules.{rules}
 use Rattle.envelope.specs.Said.{trailer_said}
 use Rattle.envelope.proofs.check_uit.Goals as goal
 

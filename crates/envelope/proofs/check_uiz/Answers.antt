@@ -1,6 +1,5 @@
 -- `envelope::check_uiz` meets its contract.
 -- Assumes nothing.
-use borrow.Author.Rules.{rules}
 use Rattle.envelope.specs.Said.{trailer_said}
 use Rattle.envelope.proofs.check_uiz.Goals as goal
 

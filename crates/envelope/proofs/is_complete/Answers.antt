@@ -1,10 +1,8 @@
 -- `envelope::is_complete` meets its contract.
 -- Assumes nothing.
 use mathlib.Core.Path.{sym, ◌∙◌}
-use borrow.Author.Tests.{not-true, not-false}
 use Rattle.laws.specs.Choice.{both_true}
 use Rattle.parts.specs.Places.{present}
-use borrow.Author.Rules.{rules}
 use Rattle.envelope.proofs.is_complete.Goals as goal
 
 pub returns-then-not-is_present : goal.returns-then-not-is_present

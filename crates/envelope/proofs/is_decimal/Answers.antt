@@ -1,8 +1,6 @@
 -- `envelope::is_decimal` meets its contract: the digits put at the front of the buffer are those that the part is held to.
 -- Assumes nothing.
 use mathlib.Core.Path.{sym, ap, ◌∙◌}
-use native.Mathlib.Omega.{arith}
-use borrow.Author.Rules.{rules}
 use lib.ListN.{replicate}
 use Rattle.laws.specs.Put.{take_put}
 use Rattle.laws.specs.Decimal.{decimal_of}

@@ -1,11 +1,10 @@
 -- `envelope::is_digits` meets its contract.
 -- Assumes nothing.
-use mathlib.Core.List.{List}
-use Prim.Native.Nat.{ℕ, ◌-◌}
+use Prim.Native.Nat.{◌-◌}
 use native.Mathlib.Omega.{arith}
 use borrow.Author.Tests.{eqb-true}
 use Rattle.laws.specs.Choice.{false≢true}
-use Rattle.envelope.specs.Counted.{Compared, none_compared, one_compared, all_compared}
+use Rattle.envelope.specs.Counted.{none_compared, one_compared, all_compared}
 use Rattle.envelope.proofs.is_digits.Goals as goal
 
 pub returns-then-part-gt20 : goal.returns-then-part-gt20

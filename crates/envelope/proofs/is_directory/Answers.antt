@@ -1,8 +1,6 @@
 -- `envelope::is_directory` meets its contract.
 -- Assumes nothing.
 use mathlib.Core.Path.{sym, ◌∙◌}
-use borrow.Author.Tests.{not-true, not-false}
-use borrow.Author.Rules.{rules}
 use Rattle.envelope.proofs.is_directory.Goals as goal
 
 pub returns-then-not-equals : goal.returns-then-not-equals

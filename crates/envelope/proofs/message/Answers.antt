@@ -1,7 +1,6 @@
 -- `envelope::message` meets its contract.
 -- Assumes nothing.
 use mathlib.Core.Path.{sym, ◌∙◌}
-use borrow.Author.Rules.{rules}
 use Rattle.envelope.proofs.message.Goals as goal
 
 pub returns-then-equals : goal.returns-then-equals

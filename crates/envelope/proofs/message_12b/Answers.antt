@@ -1,8 +1,6 @@
 -- `envelope::message_12b` meets its contract.
 -- Assumes nothing.
 use mathlib.Core.Path.{sym, ◌∙◌}
-use borrow.Author.Tests.{not-true, not-false}
-use borrow.Author.Rules.{rules}
 use Rattle.envelope.proofs.message_12b.Goals as goal
 
 pub returns-then-not-equals : goal.returns-then-not-equals

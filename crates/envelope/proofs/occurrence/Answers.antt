@@ -1,7 +1,6 @@
 -- `envelope::occurrence` meets its contract.
 -- Assumes nothing.
 use mathlib.Core.Path.{ap, ◌∙◌}
-use borrow.Author.Rules.{rules}
 use Rattle.parts.specs.declared.Part.{Part}
 use Rattle.parts.specs.Places.{occurrence_at}
 use Rattle.envelope.proofs.occurrence.Goals as goal

@@ -3,14 +3,12 @@
 use mathlib.Core.Path.{◌≡◌, sym, ap, ◌∙◌}
 use mathlib.Core.List.{List}
 use Prim.Native.Nat.{ℕ}
-use borrow.Author.Tests.{not-true, not-false}
 use lib.Dec.{leb}
 use Rattle.parts.specs.declared.Part.{Part}
 use Rattle.envelope.specs.declared.Opened.TheVariants.{Dialogue}
 use Rattle.envelope.specs.Envelope.{says, value_of, place_of, UNOB, version4}
 use Rattle.envelope.specs.Laws.{place_absent, place_present}
 use Rattle.envelope.specs.Ways.{uib_level, uib_version, uib_absent, uib_good}
-use borrow.Author.Rules.{rules}
 use Rattle.envelope.proofs.open_any.Goals.{After-equals, After-equals-2, After-is_absent}
 use Rattle.envelope.proofs.open_any.Goals as goal
 

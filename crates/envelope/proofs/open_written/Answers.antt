@@ -3,7 +3,6 @@
 use mathlib.Core.Path.{sym, ◌∙◌}
 use Rattle.envelope.specs.declared.Opened.TheVariants.{Dialogue, Wrong}
 use Rattle.envelope.specs.Written.{found_absent, found_good}
-use borrow.Author.Rules.{rules}
 use Rattle.envelope.proofs.open_written.Goals as goal
 
 pub returns-then-is_absent : goal.returns-then-is_absent

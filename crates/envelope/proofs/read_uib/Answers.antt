@@ -3,7 +3,6 @@
 use mathlib.Core.Path.{sym, ◌∙◌}
 use Rattle.envelope.specs.Said.{uib_said}
 use Rattle.envelope.specs.Written.{opening_head}
-use borrow.Author.Rules.{rules}
 use Rattle.envelope.proofs.read_uib.Goals as goal
 
 pub returns-then-begins : goal.returns-then-begins

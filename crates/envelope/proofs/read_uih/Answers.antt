@@ -3,7 +3,6 @@
 use mathlib.Core.Path.{sym, ◌∙◌}
 use Rattle.envelope.specs.Said.{uih_said}
 use Rattle.envelope.specs.Written.{skdupd_head, tsdupd_head, tsdupd_12b_head}
-use borrow.Author.Rules.{rules}
 use Rattle.envelope.proofs.read_uih.Goals as goal
 
 pub returns-then-begins : goal.returns-then-begins

@@ -3,7 +3,6 @@
 use mathlib.Core.Path.{sym, ◌∙◌}
 use Rattle.envelope.specs.declared.Headed.TheVariants.{Message, Missing}
 use Rattle.envelope.specs.Written.{found_absent, found_good}
-use borrow.Author.Rules.{rules}
 use Rattle.envelope.proofs.read_written.Goals as goal
 
 pub returns-then-is_absent : goal.returns-then-is_absent

@@ -2,7 +2,6 @@
 -- Assumes nothing.
 use mathlib.Core.Path.{sym, ◌∙◌}
 use Rattle.envelope.specs.Written.{uit_tag, uiz_tag}
-use borrow.Author.Rules.{rules}
 use Rattle.envelope.proofs.repeated_at.Goals as goal
 
 pub returns-then-begins : goal.returns-then-begins

@@ -2,12 +2,10 @@
 -- Assumes nothing.
 use mathlib.Core.Path.{ap, ◌∙◌}
 use Prim.Native.Nat.{ℕ}
-use native.Mathlib.Omega.{arith}
 use native.Mathlib.Nat.{sub-zero}
 use lib.ListN.{take}
 use Rattle.syntax.specs.Bytes.{plain}
 use Rattle.values.specs.Values.{same_text}
-use borrow.Author.Rules.{rules}
 use Rattle.envelope.proofs.says_first.Goals as goal
 
 pub returns : goal.returns

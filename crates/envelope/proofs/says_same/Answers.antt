@@ -2,7 +2,6 @@
 -- Assumes nothing.
 use mathlib.Core.Path.{sym, ◌∙◌}
 use Rattle.envelope.specs.Counted.{same_written}
-use borrow.Author.Rules.{rules}
 use Rattle.envelope.proofs.says_same.Goals as goal
 
 pub returns-then-begins : goal.returns-then-begins

@@ -3,7 +3,6 @@
 use mathlib.Core.Path.{ap, ◌∙◌}
 use Rattle.parts.specs.Places.{bytes_of}
 use Rattle.envelope.specs.Laws.{value_at}
-use borrow.Author.Rules.{rules}
 use Rattle.envelope.proofs.value.Goals as goal
 
 -- src/lib.rt:70:1

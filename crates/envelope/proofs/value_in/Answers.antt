@@ -1,7 +1,6 @@
 -- `envelope::value_in` meets its contract.
 -- Assumes nothing.
 use mathlib.Core.Path.{ap, ◌∙◌}
-use borrow.Author.Rules.{rules}
 use Rattle.parts.specs.declared.Part.{Part}
 use Rattle.parts.specs.Places.{bytes_of, component_at}
 use Rattle.envelope.specs.Laws.{value_at}
