@@ -43,13 +43,10 @@ returns-then-set_mark c =
 
 -- 11 by what is known of the service
 module _ (w : After-is_wrong) where
-  abbrev begun : Start
-  begun = w.before.before.before.before.before.before.before
-
-  wrong : w.is_wrong.result ≡ is_wrong begun.args.s.now begun.args.rows.now begun.args.service
+  wrong : w.is_wrong.result ≡ is_wrong w.args.s.now w.args.rows.now w.args.service
   wrong =
-      let a = begun.args in
-      wrong_is a.s.now a.rows.now a.service w.is_wrong.result a.number.length a.carries w.is_wrong.ensures begun.pre.1.1 begun.pre.2
+      let a = w.args in
+      wrong_is a.s.now a.rows.now a.service w.is_wrong.result a.number.length a.carries w.is_wrong.ensures w.requires.1.1 w.requires.2
 
 pub returns-then-is_wrong : goal.returns-then-is_wrong
 returns-then-is_wrong c =

@@ -19,8 +19,26 @@ use Rattle.interchange.specs.Room.{room_size}
 use Rattle.interchange.specs.Moves.{Moved, moved_none, moved_both, moved_turn, moved_as}
 use Rattle.interchange.specs.Passes.{passed_moved}
 use Rattle.interchange.specs.Chunks.{gathered_by, ended_at, chunk_as, chunk_past, chunk_stop, chunk_ended, chunk_full}
+use Rattle.interchange.proofs.gather.gather.Lts as lts
+use Rattle.interchange.proofs.gather.gather.Lts.View as view
+use Rattle.interchange.proofs.gather.gather.Reads as reads
+use Rattle.interchange.proofs.gather.gather.Tie as tie
 use Rattle.interchange.proofs.gather.gather.Goals.{After-led-st, After-put_row, After-run_on-begun, After-take_turn, At-loop-numbers, In-On, Start}
 use Rattle.interchange.proofs.gather.gather.Goals as goal
+
+-- the records of earlier places
+
+abbrev earlier_after_led_st : lts.After-led tie.the-claims reads.Pre reads.Post goal.the-invariant-loop-numbers goal.the-decreases-loop-numbers → After-led-st
+earlier_after_led_st = view.up-After-led-st tie.the-claims reads.Pre reads.Post goal.the-invariant-loop-numbers goal.the-decreases-loop-numbers
+
+abbrev earlier_at_loop_numbers : lts.At-loop tie.the-claims reads.Pre reads.Post goal.the-invariant-loop-numbers goal.the-decreases-loop-numbers → At-loop-numbers
+earlier_at_loop_numbers = view.up-At-loop-numbers tie.the-claims reads.Pre reads.Post goal.the-invariant-loop-numbers goal.the-decreases-loop-numbers
+
+abbrev earlier_after_take_turn : lts.After-take_turn tie.the-claims reads.Pre reads.Post goal.the-invariant-loop-numbers goal.the-decreases-loop-numbers → After-take_turn
+earlier_after_take_turn = view.up-After-take_turn tie.the-claims reads.Pre reads.Post goal.the-invariant-loop-numbers goal.the-decreases-loop-numbers
+
+abbrev earlier_in_on : lts.After-known_told tie.the-claims reads.Pre reads.Post goal.the-invariant-loop-numbers goal.the-decreases-loop-numbers → In-On
+earlier_in_on = view.up-In-On tie.the-claims reads.Pre reads.Post goal.the-invariant-loop-numbers goal.the-decreases-loop-numbers
 
 -- the first segments that only move the place on
 module _ (l : After-led-st) where
@@ -29,56 +47,47 @@ module _ (l : After-led-st) where
 
 -- where the loop stands
 module _ (o : At-loop-numbers) where
-  abbrev start : Start
-  start = o.before.before.before.before.before.before.before
-
-  abbrev list : List ℕ
-  list = start.args.s.now
-
-  so_far : Moved list start.args.start start.args.from 0 start.args.room.now o.loop-numbers.st o.loop-numbers.at o.loop-numbers.numbers o.loop-numbers.room
-  so_far = moved_both list (began o.before) o.loop-numbers.invariant.0
+  so_far : Moved o.args.s.now o.args.start o.args.from 0 o.args.room.now o.loop-numbers.st o.loop-numbers.at o.loop-numbers.numbers o.loop-numbers.room
+  so_far = moved_both o.args.s.now (began (earlier_after_led_st o.before.before)) o.loop-numbers.invariant.0
 
   size : length o.loop-numbers.room ≡ room_size
-  size = so_far.sized ∙ start.pre.3
+  size = so_far.sized ∙ o.requires.3
 
 -- the turn that was taken
 module _ (t : After-take_turn) where
   open_still : is_closed t.loop-numbers.st.phase ≡ false
   open_still = sym t.is_closed.ensures ∙ t.if-is_closed.false
 
-  turned : (x : Turn) → t.take_turn.result ≡ x → turn_at all (list t.before.before.before.before.before) t.loop-numbers.st t.loop-numbers.at ≡ x
+  turned : (x : Turn) → t.take_turn.result ≡ x → turn_at all t.args.s.now t.loop-numbers.st t.loop-numbers.at ≡ x
   turned x e =
-      let p = (start t.before.before.before.before.before).pre in
-      ap (λ (u : Table). turn_at u (list t.before.before.before.before.before) t.loop-numbers.st t.loop-numbers.at) (sym p.0)
+      let p = t.requires in
+      ap (λ (u : Table). turn_at u t.args.s.now t.loop-numbers.st t.loop-numbers.at) (sym p.0)
       ∙ sym t.take_turn.ensures ∙ e
 
 -- the row, and where the next segment starts
 module _ (k : In-On) where
-  on : turn_at all (list k.before.before.before.before.before) k.loop-numbers.st k.loop-numbers.at ≡ On k.in-On.next k.in-On.row k.in-On.then
-  on = turned k.before.before.before (On k.in-On.next k.in-On.row k.in-On.then) k.in-On.is
+  on : turn_at all k.args.s.now k.loop-numbers.st k.loop-numbers.at ≡ On k.in-On.next k.in-On.row k.in-On.then
+  on = turned (earlier_after_take_turn k.before.before.before.before) (On k.in-On.next k.in-On.row k.in-On.then) k.in-On.is
 
-  placed : (k.in-On.row.offset ≡ k.loop-numbers.at) × (k.loop-numbers.at + 4 ≤ k.in-On.then) × (k.in-On.then ≤ length (list k.before.before.before.before.before))
-  placed = turn_on all (list k.before.before.before.before.before) k.loop-numbers.st k.loop-numbers.at k.in-On.next k.in-On.row k.in-On.then on
+  placed : (k.in-On.row.offset ≡ k.loop-numbers.at) × (k.loop-numbers.at + 4 ≤ k.in-On.then) × (k.in-On.then ≤ length k.args.s.now)
+  placed = turn_on all k.args.s.now k.loop-numbers.st k.loop-numbers.at k.in-On.next k.in-On.row k.in-On.then on
 
   fits : k.loop-numbers.numbers + 2 < length k.loop-numbers.room
   fits =
-      let w = size k.before.before.before.before.before in
+      let w = size (earlier_at_loop_numbers k.before.before.before.before.before.before.before.before.before) in
       let l = k.loop-numbers-test.true in
       omega arith
 
 -- the row is put
 module _ (p : After-put_row) where
-  abbrev here : At-loop-numbers
-  here = p.before.before.before.before.before
-
   put_size : length p.put_row.new.to ≡ room_size
-  put_size = ap length p.put_row.ensures ∙ length_put_row here.loop.room here.loop.numbers p.in-On.row ∙ size here
+  put_size = ap length p.put_row.ensures ∙ length_put_row p.loop-numbers.room p.loop-numbers.numbers p.in-On.row ∙ size (earlier_at_loop_numbers p.before.before.before.before.before.before.before.before.before.before.before)
 
-  put_moved : Moved (list here) here.loop.st here.loop.at here.loop.numbers here.loop.room p.in-On.next p.in-On.then (here.loop.numbers + 3) p.put_row.new.to
+  put_moved : Moved p.args.s.now p.loop-numbers.st p.loop-numbers.at p.loop-numbers.numbers p.loop-numbers.room p.in-On.next p.in-On.then (p.loop-numbers.numbers + 3) p.put_row.new.to
   put_moved =
-      moved_as (list here) refl p.put_row.ensures
-      (moved_turn (list here) here.loop.st here.loop.at here.loop.numbers here.loop.room p.in-On.next p.in-On.row p.in-On.then
-      (open_still p.before.before.before) p.if-s-at.false (on p.before.before) (fits p.before.before))
+      moved_as p.args.s.now refl p.put_row.ensures
+      (moved_turn p.args.s.now p.loop-numbers.st p.loop-numbers.at p.loop-numbers.numbers p.loop-numbers.room p.in-On.next p.in-On.row p.in-On.then
+      (open_still (earlier_after_take_turn p.before.before.before.before.before.before)) p.if-s-at.false (on (earlier_in_on p.before.before.before)) (fits (earlier_in_on p.before.before.before)))
 
 pub run_on-begun-requires : goal.run_on-begun-requires
 run_on-begun-requires c =
@@ -97,10 +106,10 @@ shape_of-room-then-s-at c = (so_far (goal.at.shape_of-room-then-s-at c).At-loop-
 
 pub returns-then-s-at : goal.returns-then-s-at
 returns-then-s-at c =
-    let a = (start (goal.at.returns-then-s-at c).At-loop-numbers).args in
+    let a = c.args in
     let l = c.loop-numbers in (
-      chunk_as (list (goal.at.returns-then-s-at c).At-loop-numbers) a.start a.from (ended_at (is_closed l.st.phase) l.numbers (length (list (goal.at.returns-then-s-at c).At-loop-numbers))) c.ended.result l.room (sym c.ended.ensures)
-          (chunk_ended (list (goal.at.returns-then-s-at c).At-loop-numbers) a.start a.from a.room.now l.st l.at l.numbers l.room (so_far (goal.at.returns-then-s-at c).At-loop-numbers) c.if-s-at.true l.invariant.2 l.invariant.1 (is_closed l.st.phase) refl),
+      chunk_as c.args.s.now a.start a.from (ended_at (is_closed l.st.phase) l.numbers (length c.args.s.now)) c.ended.result l.room (sym c.ended.ensures)
+          (chunk_ended c.args.s.now a.start a.from a.room.now l.st l.at l.numbers l.room (so_far (goal.at.returns-then-s-at c).At-loop-numbers) c.if-s-at.true l.invariant.2 l.invariant.1 (is_closed l.st.phase) refl),
       size (goal.at.returns-then-s-at c).At-loop-numbers,
     )
 
@@ -109,16 +118,16 @@ shape_of-room-then-is_closed c = (so_far (goal.at.shape_of-room-then-is_closed c
 
 pub returns-then-is_closed : goal.returns-then-is_closed
 returns-then-is_closed c =
-    let a = (start (goal.at.returns-then-is_closed c).At-loop-numbers).args in
+    let a = c.args in
     let l = c.loop-numbers in (
-      chunk_as (list (goal.at.returns-then-is_closed c).At-loop-numbers) a.start a.from (gathered_by (wrong_envelope l.at)) c.past_end.result l.room (sym c.past_end.ensures)
-          (chunk_past (list (goal.at.returns-then-is_closed c).At-loop-numbers) a.start a.from a.room.now l.st l.at l.numbers l.room (so_far (goal.at.returns-then-is_closed c).At-loop-numbers) c.if-s-at.false (sym c.is_closed.ensures ∙ c.if-is_closed.true)),
+      chunk_as c.args.s.now a.start a.from (gathered_by (wrong_envelope l.at)) c.past_end.result l.room (sym c.past_end.ensures)
+          (chunk_past c.args.s.now a.start a.from a.room.now l.st l.at l.numbers l.room (so_far (goal.at.returns-then-is_closed c).At-loop-numbers) c.if-s-at.false (sym c.is_closed.ensures ∙ c.if-is_closed.true)),
       size (goal.at.returns-then-is_closed c).At-loop-numbers,
     )
 
 pub overflow_cast-at : goal.overflow_cast-at
 overflow_cast-at c =
-    let p = (start (goal.at.overflow_cast-at c).At-loop-numbers).pre.2 in
+    let p = c.requires.2 in
     let l = c.if-s-at.false in
     omega arith
 
@@ -128,14 +137,14 @@ put_row-requires c = (fits (goal.at.put_row-requires c).In-On, sym (placed (goal
 pub overflow_add-after : goal.overflow_add-after
 overflow_add-after c =
     let l = fits (goal.at.overflow_add-after c).In-On in
-    let w = size (here (goal.at.overflow_add-after c).After-put_row) in
+    let w = size (goal.at.overflow_add-after c).At-loop-numbers in
     omega arith
 
 pub run_on-ran-requires : goal.run_on-ran-requires
 run_on-ran-requires c =
-    let q = (start (here (goal.at.run_on-ran-requires c).After-put_row)).pre in
+    let q = c.requires in
     let l = fits (goal.at.run_on-ran-requires c).In-On in
-    let w = size (here (goal.at.run_on-ran-requires c).After-put_row) in
+    let w = size (goal.at.run_on-ran-requires c).At-loop-numbers in
     (q.0, q.1, q.2, put_size (goal.at.run_on-ran-requires c).After-put_row, omega arith)
 
 pub loop-numbers-smaller : goal.loop-numbers-smaller
@@ -147,22 +156,21 @@ loop-numbers-smaller c =
 
 pub loop-numbers-preserved : goal.loop-numbers-preserved
 loop-numbers-preserved c =
-    let h = here (goal.at.loop-numbers-preserved c).After-put_row in
     let e = c.run_on-ran.ensures in
-    let m = moved_as (list h) c.led-st-in-On.ensures refl (moved_both (list h) (put_moved (goal.at.loop-numbers-preserved c).After-put_row) (passed_moved (list h) e)) in
+    let m = moved_as c.args.s.now c.led-st-in-On.ensures refl (moved_both c.args.s.now (put_moved (goal.at.loop-numbers-preserved c).After-put_row) (passed_moved c.args.s.now e)) in
     let f = e.fits in
     let z = put_size (goal.at.loop-numbers-preserved c).After-put_row in
-    (moved_both (list h) h.loop.invariant.0 m, omega arith, m.within h.loop.invariant.2)
+    (moved_both c.args.s.now c.loop-numbers.invariant.0 m, omega arith, m.within c.loop-numbers.invariant.2)
 
 pub shape_of-room-in-Stop : goal.shape_of-room-in-Stop
 shape_of-room-in-Stop c = (so_far (goal.at.shape_of-room-in-Stop c).At-loop-numbers).sized
 
 pub returns-in-Stop : goal.returns-in-Stop
 returns-in-Stop c =
-    let a = (start (goal.at.returns-in-Stop c).At-loop-numbers).args in
+    let a = c.args in
     let l = c.loop-numbers in
     (
-      chunk_stop (list (goal.at.returns-in-Stop c).At-loop-numbers) a.start a.from a.room.now l.st l.at l.numbers l.room (so_far (goal.at.returns-in-Stop c).At-loop-numbers) c.if-s-at.false (open_still (goal.at.returns-in-Stop c).After-take_turn) c.in-Stop.refusal (turned (goal.at.returns-in-Stop c).After-take_turn (Stop c.in-Stop.refusal) c.in-Stop.is),
+      chunk_stop c.args.s.now a.start a.from a.room.now l.st l.at l.numbers l.room (so_far (goal.at.returns-in-Stop c).At-loop-numbers) c.if-s-at.false (open_still (goal.at.returns-in-Stop c).After-take_turn) c.in-Stop.refusal (turned (goal.at.returns-in-Stop c).After-take_turn (Stop c.in-Stop.refusal) c.in-Stop.is),
       size (goal.at.returns-in-Stop c).At-loop-numbers,
     )
 
@@ -171,6 +179,6 @@ shape_of-room c = (so_far (goal.at.shape_of-room c).At-loop-numbers).sized
 
 pub returns : goal.returns
 returns c =
-    let a = (start (goal.at.returns c).At-loop-numbers).args in
+    let a = c.args in
     let l = c.loop-numbers in
-    (chunk_full (list (goal.at.returns c).At-loop-numbers) a.start a.from a.room.now l.st l.at l.numbers l.room (so_far (goal.at.returns c).At-loop-numbers) l.invariant.2 l.invariant.1 c.loop-numbers-test.false, size (goal.at.returns c).At-loop-numbers)
+    (chunk_full c.args.s.now a.start a.from a.room.now l.st l.at l.numbers l.room (so_far (goal.at.returns c).At-loop-numbers) l.invariant.2 l.invariant.1 c.loop-numbers-test.false, size (goal.at.returns c).At-loop-numbers)

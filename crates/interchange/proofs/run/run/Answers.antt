@@ -38,15 +38,9 @@ module _ (o : At-loop-numbers) where
 
 -- where the segment led
 module _ (k : In-To) where
-  abbrev table : Table
-  table = k.args.table.now
-
   -- the row of the period, by the caller's wish
-  abbrev read : PeriodRow
-  read = k.args.period
-
-  told : Tells k.args.s.now k.loop-numbers.at table k.loop-numbers.row k.loop-numbers.counts read k.in-To.to k.in-To.next k.in-To.end
-  told = led_known k.args.s.now k.loop-numbers.at table k.loop-numbers.row k.loop-numbers.counts read k.lead_on.ensures k.in-To.is
+  told : Tells k.args.s.now k.loop-numbers.at k.args.table.now k.loop-numbers.row k.loop-numbers.counts k.args.period k.in-To.to k.in-To.next k.in-To.end
+  told = led_known k.args.s.now k.loop-numbers.at k.args.table.now k.loop-numbers.row k.loop-numbers.counts k.args.period k.lead_on.ensures k.in-To.is
 
   within : (k.loop-numbers.at + 3 ≤ k.in-To.end) × (k.in-To.end < length k.args.s.now)
   within = end_within k.args.s.now k.loop-numbers.at k.in-To.end told.whole
@@ -132,13 +126,13 @@ loop-numbers-preserved c =
     let i = c.loop-numbers.invariant in
     let e = (within (goal.at.loop-numbers-preserved c).In-To).1 in (
       passed_as c.args.s.now (ap (moved_state st (place_of c.in-To.to c.in-To.next)) (counted_step st.segments a.from.numbers c.loop-numbers.numbers i.2)) refl
-          (passed_told c.args.s.now st a.from.at a.from.numbers a.room.now st p.0 (table (goal.at.loop-numbers-preserved c).In-To) p.1
+          (passed_told c.args.s.now st a.from.at a.from.numbers a.room.now st p.0 c.args.table.now p.1
           c.loop-numbers.row c.loop-numbers.counts (counted_of st.segments ((c.loop-numbers.numbers - a.from.numbers) / 3)) c.loop-numbers.at c.loop-numbers.numbers c.loop-numbers.room i.0
           c.in-To.end t.whole (tag_number (drop c.loop-numbers.at c.args.s.now)) refl c.in-To.to c.in-To.next t.on
           a.period.row p.3 (subst (λ (u : Bool). pick (eqb c.in-To.to a.period.row) (is_good (period_of u (body_at c.args.s.now c.loop-numbers.at))) true ≡ true) p.7 t.good)
-          (group_at (table (goal.at.loop-numbers-preserved c).In-To) c.in-To.to) refl
+          (group_at c.args.table.now c.in-To.to) refl
           (omega arith) c.put_row.new.to
-          (c.put_row.ensures ∙ ap (put_row c.loop-numbers.room c.loop-numbers.numbers) (c.placed.ensures ∙ ap (row_with c.loop-numbers.at (group_at (table (goal.at.loop-numbers-preserved c).In-To) c.in-To.to)) t.tagged))),
+          (c.put_row.ensures ∙ ap (put_row c.loop-numbers.room c.loop-numbers.numbers) (c.placed.ensures ∙ ap (row_with c.loop-numbers.at (group_at c.args.table.now c.in-To.to)) t.tagged))),
       omega arith,
       omega arith,
       omega arith,

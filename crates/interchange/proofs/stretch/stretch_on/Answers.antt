@@ -19,8 +19,23 @@ use Rattle.interchange.specs.Room.{room_size, room_rows}
 use Rattle.interchange.specs.Passes.{passed_moved}
 use Rattle.interchange.specs.Stretch.{Stretched, stretch_on, halt_verdict}
 use Rattle.interchange.specs.Stretches.{Rest, rest_start, rest_as, rest_size, rest_full, rest_passed, rest_stop, rest_on, rest_other, reached_as}
+use Rattle.interchange.proofs.stretch.stretch_on.Lts as lts
+use Rattle.interchange.proofs.stretch.stretch_on.Lts.View as view
+use Rattle.interchange.proofs.stretch.stretch_on.Reads as reads
+use Rattle.interchange.proofs.stretch.stretch_on.Tie as tie
 use Rattle.interchange.proofs.stretch.stretch_on.Goals.{After-led-state, After-put_row, After-run_on-begun, After-turn_with, At-loop-numbers, In-On, Start}
 use Rattle.interchange.proofs.stretch.stretch_on.Goals as goal
+
+-- the records of earlier places
+
+abbrev earlier_after_led_state : lts.After-led tie.the-claims reads.Pre reads.Post goal.the-invariant-loop-numbers goal.the-decreases-loop-numbers → After-led-state
+earlier_after_led_state = view.up-After-led-state tie.the-claims reads.Pre reads.Post goal.the-invariant-loop-numbers goal.the-decreases-loop-numbers
+
+abbrev earlier_at_loop_numbers : lts.At-loop tie.the-claims reads.Pre reads.Post goal.the-invariant-loop-numbers goal.the-decreases-loop-numbers → At-loop-numbers
+earlier_at_loop_numbers = view.up-At-loop-numbers tie.the-claims reads.Pre reads.Post goal.the-invariant-loop-numbers goal.the-decreases-loop-numbers
+
+abbrev earlier_after_turn_with : lts.After-turn_with tie.the-claims reads.Pre reads.Post goal.the-invariant-loop-numbers goal.the-decreases-loop-numbers → After-turn_with
+earlier_after_turn_with = view.up-After-turn_with tie.the-claims reads.Pre reads.Post goal.the-invariant-loop-numbers goal.the-decreases-loop-numbers
 
 -- the first segments that only move the place on
 module _ (l : After-led-state) where
@@ -34,49 +49,37 @@ module _ (l : After-led-state) where
 
 -- where the loop stands
 module _ (o : At-loop-numbers) where
-  so_far : Rest o.args.s.now o.args.reference.now (whole o.before) o.args.room.now o.loop-numbers.state o.loop-numbers.at o.loop-numbers.numbers o.loop-numbers.room
-  so_far = o.loop-numbers.invariant.0 (whole o.before) o.args.room.now o.requires.3 (began o.before)
+  so_far : Rest o.args.s.now o.args.reference.now (whole (earlier_after_led_state o.before.before)) o.args.room.now o.loop-numbers.state o.loop-numbers.at o.loop-numbers.numbers o.loop-numbers.room
+  so_far = o.loop-numbers.invariant.0 (whole (earlier_after_led_state o.before.before)) o.args.room.now o.requires.3 (began (earlier_after_led_state o.before.before))
 
   size : length o.loop-numbers.room ≡ room_size
-  size = rest_size o.args.s.now o.args.reference.now (whole o.before) o.args.room.now o.requires.3 o.loop-numbers.state o.loop-numbers.at o.loop-numbers.numbers o.loop-numbers.room so_far
+  size = rest_size o.args.s.now o.args.reference.now (whole (earlier_after_led_state o.before.before)) o.args.room.now o.requires.3 o.loop-numbers.state o.loop-numbers.at o.loop-numbers.numbers o.loop-numbers.room so_far
 
 -- the turn that was taken
 module _ (t : After-turn_with) where
-  abbrev led : After-led-state
-  led = t.before
-
-  turned : (x : Turn) → t.turn_with.result ≡ x → turn_with all (list led) (given led) (given led) t.loop-numbers.state t.loop-numbers.at (segment_at (list led) t.loop-numbers.at) ≡ x
+  turned : (x : Turn) → t.turn_with.result ≡ x → turn_with all t.args.s.now t.args.reference.now t.args.reference.now t.loop-numbers.state t.loop-numbers.at (segment_at t.args.s.now t.loop-numbers.at) ≡ x
   turned x e =
-      ap (λ (u : Table). turn_with u (list led) (given led) (given led) t.loop-numbers.state t.loop-numbers.at (segment_at (list led) t.loop-numbers.at)) (sym (first led).pre.0)
+      ap (λ (u : Table). turn_with u t.args.s.now t.args.reference.now t.args.reference.now t.loop-numbers.state t.loop-numbers.at (segment_at t.args.s.now t.loop-numbers.at)) (sym t.requires.0)
       ∙ sym t.turn_with.ensures ∙ e
 
 -- the row, and where the next segment starts
 module _ (k : In-On) where
-  abbrev text : List ℕ
-  text = list (led k.before.before.before)
+  on : turn_with all k.args.s.now k.args.reference.now k.args.reference.now k.loop-numbers.state k.loop-numbers.at (segment_at k.args.s.now k.loop-numbers.at) ≡ On k.in-On.next k.in-On.row k.in-On.then
+  on = turned (earlier_after_turn_with k.before.before.before.before) (On k.in-On.next k.in-On.row k.in-On.then) k.in-On.is
 
-  abbrev reference : List ℕ
-  reference = given (led k.before.before.before)
-
-  on : turn_with all text reference reference k.loop-numbers.state k.loop-numbers.at (segment_at text k.loop-numbers.at) ≡ On k.in-On.next k.in-On.row k.in-On.then
-  on = turned k.before.before.before (On k.in-On.next k.in-On.row k.in-On.then) k.in-On.is
-
-  placed : (k.in-On.row.offset ≡ k.loop-numbers.at) × (k.loop-numbers.at + 4 ≤ k.in-On.then) × (k.in-On.then ≤ length text)
-  placed = with_on all text reference reference k.loop-numbers.state k.loop-numbers.at k.in-On.next k.in-On.row k.in-On.then on
+  placed : (k.in-On.row.offset ≡ k.loop-numbers.at) × (k.loop-numbers.at + 4 ≤ k.in-On.then) × (k.in-On.then ≤ length k.args.s.now)
+  placed = with_on all k.args.s.now k.args.reference.now k.args.reference.now k.loop-numbers.state k.loop-numbers.at k.in-On.next k.in-On.row k.in-On.then on
 
   fits : k.loop-numbers.numbers + 2 < length k.loop-numbers.room
   fits =
-      let w = size k.before.before in
+      let w = size (earlier_at_loop_numbers k.before.before.before.before.before.before) in
       let l = k.loop-numbers-test.true in
       omega arith
 
 -- the row is put
 module _ (p : After-put_row) where
-  abbrev here : At-loop-numbers
-  here = p.before.before
-
   put_size : length p.put_row.new.to ≡ room_size
-  put_size = ap length p.put_row.ensures ∙ length_put_row here.loop.room here.loop.numbers p.in-On.row ∙ size here
+  put_size = ap length p.put_row.ensures ∙ length_put_row p.loop-numbers.room p.loop-numbers.numbers p.in-On.row ∙ size (earlier_at_loop_numbers p.before.before.before.before.before.before.before.before)
 
 pub run_on-begun-requires : goal.run_on-begun-requires
 run_on-begun-requires c =
@@ -101,27 +104,25 @@ put_row-requires c = (fits (goal.at.put_row-requires c).In-On, sym (placed (goal
 pub overflow_add-numbers : goal.overflow_add-numbers
 overflow_add-numbers c =
     let l = fits (goal.at.overflow_add-numbers c).In-On in
-    let w = size (here (goal.at.overflow_add-numbers c).After-put_row) in
+    let w = size (goal.at.overflow_add-numbers c).At-loop-numbers in
     omega arith
 
 pub shape_of-room-then-not-is_same : goal.shape_of-room-then-not-is_same
-shape_of-room-then-not-is_same c = put_size (goal.at.shape_of-room-then-not-is_same c).After-put_row ∙ sym (first (entered (here (goal.at.shape_of-room-then-not-is_same c).After-put_row))).pre.3
+shape_of-room-then-not-is_same c = put_size (goal.at.shape_of-room-then-not-is_same c).After-put_row ∙ sym c.requires.3
 
 pub returns-then-not-is_same : goal.returns-then-not-is_same
 returns-then-not-is_same c =
-    let o = here (goal.at.returns-then-not-is_same c).After-put_row in
-    let e = entered o in
     let q = c.halted.ensures in
     let d = c.is_same.ensures in
-    reached_as (whole e) (lent e) q.0 q.1 q.2 (ap halt_verdict q.3)
-    (rest_other (list e) (given e) (whole e) (lent e) (first e).pre.3 o.loop.state o.loop.at o.loop.numbers o.loop.room (so_far o)
+    reached_as (whole (goal.at.returns-then-not-is_same c).After-led-state) c.args.room.now q.0 q.1 q.2 (ap halt_verdict q.3)
+    (rest_other c.args.s.now c.args.reference.now (whole (goal.at.returns-then-not-is_same c).After-led-state) c.args.room.now c.requires.3 c.loop-numbers.state c.loop-numbers.at c.loop-numbers.numbers c.loop-numbers.room (so_far (goal.at.returns-then-not-is_same c).At-loop-numbers)
     c.loop-numbers-test.true c.in-On.next c.in-On.row c.in-On.then (on (goal.at.returns-then-not-is_same c).In-On) c.put_row.new.to c.put_row.ensures (sym d ∙ c.if-not-is_same.true))
 
 pub run_on-ran-requires : goal.run_on-ran-requires
 run_on-ran-requires c =
-    let q = (first (entered (here (goal.at.run_on-ran-requires c).After-put_row))).pre in
+    let q = c.requires in
     let l = fits (goal.at.run_on-ran-requires c).In-On in
-    let w = size (here (goal.at.run_on-ran-requires c).After-put_row) in
+    let w = size (goal.at.run_on-ran-requires c).At-loop-numbers in
     (q.0, q.1, q.2, put_size (goal.at.run_on-ran-requires c).After-put_row, omega arith)
 
 pub loop-numbers-smaller : goal.loop-numbers-smaller
@@ -132,20 +133,18 @@ loop-numbers-smaller c =
 
 pub loop-numbers-preserved : goal.loop-numbers-preserved
 loop-numbers-preserved c =
-    let o = here (goal.at.loop-numbers-preserved c).After-put_row in
-    let e = entered o in
     let m = c.run_on-ran.ensures in
     let f = m.fits in
     let z = put_size (goal.at.loop-numbers-preserved c).After-put_row in
     let d = sym c.is_same.ensures ∙ c.if-not-is_same.false in (
       λ w lent z v.
-          rest_as (list e) (given e) w lent c.led-state-in-On.ensures
-          (rest_passed (list e) (given e) w lent z c.in-On.next c.in-On.then (o.loop.numbers + 3) c.put_row.new.to
-          (rest_on (list e) (given e) w lent z o.loop.state o.loop.at o.loop.numbers o.loop.room (o.loop.invariant.0 w lent z v)
+          rest_as c.args.s.now c.args.reference.now w lent c.led-state-in-On.ensures
+          (rest_passed c.args.s.now c.args.reference.now w lent z c.in-On.next c.in-On.then (c.loop-numbers.numbers + 3) c.put_row.new.to
+          (rest_on c.args.s.now c.args.reference.now w lent z c.loop-numbers.state c.loop-numbers.at c.loop-numbers.numbers c.loop-numbers.room (c.loop-numbers.invariant.0 w lent z v)
           c.loop-numbers-test.true c.in-On.next c.in-On.row c.in-On.then (on (goal.at.loop-numbers-preserved c).In-On) c.put_row.new.to c.put_row.ensures d)
           m),
       omega arith,
-      (passed_moved (list e) m).within (placed (goal.at.loop-numbers-preserved c).In-On).2,
+      (passed_moved c.args.s.now m).within (placed (goal.at.loop-numbers-preserved c).In-On).2,
     )
 
 pub halt_at-halt-requires : goal.halt_at-halt-requires
