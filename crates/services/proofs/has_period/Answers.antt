@@ -2,7 +2,6 @@
 -- Assumes nothing.
 use native.Mathlib.Omega.{arith}
 use Rattle.services.specs.Ways.{period_has}
-use borrow.Author.Rules.{rules}
 use Rattle.services.proofs.has_period.Goals as goal
 
 pub period_row-requires : goal.period_row-requires

@@ -1,7 +1,6 @@
 -- `services::is_removal` meets its contract.
 -- Assumes nothing.
 use Rattle.services.specs.Ways.{removes_none, removes_some}
-use borrow.Author.Rules.{rules}
 use Rattle.services.proofs.is_removal.Goals as goal
 
 pub returns-then-to-k : goal.returns-then-to-k

@@ -1,11 +1,7 @@
 -- `services::is_twice` meets its contract: the search goes from one service to the next.
 -- Assumes nothing.
-use mathlib.Core.Path.{◌≡◌, refl}
-use Prim.Native.Nat.{◌-◌, ◌≤◌}
+use mathlib.Core.Path.{refl}
 use native.Mathlib.Omega.{arith}
-use borrow.Author.Rules.{rules}
-use Rattle.services.specs.Rows.{first_from}
-use Rattle.services.specs.Services.{is_same_service}
 use Rattle.services.specs.Ways.{twice_no, twice_further, twice_yes, twice_on}
 use Rattle.services.proofs.is_twice.Goals as goal
 

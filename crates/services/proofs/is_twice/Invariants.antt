@@ -1,12 +1,9 @@
 -- `services::is_twice` meets its contract: the search goes from one service to the next.
 -- Assumes nothing.
-use mathlib.Core.Path.{◌≡◌, refl}
+use mathlib.Core.Path.{◌≡◌}
 use Prim.Native.Nat.{◌-◌, ◌≤◌}
-use native.Mathlib.Omega.{arith}
-use borrow.Author.Rules.{rules}
 use Rattle.services.specs.Rows.{first_from}
 use Rattle.services.specs.Services.{is_same_service}
-use Rattle.services.specs.Ways.{twice_no, twice_further, twice_yes, twice_on}
 use Rattle.services.proofs.is_twice.Given as goal
 
 abbrev pub invariant-loop-before : goal.invariant-loop-before

@@ -2,7 +2,6 @@
 -- Assumes nothing.
 use native.Mathlib.Omega.{arith}
 use Rattle.services.specs.Ways.{period_none, period_some}
-use borrow.Author.Rules.{rules}
 use Rattle.services.proofs.next_period.Goals as goal
 
 pub period_row-k-requires : goal.period_row-k-requires

@@ -3,7 +3,6 @@
 use native.Mathlib.Omega.{arith}
 use Rattle.services.specs.Extents.{reach_within}
 use Rattle.services.specs.Ways.{service_is}
-use borrow.Author.Rules.{rules}
 use Rattle.services.proofs.service_at.Goals as goal
 
 pub is_removal-removal-requires : goal.is_removal-removal-requires

@@ -2,7 +2,6 @@
 -- Assumes nothing.
 use mathlib.Core.Path.{sym, ◌∙◌}
 use Rattle.services.specs.Ways.{tested_wrong, tested_twice, tested_good}
-use borrow.Author.Rules.{rules}
 use Rattle.services.proofs.test_service.Goals as goal
 
 pub returns-then-is_wrong : goal.returns-then-is_wrong

@@ -2,11 +2,9 @@
 -- Assumes nothing.
 use mathlib.Core.Path.{◌≡◌, sym, ap, ◌∙◌}
 use mathlib.Core.List.{List}
-use Prim.Native.Nat.{◌-◌, ◌≤◌}
 use native.Mathlib.Omega.{arith}
-use borrow.Author.Rules.{rules}
 use Rattle.services.specs.Rows.{row_count}
-use Rattle.services.specs.Services.{tested_of, services_from, count_on, counted_of, tested_answer}
+use Rattle.services.specs.Services.{tested_of, services_from, tested_answer}
 use Rattle.services.specs.declared.Service.{Service}
 use Rattle.services.specs.declared.Tested.{Tested}
 use Rattle.services.specs.declared.Tested.TheVariants.{Good, Refused}

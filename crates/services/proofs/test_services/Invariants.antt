@@ -1,16 +1,9 @@
 -- `services::test_services` meets its contract: the count of the services that are left leads to the answer.
 -- Assumes nothing.
-use mathlib.Core.Path.{◌≡◌, sym, ap, ◌∙◌}
-use mathlib.Core.List.{List}
+use mathlib.Core.Path.{◌≡◌}
 use Prim.Native.Nat.{◌-◌, ◌≤◌}
-use native.Mathlib.Omega.{arith}
-use borrow.Author.Rules.{rules}
 use Rattle.services.specs.Rows.{row_count}
-use Rattle.services.specs.Services.{tested_of, services_from, count_on, counted_of, tested_answer}
-use Rattle.services.specs.declared.Service.{Service}
-use Rattle.services.specs.declared.Tested.{Tested}
-use Rattle.services.specs.declared.Tested.TheVariants.{Good, Refused}
-use Rattle.services.specs.Ways.{Next, count_start, next_found, next_gone, count_none, count_good, count_stop}
+use Rattle.services.specs.Services.{services_from, count_on, counted_of}
 use Rattle.services.proofs.test_services.Given as goal
 
 abbrev pub invariant-loop-service : goal.invariant-loop-service

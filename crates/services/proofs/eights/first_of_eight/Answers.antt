@@ -1,7 +1,6 @@
 -- `services::eights::first_of_eight` meets its contract: each step from the last row back.
 -- Assumes nothing.
 use native.Mathlib.Omega.{arith}
-use borrow.Author.Rules.{rules}
 use Prim.Native.Nat.{◌+◌}
 use Rattle.services.specs.Inner.{key_of, passes_start, passes_same}
 use Rattle.services.proofs.eights.first_of_eight.Goals as goal

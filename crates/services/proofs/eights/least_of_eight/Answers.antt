@@ -1,6 +1,5 @@
 -- `services::eights::least_of_eight` meets its contract.
 -- Assumes nothing.
-use borrow.Author.Rules.{rules}
 use Prim.Native.Nat.{◌+◌}
 use Rattle.services.specs.Inner.{key_of, passes_less, passes_eight}
 use Rattle.services.proofs.eights.least_of_eight.Goals as goal

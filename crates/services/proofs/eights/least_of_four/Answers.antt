@@ -1,7 +1,6 @@
 -- `services::eights::least_of_four` meets its contract.
 -- Assumes nothing.
 use native.Mathlib.Omega.{arith}
-use borrow.Author.Rules.{rules}
 use Rattle.services.specs.Inner.{key_of, passes_four}
 use Rattle.services.proofs.eights.least_of_four.Goals as goal
 

@@ -1,9 +1,8 @@
 -- `services::eights::past_eights` meets its contract: what is passed so far.
 -- Assumes nothing.
-use Prim.Native.Nat.{◌+◌, ◌-◌}
+use Prim.Native.Nat.{◌+◌}
 use native.Mathlib.Omega.{arith}
-use borrow.Author.Rules.{rules}
-use Rattle.services.specs.Inner.{key_of, Passes, passes_start, passes_on, passes_less}
+use Rattle.services.specs.Inner.{key_of, passes_start, passes_on, passes_less}
 use Rattle.services.proofs.eights.past_eights.Goals as goal
 
 pub loop-i-init : goal.loop-i-init

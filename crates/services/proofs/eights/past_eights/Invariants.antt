@@ -1,9 +1,7 @@
 -- `services::eights::past_eights` meets its contract: what is passed so far.
 -- Assumes nothing.
-use Prim.Native.Nat.{◌+◌, ◌-◌}
-use native.Mathlib.Omega.{arith}
-use borrow.Author.Rules.{rules}
-use Rattle.services.specs.Inner.{key_of, Passes, passes_start, passes_on, passes_less}
+use Prim.Native.Nat.{◌-◌}
+use Rattle.services.specs.Inner.{key_of, Passes}
 use Rattle.services.proofs.eights.past_eights.Given as goal
 
 abbrev pub invariant-loop-i : goal.invariant-loop-i

@@ -1,7 +1,6 @@
 -- `services::eights::sooner` meets its contract.
 -- Assumes nothing.
 use native.Mathlib.Omega.{arith}
-use borrow.Author.Rules.{rules}
 use Prim.Native.Nat.{◌+◌}
 use Rattle.services.specs.Inner.{key_of, passes_start, passes_one, passes_on}
 use Rattle.services.proofs.eights.sooner.Goals as goal

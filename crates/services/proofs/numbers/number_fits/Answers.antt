@@ -1,6 +1,5 @@
 -- `services::numbers::number_fits` meets its contract.
 -- Assumes nothing.
-use borrow.Author.Rules.{rules}
 use Rattle.services.specs.Numbers.{fits_short, fits_none, fits_few}
 use Rattle.services.proofs.numbers.number_fits.Goals as goal
 

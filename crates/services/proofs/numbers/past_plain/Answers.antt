@@ -1,9 +1,8 @@
 -- `services::numbers::past_plain` meets its contract: each step from the last byte back.
 -- Assumes nothing.
-use mathlib.Core.Path.{◌≡◌, refl, ap, ◌∙◌}
+use mathlib.Core.Path.{◌≡◌, ap, ◌∙◌}
 use Prim.Native.Nat.{◌+◌}
 use native.Mathlib.Omega.{arith}
-use borrow.Author.Rules.{rules}
 use Rattle.services.specs.Numbers.{number_end}
 use Rattle.services.proofs.numbers.past_plain.Goals as goal
 

@@ -1,12 +1,8 @@
 -- `services::numbers::plain_end` meets its contract: the number ends where what is left of it does.
 -- Assumes nothing.
-use mathlib.Core.Path.{◌≡◌, sym, ◌∙◌}
-use Prim.Native.Nat.{◌-◌}
+use mathlib.Core.Path.{sym, ◌∙◌}
 use native.Mathlib.Omega.{arith}
-use borrow.Author.Rules.{rules}
-use borrow.Author.Tests.{not-false}
-use lib.ListN.{length}
-use Rattle.services.specs.Numbers.{number_end, number_on, number_stops}
+use Rattle.services.specs.Numbers.{number_on, number_stops}
 use Rattle.services.proofs.numbers.plain_end.Goals as goal
 
 pub loop-i-init : goal.loop-i-init

@@ -1,12 +1,9 @@
 -- `services::numbers::plain_end` meets its contract: the number ends where what is left of it does.
 -- Assumes nothing.
-use mathlib.Core.Path.{◌≡◌, sym, ◌∙◌}
+use mathlib.Core.Path.{◌≡◌}
 use Prim.Native.Nat.{◌-◌}
-use native.Mathlib.Omega.{arith}
-use borrow.Author.Rules.{rules}
-use borrow.Author.Tests.{not-false}
 use lib.ListN.{length}
-use Rattle.services.specs.Numbers.{number_end, number_on, number_stops}
+use Rattle.services.specs.Numbers.{number_end}
 use Rattle.services.proofs.numbers.plain_end.Given as goal
 
 abbrev pub invariant-loop-i : goal.invariant-loop-i

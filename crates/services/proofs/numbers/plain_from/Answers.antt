@@ -1,7 +1,6 @@
 -- `services::numbers::plain_from` meets its contract.
 -- Assumes nothing.
-use mathlib.Core.Path.{refl, ◌∙◌}
-use borrow.Author.Rules.{rules}
+use mathlib.Core.Path.{◌∙◌}
 use Rattle.services.specs.Numbers.{number_on}
 use Rattle.services.proofs.numbers.plain_from.Goals as goal
 

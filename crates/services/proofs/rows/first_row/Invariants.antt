@@ -1,10 +1,8 @@
 -- `services::rows::first_row` meets its contract: the search from here on finds what the whole search finds.
 -- Assumes nothing.
-use mathlib.Core.Path.{◌≡◌, refl, sym, ◌∙◌}
+use mathlib.Core.Path.{◌≡◌}
 use Prim.Native.Nat.{◌-◌}
-use native.Mathlib.Omega.{arith}
 use Rattle.services.specs.Rows.{is_row, first_from}
-use Rattle.services.specs.Search.{first_past, first_here, first_on}
 use Rattle.services.proofs.rows.first_row.Given as goal
 
 abbrev pub invariant-loop-i : goal.invariant-loop-i

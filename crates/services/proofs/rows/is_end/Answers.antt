@@ -2,7 +2,6 @@
 -- Assumes nothing.
 use mathlib.Core.Path.{sym, ◌∙◌}
 use Rattle.services.specs.Extents.{ends_here, ends_there}
-use borrow.Author.Rules.{rules}
 use Rattle.services.proofs.rows.is_end.Goals as goal
 
 pub returns-then-is_row : goal.returns-then-is_row

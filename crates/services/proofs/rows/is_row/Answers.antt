@@ -2,7 +2,6 @@
 -- Assumes nothing.
 use mathlib.Core.Path.{sym}
 use Rattle.services.specs.Search.{row_other, row_group}
-use borrow.Author.Rules.{rules}
 use Rattle.services.proofs.rows.is_row.Goals as goal
 
 pub returns-then-rows-i : goal.returns-then-rows-i

@@ -2,7 +2,6 @@
 -- Assumes nothing.
 use mathlib.Core.Path.{◌∙◌}
 use Rattle.services.specs.Search.{offset_some, offset_none}
-use borrow.Author.Rules.{rules}
 use Rattle.services.proofs.rows.offset_of.Goals as goal
 
 pub returns-then-i-rows : goal.returns-then-i-rows

@@ -1,7 +1,6 @@
 -- `services::rows::period_row` meets its contract: the search from here on finds what the whole search finds.
 -- Assumes nothing.
-use mathlib.Core.Path.{◌≡◌, refl, sym, ◌∙◌}
-use Prim.Native.Nat.{◌-◌, ◌≤◌}
+use mathlib.Core.Path.{◌≡◌, sym, ◌∙◌}
 use native.Mathlib.Omega.{arith}
 use Rattle.services.specs.Rows.{first_from}
 use Rattle.services.specs.Services.{is_period_row}

@@ -1,12 +1,9 @@
 -- `services::rows::period_row` meets its contract: the search from here on finds what the whole search finds.
 -- Assumes nothing.
-use mathlib.Core.Path.{◌≡◌, refl, sym, ◌∙◌}
-use Prim.Native.Nat.{◌-◌, ◌≤◌}
-use native.Mathlib.Omega.{arith}
+use mathlib.Core.Path.{◌≡◌}
+use Prim.Native.Nat.{◌-◌}
 use Rattle.services.specs.Rows.{first_from}
 use Rattle.services.specs.Services.{is_period_row}
-use Rattle.services.specs.Search.{first_past, first_here, first_on}
-use Rattle.services.specs.Ways.{period_pass}
 use Rattle.services.proofs.rows.period_row.Given as goal
 
 abbrev pub invariant-loop-i : goal.invariant-loop-i

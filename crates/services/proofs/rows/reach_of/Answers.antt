@@ -1,9 +1,8 @@
 -- `services::rows::reach_of` meets its contract: one walk, and what it knows at each row.
 -- Assumes nothing.
 use mathlib.Core.Path.{sym, ◌∙◌}
-use Prim.Native.Nat.{◌-◌, ◌≤◌}
 use native.Mathlib.Omega.{arith}
-use Rattle.services.specs.Extents.{Walked, walked_start, walked_past, walked_end, walked_own, walked_inner}
+use Rattle.services.specs.Extents.{walked_start, walked_past, walked_end, walked_own, walked_inner}
 use Rattle.services.proofs.rows.reach_of.Goals as goal
 
 pub loop-i-init : goal.loop-i-init

@@ -1,9 +1,7 @@
 -- `services::rows::reach_of` meets its contract: one walk, and what it knows at each row.
 -- Assumes nothing.
-use mathlib.Core.Path.{sym, ◌∙◌}
-use Prim.Native.Nat.{◌-◌, ◌≤◌}
-use native.Mathlib.Omega.{arith}
-use Rattle.services.specs.Extents.{Walked, walked_start, walked_past, walked_end, walked_own, walked_inner}
+use Prim.Native.Nat.{◌-◌}
+use Rattle.services.specs.Extents.{Walked}
 use Rattle.services.proofs.rows.reach_of.Given as goal
 
 abbrev pub invariant-loop-i : goal.invariant-loop-i

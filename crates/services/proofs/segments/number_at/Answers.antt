@@ -1,9 +1,6 @@
 -- `services::segments::number_at` meets its contract.
 -- Assumes nothing.
-use Prim.Native.Nat.{◌+◌, ◌≤◌}
 use native.Mathlib.Omega.{arith}
-use borrow.Author.Rules.{rules}
-use lib.ListN.{length}
 use Rattle.services.specs.Numbers.{number_quick}
 use Rattle.services.specs.Ways.{number_is}
 use Rattle.services.proofs.segments.number_at.Goals as goal

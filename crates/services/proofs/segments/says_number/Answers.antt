@@ -1,7 +1,6 @@
 -- `services::segments::says_number` meets its contract.
 -- Assumes nothing.
 use Rattle.services.specs.Ways.{number_says}
-use borrow.Author.Rules.{rules}
 use Rattle.services.proofs.segments.says_number.Goals as goal
 
 pub returns : goal.returns

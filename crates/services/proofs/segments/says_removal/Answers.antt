@@ -1,7 +1,6 @@
 -- `services::segments::says_removal` meets its contract.
 -- Assumes nothing.
 use Rattle.services.specs.Ways.{removal_says}
-use borrow.Author.Rules.{rules}
 use Rattle.services.proofs.segments.says_removal.Goals as goal
 
 pub returns : goal.returns
