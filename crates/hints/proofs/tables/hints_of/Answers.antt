@@ -1,7 +1,6 @@
 -- `hints::tables::hints_of` meets its contract. Assumes nothing.
 use mathlib.Core.Path.{sym, ap, ◌∙◌}
 use Rattle.hints.specs.Hints.{hints_in}
-use borrow.Author.Rules.{rules}
 use Rattle.hints.proofs.tables.hints_of.Goals as goal
 
 pub returns-in-Skdupd : goal.returns-in-Skdupd

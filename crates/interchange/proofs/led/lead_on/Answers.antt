@@ -18,7 +18,7 @@ use Rattle.interchange.proofs.led.lead_on.Goals as goal
 -- the place that was told
 module _ (e : Else-not-next) where
   led : Leads e.args.table.now e.args.place.row e.args.place.counts e.next_place-next.result.row e.next_place-next.result.counts
-  led = e.next_place-next.ensures (e.if-not-next.false)
+  led = e.next_place-next.ensures (not-false _ e.if-not-next.false)
 
   found : get_or (get_or e.args.table.now e.next_place-next.result.row []) 1 0 ≡ tag_at e.args.table.now e.next_place-next.result.row
   found = sym (entry_in e.args.table.now e.next_place-next.result.row 1 (lit≤ tt))

@@ -18,7 +18,7 @@ module _ (k : After-slot_of) where
   hint = get_or (get_or k.args.hints.now k.args.row []) k.slot_of.result 0
 
   narrow : k.args.counts < 18446744073709551616
-  narrow = omega (arith, k.fits.counts)
+  narrow = let h = k.ranges.counts.fits in omega (arith, h)
 
   inside : row_in hint < rows k.args.table.now
   inside =
