@@ -16,7 +16,7 @@ loop-i-preserved c =
     let m = c.move_block in
     let l = c.loop-i in
     let a = c.args in (
-      m.auto.0 ∙ l.invariant.0,
+      m.auto.b ∙ l.invariant.0,
       omega arith,
       omega arith,
       m.ensures ∙ down_block a.b.now a.at a.n l.b l.i l.i 128 l.invariant.3 (omega arith) (omega arith) (omega arith) (omega arith) (omega arith),

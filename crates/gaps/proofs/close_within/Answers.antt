@@ -13,14 +13,14 @@ use Rattle.gaps.proofs.close_within.Goals as goal
 pub loop-i-init : goal.loop-i-init
 loop-i-init c =
     let d = c.blocks_down-i in
-    let k = d.auto.0 in
-    let w = d.ensures.0 in
+    let k = d.auto.b in
+    let w = d.ensures.within in
     (refl, w.0, omega arith, λ s l q. q)
 
 pub loop-i-preserved : goal.loop-i-preserved
 loop-i-preserved c =
     let l = c.loop-i in
-    let k = c.blocks_down-i.auto.0 in
+    let k = c.blocks_down-i.auto.b in
     let a = c.args in (
       simp length-set l.invariant.0,
       omega arith,
@@ -33,6 +33,6 @@ returns c =
     let l = c.loop-i in
     let d = c.blocks_down-i in
     let a = c.args in
-    let k = d.auto.0 in
-    let q = l.invariant.3 a.b.now (sym k) d.ensures.1 in
+    let k = d.auto.b in
+    let q = l.invariant.3 a.b.now (sym k) d.ensures.moved in
     c.clear_from.ensures ∙ down_close a.b.now a.at a.n l.b l.i q (omega arith) (omega arith)
