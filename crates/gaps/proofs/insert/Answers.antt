@@ -2,7 +2,6 @@
 -- Assumes nothing.
 use mathlib.Core.Path.{sym, ◌∙◌}
 use native.Mathlib.Omega.{arith}
-use borrow.Author.Rules.{rules}
 use Rattle.gaps.specs.Move.{filled, inserted_past}
 use Rattle.gaps.proofs.insert.Goals as goal
 

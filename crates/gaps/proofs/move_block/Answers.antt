@@ -3,7 +3,6 @@
 use Prim.Native.Nat.{◌+◌, ◌-◌}
 use native.Mathlib.Omega.{arith}
 use Rattle.gaps.specs.Block.{block_put}
-use borrow.Author.Rules.{rules}
 use Rattle.gaps.proofs.move_block.Goals as goal
 
 pub returns : goal.returns

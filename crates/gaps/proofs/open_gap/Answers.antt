@@ -1,13 +1,10 @@
 -- `gaps::open_gap` meets its contract. Invariant: of whatever bytes the buffer held all moved from where the loop starts on, it holds them
 -- moved from index i on.
 -- Assumes nothing.
-use mathlib.Core.Path.{◌≡◌, refl, sym, ◌∙◌}
-use mathlib.Core.List.{List}
-use Prim.Native.Nat.{ℕ, ◌≤◌}
+use mathlib.Core.Path.{refl, sym, ◌∙◌}
 use native.Mathlib.Omega.{arith}
-use borrow.Author.Rules.{rules}
-use lib.ListN.{length, length-set}
-use Rattle.gaps.specs.Move.{moved_up, up_turn, up_end}
+use lib.ListN.{length-set}
+use Rattle.gaps.specs.Move.{up_turn, up_end}
 use Rattle.gaps.proofs.open_gap.Goals as goal
 
 pub loop-i-init : goal.loop-i-init
