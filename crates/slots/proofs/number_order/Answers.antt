@@ -14,17 +14,17 @@ module _ (b : After-wrapping_sub_usize-behind) where
   number_bytes i = omega (arith, b.shared_slice_known-2-1.given i)
 
   behind_is : (b.wrapping_sub_usize-behind.result + high_of (take (b.args.at + 10 - b.args.at) (drop b.args.at b.args.room.now))) % 2 ^ 64 ≡ b.args.high
-  behind_is = sym (ap (λ (h : ℕ). (b.wrapping_sub_usize-behind.result + h) % 2 ^ 64) b.high.ensures) ∙ b.wrapping_sub_usize-behind.ensures
+  behind_is = sym (ap (λ (h : ℕ). (b.wrapping_sub_usize-behind.result + h) % 2 ^ 64) b.high.ensures) ∙ b.wrapping_sub_usize-behind.ensures.value
 
   abbrev step : Step b.args.room.now b.args.number.now b.args.at (b.args.at + 10 - b.args.at) b.args.high b.args.low b.wrapping_sub_usize-behind.result
   step = record {
     ten = omega arith;
-    b.args.room.now = b.requires.0;
+    room = b.requires.0;
     slot = λ i. omega (arith, b.shared_slice_known-1.given i);
     bytes = number_bytes;
     words = b.requires.1;
     is = behind_is;
-    fits = omega (arith, b.wrapping_sub_usize-behind.ok);
+    fits = omega (arith, b.wrapping_sub_usize-behind.type_inv);
   }
 
 pub returns-then-behind-eq0 : goal.returns-then-behind-eq0
