@@ -1,6 +1,6 @@
 -- `slots::number_order` meets its contract.
 -- Assumes nothing.
-use Rattle.std.proofs.Common.{◌≡◌, ℕ, ◌+◌, ◌-◌, ◌%◌, ◌^◌, List, take, drop, sym, ap, ◌∙◌, ap₂, arith, rules}
+use Rattle.std.proofs.Common.{◌≡◌, ℕ, ◌+◌, ◌-◌, ◌%◌, ◌^◌, take, drop, sym, ap, ◌∙◌, ap₂, arith}
 use Rattle.slots.specs.declared.Order.{Order}
 use Rattle.slots.specs.Order.{order_by}
 use Rattle.slots.specs.Words.{Bytes, high_of}
