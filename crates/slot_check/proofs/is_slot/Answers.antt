@@ -1,0 +1,71 @@
+-- `slot_check::is_slot` meets its contract.
+-- Assumes nothing.
+use mathlib.Core.Path.{◌≡◌, sym, ◌∙◌}
+use mathlib.Core.Bool.{Bool, true, false}
+use mathlib.Core.List.{List}
+use Prim.Native.Nat.{ℕ}
+use native.Mathlib.Omega.{arith}
+use lib.ListN.{get_or, take, drop}
+use borrow.Author.Tests.{not-true, not-false}
+use borrow.Author.Rules.{rules}
+use Rattle.gaps.specs.Zero.{all_zero}
+use Rattle.slots.specs.Words.{Bytes}
+use Rattle.slot_check.specs.Slot.{is_slot, flags_fit, fits_put, fits_none, fits_no_flag, fits_both, fits_no_entry, fits_live, other_slot, slot_no_number, slot_number_fits}
+use Rattle.slot_check.proofs.is_slot.Goals.{After-is_number}
+use Rattle.slot_check.proofs.is_slot.Goals as goal
+
+pub returns-then-slot-ne-SLOT : goal.returns-then-slot-ne-SLOT
+returns-then-slot-ne-SLOT c = sym (other_slot c.args.slot.now c.if-slot-ne-SLOT.true)
+
+pub is_number-requires : goal.is_number-requires
+is_number-requires c = c.if-slot-ne-SLOT.false
+
+-- the number was looked at
+module _ (n : After-is_number) where
+  bytes : Bytes n.args.slot.now
+  bytes i = omega (arith, n.shared_slice_known-2-1.given i)
+
+  refused : n.is_number.result ≡ false → false ≡ is_slot n.args.slot.now
+  refused t = slot_no_number n.args.slot.now n.if-slot-ne-SLOT.false bytes n.is_number.result n.is_number.ensures t
+
+  abbrev live : ℕ
+  live = get_or n.args.slot.now 10 0
+
+  abbrev pending : ℕ
+  pending = get_or n.args.slot.now 75 0
+
+  abbrev no_live : Bool
+  no_live = all_zero (take 64 (drop 11 n.args.slot.now))
+
+  abbrev no_put : Bool
+  no_put = all_zero (take 64 (drop 76 n.args.slot.now))
+
+  fitting : n.is_number.result ≡ true → flags_fit live pending no_live no_put ≡ is_slot n.args.slot.now
+  fitting t = slot_number_fits n.args.slot.now n.if-slot-ne-SLOT.false bytes n.is_number.result n.is_number.ensures t
+
+pub returns-then-not-is_number : goal.returns-then-not-is_number
+returns-then-not-is_number c = refused (goal.at.returns-then-not-is_number c).After-is_number (c.if-not-is_number.true)
+
+pub returns-then-pending-ne1 : goal.returns-then-pending-ne1
+returns-then-pending-ne1 c =
+    fits_none (live (goal.at.returns-then-pending-ne1 c).After-is_number) (pending (goal.at.returns-then-pending-ne1 c).After-is_number) (no_live (goal.at.returns-then-pending-ne1 c).After-is_number) (no_put (goal.at.returns-then-pending-ne1 c).After-is_number) c.if-live-eq0.true c.if-pending-ne1.true ∙ fitting (goal.at.returns-then-pending-ne1 c).After-is_number (c.if-not-is_number.false)
+
+pub returns-then-live-eq0 : goal.returns-then-live-eq0
+returns-then-live-eq0 c =
+    c.is_zero.ensures ∙ fits_put (live (goal.at.returns-then-live-eq0 c).After-is_number) (pending (goal.at.returns-then-live-eq0 c).After-is_number) (no_live (goal.at.returns-then-live-eq0 c).After-is_number) (no_put (goal.at.returns-then-live-eq0 c).After-is_number) c.if-live-eq0.true c.if-pending-ne1.false ∙ fitting (goal.at.returns-then-live-eq0 c).After-is_number (c.if-not-is_number.false)
+
+pub returns-then-live-ne1 : goal.returns-then-live-ne1
+returns-then-live-ne1 c =
+    fits_no_flag (live (goal.at.returns-then-live-ne1 c).After-is_number) (pending (goal.at.returns-then-live-ne1 c).After-is_number) (no_live (goal.at.returns-then-live-ne1 c).After-is_number) (no_put (goal.at.returns-then-live-ne1 c).After-is_number) c.if-live-eq0.false c.if-live-ne1.true ∙ fitting (goal.at.returns-then-live-ne1 c).After-is_number (c.if-not-is_number.false)
+
+pub returns-then-pending-eq1 : goal.returns-then-pending-eq1
+returns-then-pending-eq1 c =
+    fits_both (live (goal.at.returns-then-pending-eq1 c).After-is_number) (pending (goal.at.returns-then-pending-eq1 c).After-is_number) (no_live (goal.at.returns-then-pending-eq1 c).After-is_number) (no_put (goal.at.returns-then-pending-eq1 c).After-is_number) c.if-live-ne1.false c.if-pending-eq1.true ∙ fitting (goal.at.returns-then-pending-eq1 c).After-is_number (c.if-not-is_number.false)
+
+pub returns-then-pending-gt2 : goal.returns-then-pending-gt2
+returns-then-pending-gt2 c =
+    fits_no_entry (live (goal.at.returns-then-pending-gt2 c).After-is_number) (pending (goal.at.returns-then-pending-gt2 c).After-is_number) (no_live (goal.at.returns-then-pending-gt2 c).After-is_number) (no_put (goal.at.returns-then-pending-gt2 c).After-is_number) c.if-live-ne1.false c.if-pending-eq1.false c.if-pending-gt2.true ∙ fitting (goal.at.returns-then-pending-gt2 c).After-is_number (c.if-not-is_number.false)
+
+pub returns : goal.returns
+returns c =
+    c.is_zero-2.ensures ∙ fits_live (live (goal.at.returns c).After-is_number) (pending (goal.at.returns c).After-is_number) (no_live (goal.at.returns c).After-is_number) (no_put (goal.at.returns c).After-is_number) c.if-live-ne1.false c.if-pending-eq1.false c.if-pending-gt2.false ∙ fitting (goal.at.returns c).After-is_number (c.if-not-is_number.false)
