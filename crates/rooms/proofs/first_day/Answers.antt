@@ -2,7 +2,6 @@
 -- Assumes nothing.
 use mathlib.Core.Path.{◌∙◌}
 use Rattle.rooms.specs.Head.{first_told}
-use borrow.Author.Rules.{rules}
 use Rattle.rooms.proofs.first_day.Goals as goal
 
 pub returns : goal.returns

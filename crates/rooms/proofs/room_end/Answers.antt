@@ -1,7 +1,7 @@
 -- `rooms::room_end` meets its contract. Invariant: the head and the rooms before k are passed.
 -- Assumes nothing.
 use mathlib.Core.Path.{◌≡◌, ◌∙◌, ap}
-use Prim.Native.Nat.{ℕ, ◌≤◌, ◌+◌, ◌-◌, ◌*◌}
+use Prim.Native.Nat.{ℕ, ◌+◌, ◌*◌}
 use native.Mathlib.Omega.{arith}
 use Rattle.rooms.specs.Views.{room_end}
 use Rattle.rooms.specs.Head.{end_zero, end_more, end_last}

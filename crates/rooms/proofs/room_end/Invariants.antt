@@ -1,10 +1,8 @@
 -- `rooms::room_end` meets its contract. Invariant: the head and the rooms before k are passed.
 -- Assumes nothing.
-use mathlib.Core.Path.{◌≡◌, ◌∙◌, ap}
-use Prim.Native.Nat.{ℕ, ◌≤◌, ◌+◌, ◌-◌, ◌*◌}
-use native.Mathlib.Omega.{arith}
+use mathlib.Core.Path.{◌≡◌}
+use Prim.Native.Nat.{◌≤◌, ◌+◌, ◌-◌, ◌*◌}
 use Rattle.rooms.specs.Views.{room_end}
-use Rattle.rooms.specs.Head.{end_zero, end_more, end_last}
 use Rattle.rooms.proofs.room_end.Given as goal
 
 abbrev pub invariant-loop-k : goal.invariant-loop-k

@@ -5,7 +5,6 @@ use Prim.Native.Nat.{◌-◌}
 use native.Mathlib.Omega.{arith}
 use Rattle.rooms.specs.Views.{room_end}
 use Rattle.rooms.specs.Head.{start_end}
-use borrow.Author.Rules.{rules}
 use Rattle.rooms.proofs.room_start.Goals as goal
 
 pub returns-then-account-eq0 : goal.returns-then-account-eq0
