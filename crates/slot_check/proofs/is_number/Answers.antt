@@ -13,7 +13,7 @@ use borrow.Author.Rules.{rules}
 use Rattle.syntax.specs.Bytes.{permitted_of}
 use Rattle.slots.specs.Words.{Bytes, high_of, low_of, bytes_take, high_take, low_take}
 use Rattle.slot_check.specs.Word.{Rest, live, rest_start, rest_end, rest_not, rest_on, rest_less, rest_below, top_permitted, word_none, word_clean}
-use Rattle.slot_check.proofs.is_number.Goals.{Else-left-eq0, Else-low-ne0, Joined-left-ne3}
+use Rattle.slot_check.proofs.is_number.Goals.{Else-low-ne0, Joined-left-ne3, then-left-ne3, else-left-ne3}
 use Rattle.slot_check.proofs.is_number.Goals as goal
 
 pub returns-then-low-ne0 : goal.returns-then-low-ne0
@@ -38,11 +38,13 @@ module _ (e : Else-low-ne0) where
 
 pub returns-then-left-eq0 : goal.returns-then-left-eq0
 returns-then-left-eq0 c =
-    word_none (number (goal.at.returns-then-left-eq0 c).Else-low-ne0) (bytes (goal.at.returns-then-left-eq0 c).Else-low-ne0) (ten (goal.at.returns-then-left-eq0 c).Else-low-ne0) (ends (goal.at.returns-then-left-eq0 c).Else-low-ne0) (sym (word (goal.at.returns-then-left-eq0 c).Else-low-ne0) ∙ c.if-left-eq0.true)
+    let e = (goal.at.returns-then-left-eq0 c).Else-low-ne0 in
+    word_none (number e) (bytes e) (ten e) (ends e) (sym (word e) ∙ c.if-left-eq0.true)
 
 pub loop-left-init : goal.loop-left-init
 loop-left-init c =
-    subst⁻¹ (Rest (number (goal.at.loop-left-init c).Else-low-ne0)) (word (goal.at.loop-left-init c).Else-low-ne0) (rest_start (number (goal.at.loop-left-init c).Else-low-ne0) (bytes (goal.at.loop-left-init c).Else-low-ne0) (ten (goal.at.loop-left-init c).Else-low-ne0))
+    let e = (goal.at.loop-left-init c).Else-low-ne0 in
+    subst⁻¹ (Rest (number e)) (word e) (rest_start (number e) (bytes e) (ten e))
 
 pub overflow_cast-left : goal.overflow_cast-left
 overflow_cast-left c =
@@ -51,14 +53,14 @@ overflow_cast-left c =
     omega arith
 
 -- what the loop found is what was asked
-module _ (n : Else-left-eq0) where
-  some : high_of (number n.before) ≡ 0 → ⊥
-  some z = n.if-left-eq0.false (word n.before ∙ z)
+some : (e : Else-low-ne0) → (e.high-left.result ≡ 0 → ⊥) → high_of (number e) ≡ 0 → ⊥
+some e n z = n (word e ∙ z)
 
 pub returns-then-not-permitted : goal.returns-then-not-permitted
 returns-then-not-permitted c =
+    let e = (goal.at.returns-then-not-permitted c).Else-low-ne0 in
     let l = c.loop-left in
-    rest_not (number (goal.at.returns-then-not-permitted c).Else-low-ne0) l.left c.loop-left-test.true (sym c.permitted.ensures ∙ c.if-not-permitted.true) l.invariant ∙ word_clean (number (goal.at.returns-then-not-permitted c).Else-low-ne0) (bytes (goal.at.returns-then-not-permitted c).Else-low-ne0) (ten (goal.at.returns-then-not-permitted c).Else-low-ne0) (ends (goal.at.returns-then-not-permitted c).Else-low-ne0) (some (goal.at.returns-then-not-permitted c).Else-left-eq0)
+    rest_not (number e) l.left c.loop-left-test.true (sym c.permitted.ensures ∙ c.if-not-permitted.true) l.invariant ∙ word_clean (number e) (bytes e) (ten e) (ends e) (some e c.if-left-eq0.false)
 
 pub loop-left-smaller : goal.loop-left-smaller
 loop-left-smaller c =
@@ -68,10 +70,10 @@ loop-left-smaller c =
 -- its highest byte is permitted, in either way
 seen : (c : Joined-left-ne3) → permitted_of (c.loop-left.left / 72057594037927936) ≡ true
 seen c =
-    ⊎_elim
-    (λ a. sym a.1.ensures ∙ not-false _ a.2.left)
-    (λ b. top_permitted c.loop-left.left b.left)
-    c.if-left-ne3.branch
+    elim c.if-left-ne3.branch [
+      | then-left-ne3 w ↦ sym w.permitted.ensures ∙ w.if-not-permitted.false
+      | else-left-ne3 w ↦ top_permitted c.loop-left.left w.if-left-ne3.false
+    ]
 
 pub loop-left-preserved : goal.loop-left-preserved
 loop-left-preserved c =
@@ -80,4 +82,5 @@ loop-left-preserved c =
 
 pub returns : goal.returns
 returns c =
-    rest_end (number (goal.at.returns c).Else-low-ne0) c.loop-left.left c.loop-left-test.false c.loop-left.invariant ∙ word_clean (number (goal.at.returns c).Else-low-ne0) (bytes (goal.at.returns c).Else-low-ne0) (ten (goal.at.returns c).Else-low-ne0) (ends (goal.at.returns c).Else-low-ne0) (some (goal.at.returns c).Else-left-eq0)
+    let e = (goal.at.returns c).Else-low-ne0 in
+    rest_end (number e) c.loop-left.left c.loop-left-test.false c.loop-left.invariant ∙ word_clean (number e) (bytes e) (ten e) (ends e) (some e c.if-left-eq0.false)

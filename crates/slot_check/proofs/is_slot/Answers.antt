@@ -48,24 +48,30 @@ returns-then-not-is_number c = refused (goal.at.returns-then-not-is_number c).Af
 
 pub returns-then-pending-ne1 : goal.returns-then-pending-ne1
 returns-then-pending-ne1 c =
-    fits_none (live (goal.at.returns-then-pending-ne1 c).After-is_number) (pending (goal.at.returns-then-pending-ne1 c).After-is_number) (no_live (goal.at.returns-then-pending-ne1 c).After-is_number) (no_put (goal.at.returns-then-pending-ne1 c).After-is_number) c.if-live-eq0.true c.if-pending-ne1.true ∙ fitting (goal.at.returns-then-pending-ne1 c).After-is_number (c.if-not-is_number.false)
+    let n = (goal.at.returns-then-pending-ne1 c).After-is_number in
+    fits_none (live n) (pending n) (no_live n) (no_put n) c.if-live-eq0.true c.if-pending-ne1.true ∙ fitting n (c.if-not-is_number.false)
 
 pub returns-then-live-eq0 : goal.returns-then-live-eq0
 returns-then-live-eq0 c =
-    c.is_zero.ensures ∙ fits_put (live (goal.at.returns-then-live-eq0 c).After-is_number) (pending (goal.at.returns-then-live-eq0 c).After-is_number) (no_live (goal.at.returns-then-live-eq0 c).After-is_number) (no_put (goal.at.returns-then-live-eq0 c).After-is_number) c.if-live-eq0.true c.if-pending-ne1.false ∙ fitting (goal.at.returns-then-live-eq0 c).After-is_number (c.if-not-is_number.false)
+    let n = (goal.at.returns-then-live-eq0 c).After-is_number in
+    c.is_zero.ensures ∙ fits_put (live n) (pending n) (no_live n) (no_put n) c.if-live-eq0.true c.if-pending-ne1.false ∙ fitting n (c.if-not-is_number.false)
 
 pub returns-then-live-ne1 : goal.returns-then-live-ne1
 returns-then-live-ne1 c =
-    fits_no_flag (live (goal.at.returns-then-live-ne1 c).After-is_number) (pending (goal.at.returns-then-live-ne1 c).After-is_number) (no_live (goal.at.returns-then-live-ne1 c).After-is_number) (no_put (goal.at.returns-then-live-ne1 c).After-is_number) c.if-live-eq0.false c.if-live-ne1.true ∙ fitting (goal.at.returns-then-live-ne1 c).After-is_number (c.if-not-is_number.false)
+    let n = (goal.at.returns-then-live-ne1 c).After-is_number in
+    fits_no_flag (live n) (pending n) (no_live n) (no_put n) c.if-live-eq0.false c.if-live-ne1.true ∙ fitting n (c.if-not-is_number.false)
 
 pub returns-then-pending-eq1 : goal.returns-then-pending-eq1
 returns-then-pending-eq1 c =
-    fits_both (live (goal.at.returns-then-pending-eq1 c).After-is_number) (pending (goal.at.returns-then-pending-eq1 c).After-is_number) (no_live (goal.at.returns-then-pending-eq1 c).After-is_number) (no_put (goal.at.returns-then-pending-eq1 c).After-is_number) c.if-live-ne1.false c.if-pending-eq1.true ∙ fitting (goal.at.returns-then-pending-eq1 c).After-is_number (c.if-not-is_number.false)
+    let n = (goal.at.returns-then-pending-eq1 c).After-is_number in
+    fits_both (live n) (pending n) (no_live n) (no_put n) c.if-live-ne1.false c.if-pending-eq1.true ∙ fitting n (c.if-not-is_number.false)
 
 pub returns-then-pending-gt2 : goal.returns-then-pending-gt2
 returns-then-pending-gt2 c =
-    fits_no_entry (live (goal.at.returns-then-pending-gt2 c).After-is_number) (pending (goal.at.returns-then-pending-gt2 c).After-is_number) (no_live (goal.at.returns-then-pending-gt2 c).After-is_number) (no_put (goal.at.returns-then-pending-gt2 c).After-is_number) c.if-live-ne1.false c.if-pending-eq1.false c.if-pending-gt2.true ∙ fitting (goal.at.returns-then-pending-gt2 c).After-is_number (c.if-not-is_number.false)
+    let n = (goal.at.returns-then-pending-gt2 c).After-is_number in
+    fits_no_entry (live n) (pending n) (no_live n) (no_put n) c.if-live-ne1.false c.if-pending-eq1.false c.if-pending-gt2.true ∙ fitting n (c.if-not-is_number.false)
 
 pub returns : goal.returns
 returns c =
-    c.is_zero-2.ensures ∙ fits_live (live (goal.at.returns c).After-is_number) (pending (goal.at.returns c).After-is_number) (no_live (goal.at.returns c).After-is_number) (no_put (goal.at.returns c).After-is_number) c.if-live-ne1.false c.if-pending-eq1.false c.if-pending-gt2.false ∙ fitting (goal.at.returns c).After-is_number (c.if-not-is_number.false)
+    let n = (goal.at.returns c).After-is_number in
+    c.is_zero-2.ensures ∙ fits_live (live n) (pending n) (no_live n) (no_put n) c.if-live-ne1.false c.if-pending-eq1.false c.if-pending-gt2.false ∙ fitting n (c.if-not-is_number.false)
