@@ -8,7 +8,7 @@ use borrow.Author.Tests.{not-true, not-false}
 use borrow.Author.Rules.{rules}
 use Rattle.laws.specs.Lists.{length_between}
 use Rattle.checking.specs.Register.{RoomsLeft, rooms_start, rooms_end, rooms_too_long, room_inside, rooms_no_room, rooms_on}
-use Rattle.checking.proofs.are_rooms.Goals.{Else-b-at, In-loop-k}
+use Rattle.checking.proofs.are_rooms.Goals.{Else-b-at}
 use Rattle.checking.proofs.are_rooms.Goals as goal
 
 pub loop-k-init : goal.loop-k-init
@@ -20,16 +20,11 @@ number_at-room-requires c = let h = c.requires in omega arith
 pub overflow_mul-room : goal.overflow_mul-room
 overflow_mul-room c = let h = c.number_at-room.ensures.1 in omega arith
 
--- the buffer, and the quota that was read
-module _ (e : In-loop-k) where
-module _ (e : Else-b-at) where
-  abbrev quota : ℕ
-  quota = e.number_at-room.result
-
-  inside : e.loop-k.at + quota * 140 ≤ length (e.args.b.now e.before.before)
-  inside =
-      let l = e.loop-k in
-      room_inside (e.args.b.now e) l.at l.k l.invariant e.loop-k-test.true quota e.number_at-room.ensures.0 e.if-b-at.false
+-- the room of the quota that was read lies within
+inside : (e : Else-b-at) → e.loop-k.at + e.number_at-room.result * 140 ≤ length e.args.b.now
+inside e =
+    let l = e.loop-k in
+    room_inside e.args.b.now l.at l.k l.invariant e.loop-k-test.true e.number_at-room.result e.number_at-room.ensures.0 e.if-b-at.false
 
 pub overflow_sub-b : goal.overflow_sub-b
 overflow_sub-b c = c.loop-k.invariant.inside

@@ -12,7 +12,7 @@ pub returns-then-b-ne-LENGTH : goal.returns-then-b-ne-LENGTH
 returns-then-b-ne-LENGTH c = sym (other_buffer c.args.b.now c.if-b-ne-LENGTH.true)
 
 bytes : (s : After-shared_slice_known-1) → Bytes s.args.b.now
-bytes s i = omega (arith, s.shared_slice_known-1.given i)
+bytes s i = omega (arith, s.type_inv.b i)
 
 pub returns-then-number_at-gt-DATES : goal.returns-then-number_at-gt-DATES
 returns-then-number_at-gt-DATES c =

@@ -17,7 +17,7 @@ loop-at-init c = left_start c.args.room.now c.requires
 -- in the loop
 module _ (i : In-loop-at) where
   bytes : Bytes i.args.room.now
-  bytes k = omega (arith, i.shared_slice_known-1.given k)
+  bytes k = omega (arith, i.type_inv.room k)
 
   inside : i.loop-at.at + 140 ≤ length i.args.room.now
   inside = room_for_slot i.args.room.now bytes i.loop-at.high i.loop-at.low i.loop-at.at i.loop-at.invariant i.loop-at-test.true

@@ -13,7 +13,7 @@ use borrow.Author.Rules.{rules}
 use Rattle.syntax.specs.Bytes.{permitted_of}
 use Rattle.slots.specs.Words.{Bytes, high_of, low_of, bytes_take, high_take, low_take}
 use Rattle.slot_check.specs.Word.{Rest, live, rest_start, rest_end, rest_not, rest_on, rest_less, rest_below, top_permitted, word_none, word_clean}
-use Rattle.slot_check.proofs.is_number.Goals.{Else-low-ne0, Joined-left-ne3, then-left-ne3, else-left-ne3}
+use Rattle.slot_check.proofs.is_number.Goals.{Else-low-ne0, Joined-left-ne3, then-left-ne3+else-not-permitted, else-left-ne3}
 use Rattle.slot_check.proofs.is_number.Goals as goal
 
 pub returns-then-low-ne0 : goal.returns-then-low-ne0
@@ -25,7 +25,7 @@ module _ (e : Else-low-ne0) where
   number = take 10 e.args.slot.now
 
   bytes : Bytes number
-  bytes = bytes_take 10 e.args.slot.now (λ i. omega (arith, e.shared_slice_known-1.given i))
+  bytes = bytes_take 10 e.args.slot.now (λ i. omega (arith, e.type_inv.slot i))
 
   ten : length number ≡ 10
   ten = let h = e.requires in length-take-le 10 e.args.slot.now (omega arith)
@@ -71,8 +71,8 @@ loop-left-smaller c =
 seen : (c : Joined-left-ne3) → permitted_of (c.loop-left.left / 72057594037927936) ≡ true
 seen c =
     elim c.if-left-ne3.branch [
-      | then-left-ne3 w ↦ sym w.permitted.ensures ∙ w.if-not-permitted.false
-      | else-left-ne3 w ↦ top_permitted c.loop-left.left w.if-left-ne3.false
+      then-left-ne3+else-not-permitted w ↦ sym w.permitted.ensures ∙ w.if-not-permitted.false
+    | else-left-ne3 w ↦ top_permitted c.loop-left.left w.if-left-ne3.false
     ]
 
 pub loop-left-preserved : goal.loop-left-preserved

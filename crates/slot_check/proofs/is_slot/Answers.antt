@@ -23,7 +23,7 @@ is_number-requires c = c.if-slot-ne-SLOT.false
 -- the number was looked at
 module _ (n : After-is_number) where
   bytes : Bytes n.args.slot.now
-  bytes i = omega (arith, n.shared_slice_known-2-1.given i)
+  bytes i = omega (arith, n.type_inv.slot i)
 
   refused : n.is_number.result ≡ false → false ≡ is_slot n.args.slot.now
   refused t = slot_no_number n.args.slot.now n.if-slot-ne-SLOT.false bytes n.is_number.result n.is_number.ensures t
