@@ -1,7 +1,6 @@
 -- `slot_check::is_long` meets its contract.
 -- Assumes nothing.
 use native.Mathlib.Omega.{arith}
-use borrow.Author.Rules.{rules}
 use Rattle.slot_check.specs.Number.{number_none, number_full, number_rest}
 use Rattle.slot_check.proofs.is_long.Goals as goal
 

@@ -2,17 +2,14 @@
 -- Assumes nothing.
 use mathlib.Core.Path.{◌≡◌, sym, ◌∙◌, subst⁻¹}
 use mathlib.Core.Bool.{true}
-use mathlib.Core.Logic.{⊎_elim}
 use mathlib.Core.List.{List}
 use Prim.Native.Nat.{ℕ, ◌/◌}
 use native.Mathlib.Omega.{arith}
 use lib.ListN.{length, take}
 use lib.Seq.{length-take-le}
-use borrow.Author.Tests.{not-true, not-false}
-use borrow.Author.Rules.{rules}
 use Rattle.syntax.specs.Bytes.{permitted_of}
 use Rattle.slots.specs.Words.{Bytes, high_of, low_of, bytes_take, high_take, low_take}
-use Rattle.slot_check.specs.Word.{Rest, live, rest_start, rest_end, rest_not, rest_on, rest_less, rest_below, top_permitted, word_none, word_clean}
+use Rattle.slot_check.specs.Word.{Rest, rest_start, rest_end, rest_not, rest_on, rest_less, rest_below, top_permitted, word_none, word_clean}
 use Rattle.slot_check.proofs.is_number.Goals.{Else-low-ne0, Joined-left-ne3, then-left-ne3+else-not-permitted, else-left-ne3}
 use Rattle.slot_check.proofs.is_number.Goals as goal
 
@@ -71,8 +68,8 @@ loop-left-smaller c =
 seen : (c : Joined-left-ne3) → permitted_of (c.loop-left.left / 72057594037927936) ≡ true
 seen c =
     elim c.if-left-ne3.branch [
-      then-left-ne3+else-not-permitted w ↦ sym w.permitted.ensures ∙ w.if-not-permitted.false
-    | else-left-ne3 w ↦ top_permitted c.loop-left.left w.if-left-ne3.false
+      | then-left-ne3+else-not-permitted w ↦ sym w.permitted.ensures ∙ w.if-not-permitted.false
+      | else-left-ne3 w ↦ top_permitted c.loop-left.left w.if-left-ne3.false
     ]
 
 pub loop-left-preserved : goal.loop-left-preserved

@@ -2,12 +2,9 @@
 -- Assumes nothing.
 use mathlib.Core.Path.{◌≡◌, sym, ◌∙◌}
 use mathlib.Core.Bool.{Bool, true, false}
-use mathlib.Core.List.{List}
 use Prim.Native.Nat.{ℕ}
 use native.Mathlib.Omega.{arith}
 use lib.ListN.{get_or, take, drop}
-use borrow.Author.Tests.{not-true, not-false}
-use borrow.Author.Rules.{rules}
 use Rattle.gaps.specs.Zero.{all_zero}
 use Rattle.slots.specs.Words.{Bytes}
 use Rattle.slot_check.specs.Slot.{is_slot, flags_fit, fits_put, fits_none, fits_no_flag, fits_both, fits_no_entry, fits_live, other_slot, slot_no_number, slot_number_fits}

@@ -1,12 +1,8 @@
 -- `slot_check::permitted_run` meets its contract. Invariant: those passed and those that still lead are all that lead.
 -- Assumes nothing.
-use mathlib.Core.Path.{◌≡◌, sym, ◌∙◌}
-use Prim.Native.Nat.{◌+◌, ◌-◌}
+use mathlib.Core.Path.{sym, ◌∙◌}
 use native.Mathlib.Omega.{arith}
 use native.Mathlib.Nat.{zero-add}
-use lib.ListN.{length, drop}
-use borrow.Author.Tests.{not-true, not-false}
-use borrow.Author.Rules.{rules}
 use Rattle.syntax.specs.Segment.{permitted_run}
 use Rattle.slot_check.specs.Number.{run_end, run_stop, run_on}
 use Rattle.slot_check.proofs.permitted_run.Goals as goal
