@@ -2,7 +2,6 @@
 -- Assumes nothing.
 use mathlib.Core.Path.{sym, ◌∙◌}
 use native.Mathlib.Omega.{arith}
-use borrow.Author.Rules.{rules}
 use Rattle.slots.specs.Words.{Bytes}
 use Rattle.checking.specs.Register.{other_buffer, window_outside, window_inside}
 use Rattle.checking.proofs.is_register.Goals.{After-shared_slice_known-1}

@@ -1,13 +1,11 @@
 -- `checking::is_room` meets its contract. Invariant: the slots left fit behind the number before exactly when the room is one.
 -- Assumes nothing.
-use mathlib.Core.List.{List}
-use Prim.Native.Nat.{ℕ, ◌-◌, ◌+◌, ◌≤◌}
+use Prim.Native.Nat.{◌+◌, ◌≤◌}
 use native.Mathlib.Omega.{arith}
 use lib.ListN.{length}
-use borrow.Author.Tests.{not-true, not-false}
 use borrow.Author.Rules.{rules}
 use Rattle.slots.specs.Words.{Bytes}
-use Rattle.checking.specs.Room.{Left, left_start, left_end, room_for_slot, left_unused, left_no_slot, left_on}
+use Rattle.checking.specs.Room.{left_start, left_end, room_for_slot, left_unused, left_no_slot, left_on}
 use Rattle.checking.proofs.is_room.Goals.{After-rises, In-loop-at}
 use Rattle.checking.proofs.is_room.Goals as goal
 
