@@ -12,4 +12,4 @@ returns-then-room-at-eq0 c = let a = c.args in live_none a.room.now a.at c.if-ro
 pub returns : goal.returns
 returns c =
     let g = c.close_gap in
-    live_put c.args.room.now c.args.at c.requires.0 c.requires.1 c.if-room-at-eq0.false (c.args.at + 140 - (c.args.at + 10)) g.new.0 (omega arith) g.ensures
+    live_put c.args.room.now c.args.at c.requires.0 c.requires.1 c.if-room-at-eq0.false (c.args.at + 140 - (c.args.at + 10)) g.new.b (omega arith) g.ensures

@@ -11,4 +11,4 @@ returns c =
     let a = c.args in
     let w = c.whole_slot-slot in
     let p = c.put_bytes in
-    move_put a.room.now a.from a.to c.requires.0 c.requires.1 (a.to + 140 - a.to) w.result p.new.0 (omega arith) w.ensures p.ensures.1
+    move_put a.room.now a.from a.to c.requires.0 c.requires.1 (a.to + 140 - a.to) w.result p.new.out (omega arith) w.ensures p.ensures.1

@@ -2,7 +2,6 @@
 -- Assumes nothing.
 use mathlib.Core.Path.{◌≡◌, refl, ◌∙◌}
 use mathlib.Core.List.{List}
-use mathlib.Core.Logic.{⊎_elim}
 use Prim.Native.Nat.{ℕ, ◌+◌, ◌-◌, ◌*◌, ◌≤◌}
 use native.Mathlib.Omega.{arith}
 use lib.ListN.{length, take, drop}
@@ -11,6 +10,7 @@ use Rattle.slots.specs.Slots.{slots_of}
 use Rattle.records.specs.Read.{used_within}
 use Rattle.entries.specs.Released.{SoFar, one_le, turn, used_stop, used_end, count_end, left_end}
 use borrow.Author.Rules.{rules}
+use Rattle.entries.proofs.release_room.Goals.{else-loop-k-test, then-loop-k-test+then-room-k-eq0}
 use Rattle.entries.proofs.release_room.Goals as goal
 
 pub overflow_mul-to : goal.overflow_mul-to
@@ -35,12 +35,12 @@ loop-k-preserved c =
     let t = c.settle-to in
     let o = c.pending_at-count in
     let f = c.settle_front-front in
-    let next : (s : List ℕ) → SoFar s f.new.0 f.result.slots (f.result.slots * 140) f.result.pending → SoFar s t.new.0 (l.k + 1) t.result (l.count + o.result) =
+    let next : (s : List ℕ) → SoFar s f.new.room f.result.slots (f.result.slots * 140) f.result.pending → SoFar s t.new.room (l.k + 1) t.result (l.count + o.result) =
     λ s u.
     let e = u.0 in
-    turn s l.room l.k l.to l.count (l.invariant.3 s u) (omega arith) c.if-room-k-eq0.false o.result t.result t.new.0 o.ensures t.auto.0 t.ensures in
+    turn s l.room l.k l.to l.count (l.invariant.3 s u) (omega arith) c.if-room-k-eq0.false o.result t.result t.new.room o.ensures t.auto.room (t.ensures.told, (t.ensures.left, t.ensures.behind)) in
     let v = next c.args.room.now f.ensures in
-    (t.auto.0 ∙ l.invariant.0, v.2, v.3, next)
+    (t.auto.room ∙ l.invariant.0, v.2, v.3, next)
 
 pub returns : goal.returns
 returns c =
@@ -52,7 +52,11 @@ returns c =
     let g = f.0 in
     let a = v.0 in
     let b = v.1 in
-    let e : leading (slots_of s) ≤ l.k = ⊎_elim (λ x. used_end s l.k l.room v.4 v.1 (let y = x.left in omega arith)) (λ x. used_stop s l.k l.room v.4 v.1 (let y = x.0.taken in omega arith) x.2.taken) c.loop-k-test.branch in
+    let e : leading (slots_of s) ≤ l.k =
+    elim c.loop-k-test.branch [
+      else-loop-k-test w ↦ used_end s l.k l.room v.4 v.1 (let y = w.loop-k-test.false in omega arith)
+    | then-loop-k-test+then-room-k-eq0 w ↦ used_stop s l.k l.room v.4 v.1 (let y = w.loop-k-test.true in omega arith) w.if-room-k-eq0.true
+    ] in
     record {
       told = count_end s l.k l.count e v.6;
       left = c.clear_from.ensures ∙ left_end s l.room l.k l.to v.0 (omega arith) e v.5;

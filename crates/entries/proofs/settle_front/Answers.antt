@@ -23,7 +23,7 @@ loop-k-preserved c =
     let l = c.loop-k in
     let m = c.make_live in
     let o = c.pending_at-count in
-    turn_here c.args.room.now l.room l.k l.count l.invariant c.loop-k-test.true c.if-room-k-eq0.false c.if-room-k-gt1.false o.result m.new.0 o.ensures m.auto.0 m.ensures
+    turn_here c.args.room.now l.room l.k l.count l.invariant c.loop-k-test.true c.if-room-k-eq0.false c.if-room-k-gt1.false o.result m.new.room o.ensures m.auto.room m.ensures
 
 pub returns-after-loop-k : goal.returns-after-loop-k
 returns-after-loop-k c = c.loop-k.invariant

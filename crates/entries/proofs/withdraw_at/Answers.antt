@@ -6,7 +6,9 @@ use borrow.Author.Rules.{rules}
 use Rattle.entries.proofs.withdraw_at.Goals as goal
 
 pub returns-then-room-at-eq0 : goal.returns-then-room-at-eq0
-returns-then-room-at-eq0 c = record { told = (left_none c.args.room.now c.args.at c.if-room-at-eq0.true).0; left = (left_none c.args.room.now c.args.at c.if-room-at-eq0.true).1 }
+returns-then-room-at-eq0 c =
+    let w = left_none c.args.room.now c.args.at c.if-room-at-eq0.true in
+    record { told = w.0; left = w.1 }
 
 pub returns-then-room-at-eq0-2 : goal.returns-then-room-at-eq0-2
 returns-then-room-at-eq0-2 c =

@@ -17,7 +17,9 @@ use Rattle.entries.proofs.withdraw_number.Goals.{In-At}
 use Rattle.entries.proofs.withdraw_number.Goals as goal
 
 pub returns-then-not-is_number : goal.returns-then-not-is_number
-returns-then-not-is_number c = record { told = (found_no c.args.room.now c.args.number.now (sym c.is_number.ensures ∙ c.if-not-is_number.true)).0; left = (found_no c.args.room.now c.args.number.now (sym c.is_number.ensures ∙ c.if-not-is_number.true)).1 }
+returns-then-not-is_number c =
+    let w = found_no c.args.room.now c.args.number.now (sym c.is_number.ensures ∙ c.if-not-is_number.true) in
+    record { told = w.0; left = w.1 }
 
 pub filled_up-filled-requires : goal.filled_up-filled-requires
 filled_up-filled-requires c = number_most c.args.number.now (sym c.is_number.ensures ∙ c.if-not-is_number.false)
@@ -49,4 +51,6 @@ returns-in-At c =
 
 pub returns-in-Gap : goal.returns-in-Gap
 returns-in-Gap c =
-    let a = c.args in record { told = (found_gap a.room.now a.number.now (sym c.is_number.ensures ∙ c.if-not-is_number.false) c.find.result (c.find.ensures ∙ ap (find_of a.room.now) c.filled_up-filled.ensures) c.in-Gap.field-0 c.in-Gap.is).0; left = (found_gap a.room.now a.number.now (sym c.is_number.ensures ∙ c.if-not-is_number.false) c.find.result (c.find.ensures ∙ ap (find_of a.room.now) c.filled_up-filled.ensures) c.in-Gap.field-0 c.in-Gap.is).1 }
+    let a = c.args in
+    let w = found_gap a.room.now a.number.now (sym c.is_number.ensures ∙ c.if-not-is_number.false) c.find.result (c.find.ensures ∙ ap (find_of a.room.now) c.filled_up-filled.ensures) c.in-Gap.field-0 c.in-Gap.is in
+    record { told = w.0; left = w.1 }

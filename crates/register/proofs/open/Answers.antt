@@ -16,12 +16,17 @@ use Rattle.register.proofs.open.Goals as goal
 
 pub returns-then-b-ne-LENGTH : goal.returns-then-b-ne-LENGTH
 unfolding opened_answer
-returns-then-b-ne-LENGTH c = let a = c.args in record { told = (open_length a.b.now a.first a.t3 c.if-b-ne-LENGTH.true).0; left = (open_length a.b.now a.first a.t3 c.if-b-ne-LENGTH.true).1 }
+returns-then-b-ne-LENGTH c =
+    let a = c.args in
+    let w = open_length a.b.now a.first a.t3 c.if-b-ne-LENGTH.true in
+    record { told = w.0; left = w.1 }
 
 pub returns-in_default : goal.returns-in_default
 unfolding opened_answer
 returns-in_default c =
-    let a = c.args in record { told = (open_date a.b.now a.first a.t3 c.if-b-ne-LENGTH.false (number_unknown a.first (sym c.day_number.ensures ∙ c.in_default.is))).0; left = (open_date a.b.now a.first a.t3 c.if-b-ne-LENGTH.false (number_unknown a.first (sym c.day_number.ensures ∙ c.in_default.is))).1 }
+    let a = c.args in
+    let w = open_date a.b.now a.first a.t3 c.if-b-ne-LENGTH.false (number_unknown a.first (sym c.day_number.ensures ∙ c.in_default.is)) in
+    record { told = w.0; left = w.1 }
 
 pub returns-then-day : goal.returns-then-day
 unfolding opened_answer

@@ -9,10 +9,14 @@ use borrow.Author.Rules.{rules}
 use Rattle.shown.proofs.show_record.Goals as goal
 
 pub returns-then-room-k : goal.returns-then-room-k
-returns-then-room-k c = record { told = (past_shown c.args.room.now c.args.out.now c.args.k c.if-room-k.true).0; left = (past_shown c.args.room.now c.args.out.now c.args.k c.if-room-k.true).1 }
+returns-then-room-k c =
+    let w = past_shown c.args.room.now c.args.out.now c.args.k c.if-room-k.true in
+    record { told = w.0; left = w.1 }
 
 pub returns-then-room-at-eq0 : goal.returns-then-room-at-eq0
-returns-then-room-at-eq0 c = record { told = (unused_shown c.args.room.now c.args.out.now c.args.k (omega arith) c.if-room-at-eq0.true).0; left = (unused_shown c.args.room.now c.args.out.now c.args.k (omega arith) c.if-room-at-eq0.true).1 }
+returns-then-room-at-eq0 c =
+    let w = unused_shown c.args.room.now c.args.out.now c.args.k (omega arith) c.if-room-at-eq0.true in
+    record { told = w.0; left = w.1 }
 
 pub overflow_add-text_end : goal.overflow_add-text_end
 overflow_add-text_end c = let a = c.args in let n = number_least a.room.now (a.k * 140) c.before_zero-number.result (a.k * 140 + 10 - a.k * 140) (omega arith) c.before_zero-number.ensures in omega arith

@@ -26,7 +26,10 @@ overflow_add-live c =
     omega arith
 
 pub returns-then-out-live : goal.returns-then-out-live
-returns-then-out-live c = let a = c.args in record { told = (shown_short a.slot.now a.number.now a.out.now c.live_length-live.result c.pending_length-pending.result c.requires.1 c.live_length-live.ensures c.pending_length-pending.ensures c.if-out-live.true).0; left = (shown_short a.slot.now a.number.now a.out.now c.live_length-live.result c.pending_length-pending.result c.requires.1 c.live_length-live.ensures c.pending_length-pending.ensures c.if-out-live.true).1 }
+returns-then-out-live c =
+    let a = c.args in
+    let w = shown_short a.slot.now a.number.now a.out.now c.live_length-live.result c.pending_length-pending.result c.requires.1 c.live_length-live.ensures c.pending_length-pending.ensures c.if-out-live.true in
+    record { told = w.0; left = w.1 }
 
 pub returns : goal.returns
 returns c =
