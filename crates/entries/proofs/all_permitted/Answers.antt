@@ -1,14 +1,7 @@
 -- `entries::all_permitted` meets its contract. Invariant: the rest is permitted exactly when all is.
 -- Assumes nothing.
-use mathlib.Core.Path.{◌≡◌, refl, ◌∙◌}
-use Prim.Native.Nat.{◌-◌}
-use native.Mathlib.Omega.{arith}
-use borrow.Author.Tests.{not-true, not-false}
-use lib.ListN.{length, drop}
-use Rattle.laws.specs.Choice.{all}
-use Rattle.syntax.specs.Bytes.{permitted_of}
+use mathlib.Core.Path.{◌∙◌}
 use Rattle.entries.specs.Withdrawing.{permitted_not, permitted_on, permitted_end}
-use borrow.Author.Rules.{rules}
 use Rattle.entries.proofs.all_permitted.Goals as goal
 
 pub returns-then-not-permitted : goal.returns-then-not-permitted

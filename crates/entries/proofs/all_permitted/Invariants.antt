@@ -1,14 +1,10 @@
 -- `entries::all_permitted` meets its contract. Invariant: the rest is permitted exactly when all is.
 -- Assumes nothing.
-use mathlib.Core.Path.{◌≡◌, refl, ◌∙◌}
+use mathlib.Core.Path.{◌≡◌}
 use Prim.Native.Nat.{◌-◌}
-use native.Mathlib.Omega.{arith}
-use borrow.Author.Tests.{not-true, not-false}
 use lib.ListN.{length, drop}
 use Rattle.laws.specs.Choice.{all}
 use Rattle.syntax.specs.Bytes.{permitted_of}
-use Rattle.entries.specs.Withdrawing.{permitted_not, permitted_on, permitted_end}
-use borrow.Author.Rules.{rules}
 use Rattle.entries.proofs.all_permitted.Given as goal
 
 abbrev pub invariant-loop-i : goal.invariant-loop-i

@@ -2,7 +2,6 @@
 -- Assumes nothing.
 use mathlib.Core.Path.{◌∙◌}
 use Rattle.entries.specs.Withdrawing.{filled}
-use borrow.Author.Rules.{rules}
 use Rattle.entries.proofs.filled_up.Goals as goal
 
 pub returns : goal.returns

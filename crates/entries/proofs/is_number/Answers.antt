@@ -2,7 +2,6 @@
 -- Assumes nothing.
 use mathlib.Core.Path.{◌∙◌}
 use Rattle.entries.specs.Withdrawing.{number_none, number_long, number_is}
-use borrow.Author.Rules.{rules}
 use Rattle.entries.proofs.is_number.Goals as goal
 
 pub returns-then-text-lt1 : goal.returns-then-text-lt1

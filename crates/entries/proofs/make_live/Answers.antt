@@ -3,7 +3,6 @@
 use Prim.Native.Nat.{◌+◌, ◌-◌}
 use native.Mathlib.Omega.{arith}
 use Rattle.entries.specs.Released.{live_none, live_put}
-use borrow.Author.Rules.{rules}
 use Rattle.entries.proofs.make_live.Goals as goal
 
 pub returns-then-room-at-eq0 : goal.returns-then-room-at-eq0

@@ -3,7 +3,6 @@
 use Prim.Native.Nat.{◌+◌, ◌-◌}
 use native.Mathlib.Omega.{arith}
 use Rattle.entries.specs.Released.{move_put}
-use borrow.Author.Rules.{rules}
 use Rattle.entries.proofs.move_slot.Goals as goal
 
 pub returns : goal.returns

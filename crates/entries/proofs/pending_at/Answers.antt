@@ -1,7 +1,6 @@
 -- `entries::pending_at` meets its contract.
 -- Assumes nothing.
 use Rattle.entries.specs.Released.{one_none, one_some}
-use borrow.Author.Rules.{rules}
 use Rattle.entries.proofs.pending_at.Goals as goal
 
 pub returns-then-room-at-eq0 : goal.returns-then-room-at-eq0

@@ -1,15 +1,14 @@
 -- `entries::release_room` meets its contract. Invariant: of whatever room the slots before the loop were released, so are those that it has passed.
 -- Assumes nothing.
-use mathlib.Core.Path.{◌≡◌, refl, ◌∙◌}
+use mathlib.Core.Path.{refl, ◌∙◌}
 use mathlib.Core.List.{List}
-use Prim.Native.Nat.{ℕ, ◌+◌, ◌-◌, ◌*◌, ◌≤◌}
+use Prim.Native.Nat.{ℕ, ◌+◌, ◌*◌, ◌≤◌}
 use native.Mathlib.Omega.{arith}
-use lib.ListN.{length, take, drop}
+use lib.ListN.{take, drop}
 use Rattle.slots.specs.Rising.{leading}
 use Rattle.slots.specs.Slots.{slots_of}
 use Rattle.records.specs.Read.{used_within}
 use Rattle.entries.specs.Released.{SoFar, one_le, turn, used_stop, used_end, count_end, left_end}
-use borrow.Author.Rules.{rules}
 use Rattle.entries.proofs.release_room.Goals.{else-loop-k-test, then-loop-k-test+then-room-k-eq0}
 use Rattle.entries.proofs.release_room.Goals as goal
 
@@ -54,8 +53,8 @@ returns c =
     let b = v.1 in
     let e : leading (slots_of s) ≤ l.k =
     elim c.loop-k-test.branch [
-      else-loop-k-test w ↦ used_end s l.k l.room v.4 v.1 (let y = w.loop-k-test.false in omega arith)
-    | then-loop-k-test+then-room-k-eq0 w ↦ used_stop s l.k l.room v.4 v.1 (let y = w.loop-k-test.true in omega arith) w.if-room-k-eq0.true
+      | else-loop-k-test w ↦ used_end s l.k l.room v.4 v.1 (let y = w.loop-k-test.false in omega arith)
+      | then-loop-k-test+then-room-k-eq0 w ↦ used_stop s l.k l.room v.4 v.1 (let y = w.loop-k-test.true in omega arith) w.if-room-k-eq0.true
     ] in
     record {
       told = count_end s l.k l.count e v.6;

@@ -1,7 +1,6 @@
 -- `entries::settle` meets its contract.
 -- Assumes nothing.
 use Rattle.entries.specs.Released.{settle_gone, settle_kept}
-use borrow.Author.Rules.{rules}
 use Rattle.entries.proofs.settle.Goals as goal
 
 pub returns-then-room-from-gt1 : goal.returns-then-room-from-gt1

@@ -4,7 +4,6 @@ use native.Mathlib.Omega.{arith}
 use mathlib.Core.Path.{◌∙◌}
 use Prim.Native.Nat.{◌+◌, ◌-◌}
 use Rattle.entries.specs.Released.{whole}
-use borrow.Author.Rules.{rules}
 use Rattle.entries.proofs.whole_slot.Goals as goal
 
 pub returns : goal.returns

@@ -2,7 +2,6 @@
 -- Assumes nothing.
 use mathlib.Core.Path.{◌∙◌}
 use Rattle.entries.specs.Withdrawing.{left_none, left_out, left_live}
-use borrow.Author.Rules.{rules}
 use Rattle.entries.proofs.withdraw_at.Goals as goal
 
 pub returns-then-room-at-eq0 : goal.returns-then-room-at-eq0

@@ -2,17 +2,14 @@
 -- Assumes nothing.
 use mathlib.Core.Path.{◌≡◌, sym, ◌∙◌, ap}
 use mathlib.Core.Bool.{true}
-use mathlib.Core.List.{List}
-use Prim.Native.Nat.{ℕ, ◌/◌, ◌<◌}
+use Prim.Native.Nat.{◌/◌, ◌<◌}
 use native.Mathlib.Omega.{arith}
-use borrow.Author.Tests.{not-true, not-false}
 use lib.ListN.{length}
 use Rattle.laws.specs.Filled.{filled_up}
 use Rattle.slots.specs.Find.{find_of}
 use Rattle.contents.specs.Contents.{good_number}
 use Rattle.rooms.specs.Order.{number_most}
 use Rattle.entries.specs.Withdrawing.{found_no, found_at, found_gap, found_within}
-use borrow.Author.Rules.{rules}
 use Rattle.entries.proofs.withdraw_number.Goals.{In-At}
 use Rattle.entries.proofs.withdraw_number.Goals as goal
 

@@ -1,10 +1,8 @@
 -- `shown::before_zero` meets its contract. Invariant: the bytes passed and those before the next zero make up the answer.
 -- Assumes nothing.
-use mathlib.Core.Path.{◌≡◌, sym, ◌∙◌}
-use Prim.Native.Nat.{◌+◌, ◌-◌}
+use mathlib.Core.Path.{sym, ◌∙◌}
 use native.Mathlib.Nat.{zero-add}
-use native.Mathlib.Omega.{arith}
-use lib.ListN.{length, drop}
+use lib.ListN.{length}
 use Rattle.contents.specs.Written.{up_to_zero}
 use Rattle.shown.specs.Laws.{zero_here, zero_later, zero_never}
 use Rattle.shown.proofs.before_zero.Goals as goal

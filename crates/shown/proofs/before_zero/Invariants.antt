@@ -1,12 +1,9 @@
 -- `shown::before_zero` meets its contract. Invariant: the bytes passed and those before the next zero make up the answer.
 -- Assumes nothing.
-use mathlib.Core.Path.{◌≡◌, sym, ◌∙◌}
+use mathlib.Core.Path.{◌≡◌}
 use Prim.Native.Nat.{◌+◌, ◌-◌}
-use native.Mathlib.Nat.{zero-add}
-use native.Mathlib.Omega.{arith}
 use lib.ListN.{length, drop}
 use Rattle.contents.specs.Written.{up_to_zero}
-use Rattle.shown.specs.Laws.{zero_here, zero_later, zero_never}
 use Rattle.shown.proofs.before_zero.Given as goal
 
 abbrev pub invariant-loop-i : goal.invariant-loop-i

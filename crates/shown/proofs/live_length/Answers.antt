@@ -1,7 +1,6 @@
 -- `shown::live_length` meets its contract.
 -- Assumes nothing.
 use Rattle.shown.specs.Laws.{live_length_none, live_size}
-use borrow.Author.Rules.{rules}
 use Rattle.shown.proofs.live_length.Goals as goal
 
 pub returns-then-slot-eq0 : goal.returns-then-slot-eq0

@@ -1,7 +1,6 @@
 -- `shown::pending_length` meets its contract.
 -- Assumes nothing.
 use Rattle.shown.specs.Laws.{pending_length_none, put_size, del_size}
-use borrow.Author.Rules.{rules}
 use Rattle.shown.proofs.pending_length.Goals as goal
 
 pub returns-then-slot-eq0 : goal.returns-then-slot-eq0

@@ -7,7 +7,6 @@ use lib.ListN.{length}
 use Rattle.laws.specs.Put.{put_at}
 use Rattle.calendar.specs.Written.{day_characters}
 use Rattle.shown.specs.Laws.{line_put}
-use borrow.Author.Rules.{rules}
 use Rattle.shown.proofs.put_line.Goals as goal
 
 pub returns : goal.returns

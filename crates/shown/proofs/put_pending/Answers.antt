@@ -4,7 +4,6 @@ use native.Mathlib.Omega.{arith}
 use mathlib.Core.Path.{◌∙◌, ap}
 use Rattle.laws.specs.Put.{put_at}
 use Rattle.shown.specs.Laws.{pending_put_none, put_size, put_is, del_size, del_is}
-use borrow.Author.Rules.{rules}
 use Rattle.shown.proofs.put_pending.Goals as goal
 
 pub returns-then-slot-eq0 : goal.returns-then-slot-eq0

@@ -5,7 +5,6 @@ use native.Mathlib.Omega.{arith}
 use Prim.Native.Nat.{◌+◌, ◌-◌, ◌*◌}
 use Rattle.contents.specs.Calls.{shown_answer, shown_bytes}
 use Rattle.shown.specs.Laws.{past_shown, unused_shown, used_shown, number_least, number_part, length_slot}
-use borrow.Author.Rules.{rules}
 use Rattle.shown.proofs.show_record.Goals as goal
 
 pub returns-then-room-k : goal.returns-then-room-k

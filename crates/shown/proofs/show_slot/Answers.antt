@@ -8,7 +8,6 @@ use Rattle.laws.specs.Put.{put_at}
 use Rattle.contents.specs.Written.{pending_in}
 use Rattle.contents.specs.Calls.{pending_line}
 use Rattle.shown.specs.Laws.{number_ten, live_most, pending_most, shown_short, shown_fits}
-use borrow.Author.Rules.{rules}
 use Rattle.shown.proofs.show_slot.Goals as goal
 
 pub live_length-live-requires : goal.live_length-live-requires
