@@ -18,28 +18,32 @@ pub returns-then-b-ne-LENGTH : goal.returns-then-b-ne-LENGTH
 unfolding opened_answer
 returns-then-b-ne-LENGTH c =
     let a = c.args in
-    let w = open_length a.b.now a.first a.t3 c.if-b-ne-LENGTH.true in
+    let w = open_length a.b.now a.first a.quotas c.if-b-ne-LENGTH.true in
     record { told = w.0; left = w.1 }
 
 pub returns-in_default : goal.returns-in_default
 unfolding opened_answer
 returns-in_default c =
     let a = c.args in
-    let w = open_date a.b.now a.first a.t3 c.if-b-ne-LENGTH.false (number_unknown a.first (sym c.day_number.ensures ∙ c.in_default.is)) in
+    let w = open_date a.b.now a.first a.quotas c.if-b-ne-LENGTH.false (number_unknown a.first (sym c.day_number.ensures ∙ c.in_default.is)) in
     record { told = w.0; left = w.1 }
 
 pub returns-then-day : goal.returns-then-day
 unfolding opened_answer
 returns-then-day c =
     let a = c.args in
-    let d = number_known a.first (sym c.day_number.ensures ∙ c.in-Day.is) in record { told = (open_window a.b.now a.first a.t3 c.if-b-ne-LENGTH.false d.0 c.in-Day.day (sym d.1) (omega arith)).0; left = (open_window a.b.now a.first a.t3 c.if-b-ne-LENGTH.false d.0 c.in-Day.day (sym d.1) (omega arith)).1 }
+    let d = number_known a.first (sym c.day_number.ensures ∙ c.in-Day.is) in
+    let w = open_window a.b.now a.first a.quotas c.if-b-ne-LENGTH.false d.0 c.in-Day.day (sym d.1) (omega arith) in
+    record { told = w.0; left = w.1 }
 
 pub returns-then-total_of-gt256 : goal.returns-then-total_of-gt256
 unfolding opened_answer
 returns-then-total_of-gt256 c =
     let a = c.args in
     let d = number_known a.first (sym c.day_number.ensures ∙ c.in-Day.is) in
-    let e : length a.t3 ≡ 8 = search rules in record { told = (open_quotas a.b.now a.first a.t3 c.if-b-ne-LENGTH.false d.0 c.in-Day.day (sym d.1) (omega arith) e c.total_of.result c.total_of.ensures c.if-total_of-gt256.true).0; left = (open_quotas a.b.now a.first a.t3 c.if-b-ne-LENGTH.false d.0 c.in-Day.day (sym d.1) (omega arith) e c.total_of.result c.total_of.ensures c.if-total_of-gt256.true).1 }
+    let e : length a.quotas ≡ 8 = search rules in
+    let w = open_quotas a.b.now a.first a.quotas c.if-b-ne-LENGTH.false d.0 c.in-Day.day (sym d.1) (omega arith) e c.total_of.result c.total_of.ensures c.if-total_of-gt256.true in
+    record { told = w.0; left = w.1 }
 
 pub returns : goal.returns
 unfolding opened_answer
@@ -47,11 +51,11 @@ returns c =
     let a = c.args in
     let d = number_known a.first (sym c.day_number.ensures ∙ c.in-Day.is) in
     let n = c.in-Day.day in
-    let e : length a.t3 ≡ 8 = search rules in
+    let e : length a.quotas ≡ 8 = search rules in
     let w : n ≤ 39665 = omega arith in
     record {
-      told = open_answer_lem a.b.now a.first a.t3 c.if-b-ne-LENGTH.false d.0 n (sym d.1) w e c.total_of.result c.total_of.ensures c.if-total_of-gt256.false;
+      told = open_answer_lem a.b.now a.first a.quotas c.if-b-ne-LENGTH.false d.0 n (sym d.1) w e c.total_of.result c.total_of.ensures c.if-total_of-gt256.false;
       left = c.clear_from.ensures
-          ∙ open_bytes_lem a.b.now a.first a.t3 c.if-b-ne-LENGTH.false d.0 n (sym d.1) w e c.total_of.result c.total_of.ensures c.if-total_of-gt256.false c.put_quotas.new.b
-          (c.put_quotas.ensures ∙ ap (λ (l : List ℕ). put_at l 2 (joined (map two_bytes a.t3))) c.put_number.ensures);
+          ∙ open_bytes_lem a.b.now a.first a.quotas c.if-b-ne-LENGTH.false d.0 n (sym d.1) w e c.total_of.result c.total_of.ensures c.if-total_of-gt256.false c.put_quotas.new.b
+          (c.put_quotas.ensures ∙ ap (λ (l : List ℕ). put_at l 2 (joined (map two_bytes a.quotas))) c.put_number.ensures);
     }

@@ -19,7 +19,7 @@ pub loop-k-preserved : goal.loop-k-preserved
 loop-k-preserved c =
     let l = c.loop-k in
     let a = c.args in (
-      c.put_number.auto.0 ∙ l.invariant.0,
+      c.put_number.auto.b ∙ l.invariant.0,
       omega arith,
       c.put_number.ensures ∙ quotas_turn a.quotas.now a.b.now l.b l.k c.wide.result (omega arith) (omega arith) c.wide.ensures.0 l.invariant.2,
     )

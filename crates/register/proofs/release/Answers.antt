@@ -42,19 +42,19 @@ module _ (r : After-room_end-end) where
   is_register_lem : is_register r.args.b.now ≡ true
   is_register_lem = sym r.is_register.ensures ∙ r.if-not-is_register.false
 
-  is_account : is_account r.args.account ≡ true
-  is_account = sym r.is_account.ensures ∙ r.if-not-is_account.false
+  is_account_lem : is_account r.args.account ≡ true
+  is_account_lem = sym r.is_account.ensures ∙ r.if-not-is_account.false
 
   order : r.room_start-start.result ≤ r.room_end-end.result
   order =
-      let h = room_from r.args.b.now is_register_lem r.args.account is_account in
+      let h = room_from r.args.b.now is_register_lem r.args.account is_account_lem in
       let f = r.room_start-start.ensures in
       let t = r.room_end-end.ensures in
       omega arith
 
   inside : r.room_end-end.result ≤ length r.args.b.now
   inside =
-      let h = room_within r.args.b.now is_register_lem r.args.account is_account in
+      let h = room_within r.args.b.now is_register_lem r.args.account is_account_lem in
       let t = r.room_end-end.ensures in
       omega arith
 
@@ -62,15 +62,24 @@ pub slice_bounds-release_room-count : goal.slice_bounds-release_room-count
 slice_bounds-release_room-count c = order (goal.at.slice_bounds-release_room-count c).After-room_end-end
 
 pub slice_bounds-release_room-start : goal.slice_bounds-release_room-start
-slice_bounds-release_room-start c = let h = order (goal.at.slice_bounds-release_room-start c).After-room_end-end in let k = inside (goal.at.slice_bounds-release_room-start c).After-room_end-end in search rules
+slice_bounds-release_room-start c =
+    let r = (goal.at.slice_bounds-release_room-start c).After-room_end-end in
+    let h = order r in
+    let k = inside r in
+    search rules
 
 pub slice_bounds-release_room-end : goal.slice_bounds-release_room-end
-slice_bounds-release_room-end c = let h = order (goal.at.slice_bounds-release_room-end c).After-room_end-end in let k = inside (goal.at.slice_bounds-release_room-end c).After-room_end-end in search rules
+slice_bounds-release_room-end c =
+    let r = (goal.at.slice_bounds-release_room-end c).After-room_end-end in
+    let h = order r in
+    let k = inside r in
+    search rules
 
 pub returns : goal.returns
 unfolding released_answer
 returns c =
+    let r = (goal.at.returns c).After-room_end-end in
     record {
-      told = release_answer c.args.b.now (is_register_lem (goal.at.returns c).After-room_end-end) c.args.account (is_account (goal.at.returns c).After-room_end-end) c.room_start-start.result c.room_end-end.result c.room_start-start.ensures c.room_end-end.ensures c.release_room-entries.result c.release_room-entries.ensures.told;
-      left = release_bytes c.args.b.now (is_register_lem (goal.at.returns c).After-room_end-end) c.args.account (is_account (goal.at.returns c).After-room_end-end) c.room_start-start.result c.room_end-end.result c.room_start-start.ensures c.room_end-end.ensures c.release_room-entries.new.room c.release_room-entries.ensures.left;
+      told = release_answer c.args.b.now (is_register_lem r) c.args.account (is_account_lem r) c.room_start-start.result c.room_end-end.result c.room_start-start.ensures c.room_end-end.ensures c.release_room-entries.result c.release_room-entries.ensures.told;
+      left = release_bytes c.args.b.now (is_register_lem r) c.args.account (is_account_lem r) c.room_start-start.result c.room_end-end.result c.room_start-start.ensures c.room_end-end.ensures c.release_room-entries.new.room c.release_room-entries.ensures.left;
     }

@@ -42,19 +42,19 @@ module _ (r : After-room_end-to) where
   is_register_lem : is_register r.args.b.now ≡ true
   is_register_lem = sym r.is_register.ensures ∙ r.if-not-is_register.false
 
-  is_account : is_account r.args.account ≡ true
-  is_account = sym r.is_account.ensures ∙ r.if-not-is_account.false
+  is_account_lem : is_account r.args.account ≡ true
+  is_account_lem = sym r.is_account.ensures ∙ r.if-not-is_account.false
 
   order : r.room_start-from.result ≤ r.room_end-to.result
   order =
-      let h = room_from r.args.b.now is_register_lem r.args.account is_account in
+      let h = room_from r.args.b.now is_register_lem r.args.account is_account_lem in
       let f = r.room_start-from.ensures in
       let t = r.room_end-to.ensures in
       omega arith
 
   inside : r.room_end-to.result ≤ length r.args.b.now
   inside =
-      let h = room_within r.args.b.now is_register_lem r.args.account is_account in
+      let h = room_within r.args.b.now is_register_lem r.args.account is_account_lem in
       let t = r.room_end-to.ensures in
       omega arith
 
@@ -62,15 +62,24 @@ pub slice_bounds-show_record-count : goal.slice_bounds-show_record-count
 slice_bounds-show_record-count c = order (goal.at.slice_bounds-show_record-count c).After-room_end-to
 
 pub slice_bounds-show_record-start : goal.slice_bounds-show_record-start
-slice_bounds-show_record-start c = let h = order (goal.at.slice_bounds-show_record-start c).After-room_end-to in let k = inside (goal.at.slice_bounds-show_record-start c).After-room_end-to in search rules
+slice_bounds-show_record-start c =
+    let r = (goal.at.slice_bounds-show_record-start c).After-room_end-to in
+    let h = order r in
+    let k = inside r in
+    search rules
 
 pub slice_bounds-show_record-end : goal.slice_bounds-show_record-end
-slice_bounds-show_record-end c = let h = order (goal.at.slice_bounds-show_record-end c).After-room_end-to in let k = inside (goal.at.slice_bounds-show_record-end c).After-room_end-to in search rules
+slice_bounds-show_record-end c =
+    let r = (goal.at.slice_bounds-show_record-end c).After-room_end-to in
+    let h = order r in
+    let k = inside r in
+    search rules
 
 pub returns : goal.returns
 returns c =
+    let r = (goal.at.returns c).After-room_end-to in
     let a = c.args in
     record {
-      told = show_answer_lem c.args.b.now (is_register_lem (goal.at.returns c).After-room_end-to) c.args.account (is_account (goal.at.returns c).After-room_end-to) c.room_start-from.result c.room_end-to.result c.room_start-from.ensures c.room_end-to.ensures a.k a.out.now _ (c.as_shown.ensures ∙ c.show_record.ensures.told);
-      left = show_output c.args.b.now (is_register_lem (goal.at.returns c).After-room_end-to) c.args.account (is_account (goal.at.returns c).After-room_end-to) c.room_start-from.result c.room_end-to.result c.room_start-from.ensures c.room_end-to.ensures a.k a.out.now c.show_record.new.out c.show_record.ensures.left;
+      told = show_answer_lem c.args.b.now (is_register_lem r) c.args.account (is_account_lem r) c.room_start-from.result c.room_end-to.result c.room_start-from.ensures c.room_end-to.ensures a.k a.out.now _ (c.as_shown.ensures ∙ c.show_record.ensures.told);
+      left = show_output c.args.b.now (is_register_lem r) c.args.account (is_account_lem r) c.room_start-from.result c.room_end-to.result c.room_start-from.ensures c.room_end-to.ensures a.k a.out.now c.show_record.new.out c.show_record.ensures.left;
     }
