@@ -3,7 +3,6 @@
 use mathlib.Core.Path.{sym}
 use Rattle.register.specs.Register.{record_answer}
 use Rattle.shown.specs.Shown.{lines_answer}
-use borrow.Author.Rules.{rules}
 use Rattle.register.proofs.as_shown.Goals as goal
 
 pub returns-in-Bytes : goal.returns-in-Bytes

@@ -1,12 +1,8 @@
 -- `register::put_quotas` meets its contract. Invariant: the first k quotas stand behind the first two bytes.
 -- Assumes nothing.
-use mathlib.Core.Path.{◌≡◌, refl, ◌∙◌}
-use Prim.Native.Nat.{◌-◌, ◌≤◌}
+use mathlib.Core.Path.{refl, ◌∙◌}
 use native.Mathlib.Omega.{arith}
-use lib.ListN.{length}
-use Rattle.laws.specs.Put.{put_at}
-use Rattle.register.specs.Opening.{quota_le, quotas_to, quotas_start, quotas_turn, quotas_end}
-use borrow.Author.Rules.{rules}
+use Rattle.register.specs.Opening.{quota_le, quotas_start, quotas_turn, quotas_end}
 use Rattle.register.proofs.put_quotas.Goals as goal
 
 pub loop-k-init : goal.loop-k-init

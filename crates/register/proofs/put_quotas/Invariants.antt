@@ -1,12 +1,10 @@
 -- `register::put_quotas` meets its contract. Invariant: the first k quotas stand behind the first two bytes.
 -- Assumes nothing.
-use mathlib.Core.Path.{◌≡◌, refl, ◌∙◌}
+use mathlib.Core.Path.{◌≡◌}
 use Prim.Native.Nat.{◌-◌, ◌≤◌}
-use native.Mathlib.Omega.{arith}
 use lib.ListN.{length}
 use Rattle.laws.specs.Put.{put_at}
-use Rattle.register.specs.Opening.{quota_le, quotas_to, quotas_start, quotas_turn, quotas_end}
-use borrow.Author.Rules.{rules}
+use Rattle.register.specs.Opening.{quotas_to}
 use Rattle.register.proofs.put_quotas.Given as goal
 
 abbrev pub invariant-loop-k : goal.invariant-loop-k

@@ -1,13 +1,9 @@
 -- `register::total_of` meets its contract. Invariant: the sum and what is left of the quotas make up the total.
 -- Assumes nothing.
-use mathlib.Core.Path.{◌≡◌}
-use Prim.Native.Nat.{◌+◌, ◌-◌, ◌*◌, ◌≤◌}
 use native.Mathlib.Nat.{zero-add}
 use native.Mathlib.Omega.{arith}
-use lib.ListN.{length, drop}
 use Rattle.laws.specs.Joined.{total}
 use Rattle.register.specs.Opening.{total_turn, total_end}
-use borrow.Author.Rules.{rules}
 use Rattle.register.proofs.total_of.Goals as goal
 
 pub loop-k-init : goal.loop-k-init

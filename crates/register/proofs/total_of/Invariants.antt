@@ -2,12 +2,8 @@
 -- Assumes nothing.
 use mathlib.Core.Path.{◌≡◌}
 use Prim.Native.Nat.{◌+◌, ◌-◌, ◌*◌, ◌≤◌}
-use native.Mathlib.Nat.{zero-add}
-use native.Mathlib.Omega.{arith}
 use lib.ListN.{length, drop}
 use Rattle.laws.specs.Joined.{total}
-use Rattle.register.specs.Opening.{total_turn, total_end}
-use borrow.Author.Rules.{rules}
 use Rattle.register.proofs.total_of.Given as goal
 
 abbrev pub invariant-loop-k : goal.invariant-loop-k
