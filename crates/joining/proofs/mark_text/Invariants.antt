@@ -16,6 +16,9 @@ use Rattle.joining.specs.Eights.{lead_on, byte_on, rest_on}
 use Rattle.joining.specs.Gathered.{eight_days}
 use Rattle.joining.proofs.mark_text.Given as goal
 
+abbrev pub on : List ℕ → ℕ → Bool
+on text k = eqb (get_or text k 0) 49
+
 abbrev pub invariant-loop-word : goal.invariant-loop-word
 invariant-loop-word l =
     ((l.at + l.k) % 8 ≡ 0) × (length l.days ≡ length l.initial.days) × (marked (on l.text) l.days l.at l.k (l.n - l.k) ≡ marked (on l.text) l.initial.days l.at l.initial.k (l.n - l.initial.k))

@@ -14,6 +14,9 @@ use Rattle.joining.specs.Marks.{mark_ends}
 use Rattle.joining.specs.Eights.{lead_on, byte_on, rest_on, next_days}
 use Rattle.joining.proofs.mark_weekdays.Given as goal
 
+abbrev pub on : ℕ → ℕ → ℕ → Bool
+on week first k = has_bit week (weekday_of (first + k))
+
 abbrev pub invariant-loop-i : goal.invariant-loop-i
 invariant-loop-i l =
     (l.at ≤ 8 * l.i) × (8 * l.i ≤ l.at + l.n + 8) × (length l.days ≡ length l.initial.days) × (l.eight < 256) × ((j : ℕ) → j < 8 → has_bit l.eight j ≡ on l.week l.first (8 * l.i - l.at + j))
