@@ -1,0 +1,21 @@
+-- `write_characters` meets its contract.
+-- Assumes nothing.
+use native.Mathlib.Omega.{arith}
+use Rattle.calendar.specs.Parts.{characters_refused, characters_put}
+use borrow.Author.Rules.{rules}
+use Rattle.calendar.proofs.day_string.write_characters.Goals as goal
+
+pub returns-then-out-lt32 : goal.returns-then-out-lt32
+returns-then-out-lt32 c =
+    let a = c.args in
+    characters_refused a.days.now a.first a.last a.n a.out.now (omega arith)
+
+pub returns-then-out-n : goal.returns-then-out-n
+returns-then-out-n c =
+    let a = c.args in
+    characters_refused a.days.now a.first a.last a.n a.out.now (omega arith)
+
+pub returns : goal.returns
+returns c =
+    let a = c.args in
+    characters_put a.days.now a.first a.last a.n a.out.now (omega arith) c.put_start.ensures c.put_bytes.ensures.1 c.put_days.ensures c.put_bytes-2.ensures.1

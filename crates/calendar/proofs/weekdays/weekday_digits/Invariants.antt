@@ -1,0 +1,17 @@
+-- `weekday_digits` meets its contract: the digits placed, and those of the weekdays left, are all the digits.
+-- Assumes nothing.
+use mathlib.Core.Path.{◌≡◌, refl, sym, ◌∙◌}
+use mathlib.Core.List.{◌++◌}
+use Prim.Native.Nat.{◌-◌, ◌%◌, ◌≤◌, ◌<◌}
+use native.Mathlib.Omega.{arith}
+use lib.ListN.{length, take, length-set}
+use Rattle.calendar.specs.Days.{has_bit}
+use Rattle.calendar.specs.Written.{digits_from}
+use Rattle.calendar.specs.WeekLaws.{one_small, digit_step, digits_end}
+use Rattle.calendar.proofs.weekdays.weekday_digits.Given as goal
+
+abbrev pub invariant-loop-weekday : goal.invariant-loop-weekday
+invariant-loop-weekday l = (l.count < l.weekday) × (l.weekday ≤ 8) × (length l.bytes ≡ 7) × (take l.count l.bytes ++ digits_from (has_bit l.week) l.weekday (8 - l.weekday) ≡ digits_from (has_bit l.week) 1 7)
+
+abbrev pub decreases-loop-weekday : goal.decreases-loop-weekday
+decreases-loop-weekday l = 8 - l.weekday

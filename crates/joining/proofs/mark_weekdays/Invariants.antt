@@ -1,0 +1,23 @@
+-- `mark_weekdays` meets its contract.
+-- Assumes nothing.
+use mathlib.Core.Path.{◌≡◌, refl, sym, ap, ◌∙◌}
+use mathlib.Core.Bool.{Bool}
+use Prim.Native.Nat.{ℕ, ◌+◌, ◌-◌, ◌*◌, ◌/◌, ◌%◌, ◌≤◌, ◌<◌}
+use native.Mathlib.Omega.{arith}
+use borrow.Author.Rules.{rules}
+use lib.Bits.{bit_or}
+use lib.ListN.{length, get_or, set, length-set}
+use Rattle.dates.specs.Days.{weekday_of}
+use Rattle.calendar.specs.Days.{has_bit}
+use Rattle.joining.specs.Joined.{marked}
+use Rattle.joining.specs.Marks.{mark_ends}
+use Rattle.joining.specs.Eights.{lead_on, byte_on, rest_on, next_days}
+use Rattle.joining.proofs.mark_weekdays.Given as goal
+
+abbrev pub invariant-loop-i : goal.invariant-loop-i
+invariant-loop-i l =
+    (l.at ≤ 8 * l.i) × (8 * l.i ≤ l.at + l.n + 8) × (length l.days ≡ length l.initial.days) × (l.eight < 256) × ((j : ℕ) → j < 8 → has_bit l.eight j ≡ on l.week l.first (8 * l.i - l.at + j))
+    × (marked (on l.week l.first) l.days l.at (8 * l.i - l.at) (l.n - (8 * l.i - l.at)) ≡ marked (on l.week l.first) l.initial.days l.at (8 * l.initial.i - l.at) (l.n - (8 * l.initial.i - l.at)))
+
+abbrev pub decreases-loop-i : goal.decreases-loop-i
+decreases-loop-i l = l.last - l.i

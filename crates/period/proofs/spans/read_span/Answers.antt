@@ -1,0 +1,24 @@
+-- `read_span` meets its contract.
+-- Assumes nothing.
+use mathlib.Core.Path.{sym, ◌∙◌}
+use borrow.Author.Rules.{rules}
+use Rattle.period.specs.Tests.{not_long, no_stroke, no_first, no_last, two_dates}
+use Rattle.period.proofs.spans.read_span.Goals as goal
+
+pub returns-then-text-ne21 : goal.returns-then-text-ne21
+returns-then-text-ne21 c = not_long c.args.text.now c.if-text-ne21.true
+
+pub returns-then-text-ne47 : goal.returns-then-text-ne47
+returns-then-text-ne47 c = no_stroke c.args.text.now c.if-text-ne21.false c.if-text-ne47.true
+
+pub returns-in_default : goal.returns-in_default
+returns-in_default c =
+    no_first c.args.text.now c.if-text-ne21.false c.if-text-ne47.false (sym c.read_date.ensures ∙ c.in_default.is)
+
+pub returns-in_default-read_date : goal.returns-in_default-read_date
+returns-in_default-read_date c =
+    no_last c.args.text.now c.if-text-ne21.false c.if-text-ne47.false (sym c.read_date.ensures ∙ c.in-Valid.is) (sym c.read_date-2.ensures ∙ c.in_default-read_date.is)
+
+pub returns : goal.returns
+returns c =
+    c.days_between.ensures ∙ two_dates c.args.text.now c.if-text-ne21.false c.if-text-ne47.false (sym c.read_date.ensures ∙ c.in-Valid.is) (sym c.read_date-2.ensures ∙ c.in-Valid-read_date.is)

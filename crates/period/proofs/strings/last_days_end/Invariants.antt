@@ -1,0 +1,17 @@
+-- `last_days_end` meets its contract.
+-- Assumes nothing.
+use mathlib.Core.Path.{◌≡◌, refl, ◌∙◌}
+use Prim.Native.Nat.{◌+◌, ◌-◌}
+use native.Mathlib.Omega.{arith}
+use borrow.Author.Rules.{rules}
+use lib.ListN.{length, drop}
+use Rattle.laws.specs.Leads.{run_of}
+use Rattle.period.specs.Period.{zero_or_one}
+use Rattle.period.specs.Strings.{run_below, run_above, run_goes, run_ends}
+use Rattle.period.proofs.strings.last_days_end.Given as goal
+
+abbrev pub invariant-loop-i : goal.invariant-loop-i
+invariant-loop-i l = l.i + run_of zero_or_one (drop l.i l.g) ≡ l.from + run_of zero_or_one (drop l.from l.g)
+
+abbrev pub decreases-loop-i : goal.decreases-loop-i
+decreases-loop-i l = length l.g - l.i
