@@ -1,6 +1,6 @@
 -- `all_lines` is safe and ends.
 -- Assumes nothing.
-use Rattle.std.proofs.Common.{◌-◌, ◌≤◌, arith}
+use Rattle.std.proofs.Common.{◌-◌, ◌≤◌}
 use Rattle.every_date.proofs.all_lines.Given as goal
 
 abbrev pub invariant-loop-turn : goal.invariant-loop-turn
