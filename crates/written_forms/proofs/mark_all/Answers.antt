@@ -1,10 +1,8 @@
 -- `mark_all` is safe and ends.
 -- Assumes nothing.
-use mathlib.Core.Path.{◌≡◌, refl}
-use Prim.Native.Nat.{◌-◌, ◌≤◌}
+use mathlib.Core.Path.{refl}
 use borrow.Author.Rules.{rules}
 use native.Mathlib.Omega.{arith}
-use lib.ListN.{length}
 use Rattle.written_forms.proofs.mark_all.Goals as goal
 
 pub loop-k-init : goal.loop-k-init

@@ -2,7 +2,6 @@
 -- Assumes nothing.
 use mathlib.Core.Path.{sym}
 use lib.Seq.{length-take-le}
-use borrow.Author.Rules.{rules}
 use Rattle.written_forms.proofs.print.Goals as goal
 
 pub slice_bounds-say_line-end : goal.slice_bounds-say_line-end
