@@ -2,7 +2,7 @@
 -- Assumes nothing.
 use mathlib.Core.Path.{refl}
 use borrow.Author.Tests.{not-true, not-false}
-use Rattle.parcels.specs.Advancing.{Upto, left_of, upto_start, upto_size, upto_within, upto_standing, upto_on, upto_less, upto_held, advanced}
+use Rattle.parcels.specs.Advancing.{upto_start, upto_size, upto_within, upto_standing, upto_on, upto_less, upto_held, advanced}
 use Rattle.parcels.proofs.advance.advance.Goals as goal
 
 pub loop-x-init : goal.loop-x-init

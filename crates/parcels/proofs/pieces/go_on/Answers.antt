@@ -2,15 +2,12 @@
 -- Assumes nothing.
 use mathlib.Core.Path.{◌≡◌, sym, ap, ◌∙◌}
 use mathlib.Core.Bool.{false}
-use mathlib.Core.List.{List}
-use Prim.Native.Nat.{ℕ, ◌-◌, ◌<◌, min}
+use Prim.Native.Nat.{◌-◌, min}
 use native.Mathlib.Omega.{arith}
 use lib.ListN.{length}
 use Rattle.interchange.specs.Reader.{is_closed}
-use Rattle.parcels.specs.declared.passing.Progress.{Progress}
 use Rattle.parcels.specs.Onward.{named_at}
 use Rattle.parcels.specs.NextPiece.{Taken, most_taken, went_none, went_three, went_closed, went_unended, next_ready, went_on}
-use borrow.Author.Rules.{rules}
 use Rattle.parcels.proofs.pieces.go_on.Goals.{After-least-n}
 use Rattle.parcels.proofs.pieces.go_on.Goals as goal
 
@@ -23,8 +20,6 @@ module _ (m : After-least-n) where
   most =
       most_taken m.args.parcel.now m.args.x m.args.store.now m.args.rows.now m.requires.0 m.if-left-eq0.false m.if-arrived-ge-INTERCHANGE.false m.least-n.result
       (m.least-n.ensures ∙ ap (min (length m.args.parcel.now - m.args.x.at)) m.least.ensures)
-
-
 
 pub returns-then-left-eq0 : goal.returns-then-left-eq0
 returns-then-left-eq0 c =

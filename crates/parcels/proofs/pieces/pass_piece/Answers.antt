@@ -3,7 +3,6 @@
 use mathlib.Core.Path.{sym, ◌∙◌}
 use Prim.Native.Nat.{◌+◌}
 use Rattle.parcels.specs.NextPiece.{onward_front, piece_long, piece_ready, one_ready, one_onward, stretch_ready}
-use borrow.Author.Rules.{rules}
 use Rattle.parcels.proofs.pieces.pass_piece.Goals as goal
 
 pub slice_bounds-pass_cut-end : goal.slice_bounds-pass_cut-end
