@@ -4,7 +4,6 @@ use mathlib.Core.Path.{sym, ap, ◌∙◌}
 use mathlib.Core.Bool.{true}
 use mathlib.Core.List.{List}
 use Prim.Native.Nat.{ℕ}
-use borrow.Author.Rules.{rules}
 use lib.ListN.{length}
 use Rattle.parts.specs.Places.{bytes_of}
 use Rattle.period.specs.Period.{period_of}
@@ -16,9 +15,8 @@ use Rattle.joining.proofs.join_period.Goals as goal
 pub join_form-requires : goal.join_form-requires
 join_form-requires c =
     let a = c.args in
-    let v = c.first-1.given in
     ap (period_of true) c.bytes_of.ensures
-    ∙ good_old a.wish (bytes_of a.s.now a.segment) v.0.0 v.0.1.0 v.0.1.1.0 (sym c.read_period.ensures.period ∙ v.1)
+    ∙ good_old a.wish (bytes_of a.s.now a.segment) c.in-Good.first c.in-Good.n c.in-Good.form (sym c.read_period.ensures.period ∙ c.in-Good.is)
 
 pub returns-in-Wrong : goal.returns-in-Wrong
 returns-in-Wrong c =
@@ -34,10 +32,9 @@ pub returns-in-Good : goal.returns-in-Good
 returns-in-Good c =
     let a = c.args in
     let g = bytes_of a.s.now a.segment in
-    let v = c.first-1.given in
     let j = c.join_form.ensures in
-    let d = j.1 ∙ ap (λ (x : List ℕ). window_days a.days.now a.origin x v.0.0 v.0.1.0 v.0.1.1.0) c.bytes_of.ensures in
-    let w = good_told a.wish a.days.now a.origin g (sym c.read_period.ensures.period ∙ v.1) (j.0, d) in
+    let d = j.1 ∙ ap (λ (x : List ℕ). window_days a.days.now a.origin x c.in-Good.first c.in-Good.n c.in-Good.form) c.bytes_of.ensures in
+    let w = good_told a.wish a.days.now a.origin g (sym c.read_period.ensures.period ∙ c.in-Good.is) (j.0, d) in
     record {
       told = w;
       said = join_said a.wish a.segment.from (length a.days.now) a.origin g w.0;

@@ -1,35 +1,29 @@
 -- `mark_text` meets its contract.
 -- Assumes nothing.
 use mathlib.Core.Path.{◌≡◌, refl, sym, ap, ◌∙◌}
-use mathlib.Core.Bool.{Bool}
-use mathlib.Core.List.{List}
 use Prim.Native.Nat.{ℕ, ◌+◌, ◌-◌, ◌*◌, ◌/◌, ◌%◌, ◌≤◌, ◌<◌}
 use native.Mathlib.Omega.{arith}
-use borrow.Author.Rules.{rules}
-use lib.Dec.{eqb}
-use lib.ListN.{length, get_or, length-set}
+use lib.ListN.{length, length-set}
 use Rattle.raw_bytes.specs.Eights.{Eights, eights_known, fewer_known}
 use Rattle.calendar.specs.Days.{has_bit}
 use Rattle.joining.specs.Joined.{marked}
 use Rattle.joining.specs.Marks.{mark_ends}
 use Rattle.joining.specs.Eights.{lead_on, byte_on, rest_on}
 use Rattle.joining.specs.Gathered.{eight_days}
+use Rattle.joining.proofs.mark_text.Invariants.{on}
 use Rattle.joining.proofs.mark_text.Goals.{At-loop-word, In-Word, In_default, Start}
 use Rattle.joining.proofs.mark_text.Goals as goal
-
-abbrev on : List ℕ → ℕ → Bool
-on text k = eqb (get_or text k 0) 49
 
 -- where the loop stands: the days fit in the calendar, and those up to the first byte's end are marked
 module _ (o : At-loop-word) where
   room : o.args.at + length o.args.text.now ≤ 8 * length o.loop-word.days
   room =
       let e = o.loop-word.invariant.1 in
-      let k = o.mark_bits.kept.0 in
+      let k = o.mark_bits.auto.days in
       let p = o.requires in
       omega arith
 
-  led : marked (on o.args.text.now) o.mark_bits.last.0 o.args.at (8 - o.args.at % 8) (length o.args.text.now - (8 - o.args.at % 8))
+  led : marked (on o.args.text.now) o.mark_bits.new.days o.args.at (8 - o.args.at % 8) (length o.args.text.now - (8 - o.args.at % 8))
       ≡ marked (on o.args.text.now) o.args.days.now o.args.at 0 (length o.args.text.now)
   led =
       let a = o.args in
@@ -64,7 +58,7 @@ loop-word-init c = (omega arith, refl, refl)
 
 pub shape_of-days-then-n-k : goal.shape_of-days-then-n-k
 shape_of-days-then-n-k c =
-    c.loop-word.invariant.1 ∙ c.mark_bits.kept.0
+    c.loop-word.invariant.1 ∙ c.mark_bits.auto.days
 
 pub returns-then-n-k : goal.returns-then-n-k
 returns-then-n-k c =
@@ -84,7 +78,7 @@ mark_bits-requires-in_default c =
 
 pub shape_of-days-in_default : goal.shape_of-days-in_default
 shape_of-days-in_default c =
-    c.mark_bits-in_default.auto.0 ∙ c.loop-word.invariant.1 ∙ c.mark_bits.kept.0
+    c.mark_bits-in_default.auto.days ∙ c.loop-word.invariant.1 ∙ c.mark_bits.auto.days
 
 pub returns-in_default : goal.returns-in_default
 returns-in_default c =
@@ -119,6 +113,6 @@ loop-word-preserved c =
     let l = c.loop-word in (
       omega arith,
       simp length-set l.invariant.1,
-      byte_on (on a.text.now) l.days a.at (length a.text.now) c.eight_bits.result l.k ((a.at + l.k) / 8) (λ i. omega (arith, c.type_inv.days i)) (omega (arith, c.eight_bits.type_inv)) refl l.invariant.0 (found (goal.at.loop-word-preserved c).In-Word).inside (room (goal.at.loop-word-preserved c).At-loop-word)
+      byte_on (on a.text.now) l.days a.at (length a.text.now) c.eight_bits.result l.k ((a.at + l.k) / 8) (λ i. omega (arith, c.slice_known-in-loop-word-1.given i)) (omega (arith, c.eight_bits.type_inv)) refl l.invariant.0 (found (goal.at.loop-word-preserved c).In-Word).inside (room (goal.at.loop-word-preserved c).At-loop-word)
           (λ j h. ap (λ (x : ℕ). has_bit x j) c.eight_bits.ensures ∙ eight_days a.text.now l.k (found (goal.at.loop-word-preserved c).In-Word) c.requires.3 j h) ∙ l.invariant.2,
     )

@@ -1,10 +1,8 @@
 -- `mark_weekdays` meets its contract.
 -- Assumes nothing.
 use mathlib.Core.Path.{◌≡◌, refl, sym, ap, ◌∙◌}
-use mathlib.Core.Bool.{Bool}
-use Prim.Native.Nat.{ℕ, ◌+◌, ◌-◌, ◌*◌, ◌/◌, ◌%◌, ◌≤◌, ◌<◌}
+use Prim.Native.Nat.{ℕ, ◌+◌, ◌-◌, ◌*◌, ◌/◌, ◌%◌, ◌≤◌}
 use native.Mathlib.Omega.{arith}
-use borrow.Author.Rules.{rules}
 use lib.Bits.{bit_or}
 use lib.ListN.{length, get_or, set, length-set}
 use Rattle.dates.specs.Days.{weekday_of}
@@ -12,11 +10,9 @@ use Rattle.calendar.specs.Days.{has_bit}
 use Rattle.joining.specs.Joined.{marked}
 use Rattle.joining.specs.Marks.{mark_ends}
 use Rattle.joining.specs.Eights.{lead_on, byte_on, rest_on, next_days}
+use Rattle.joining.proofs.mark_weekdays.Invariants.{on}
 use Rattle.joining.proofs.mark_weekdays.Goals.{At-loop-i, Start}
 use Rattle.joining.proofs.mark_weekdays.Goals as goal
-
-abbrev on : ℕ → ℕ → ℕ → Bool
-on week first k = has_bit week (weekday_of (first + k))
 
 shifted : (week first k j : ℕ) → has_bit week (weekday_of (first + k + j)) ≡ on week first (k + j)
 shifted week first k j = let e : first + k + j ≡ first + (k + j) = omega arith in rw e
@@ -34,16 +30,16 @@ module _ (o : At-loop-i) where
   room : o.args.at + o.args.n ≤ 8 * length o.loop-i.days
   room =
       let e = o.loop-i.invariant.2 in
-      let k = o.mark_bits.kept.0 in
+      let k = o.mark_bits.auto.days in
       let p = o.requires in
       omega arith
 
-  led : marked (on o.args.week o.args.first) o.mark_bits.last.0 o.args.at (8 * ((o.args.at + (8 - o.args.at % 8)) / 8) - o.args.at)
+  led : marked (on o.args.week o.args.first) o.mark_bits.new.days o.args.at (8 * ((o.args.at + (8 - o.args.at % 8)) / 8) - o.args.at)
       (o.args.n - (8 * ((o.args.at + (8 - o.args.at % 8)) / 8) - o.args.at))
       ≡ marked (on o.args.week o.args.first) o.args.days.now o.args.at 0 o.args.n
   led =
       let a = o.args in
-      ap (λ (k : ℕ). marked (on a.week a.first) o.mark_bits.last.0 a.at k (a.n - k)) (sym (lead_is a.at))
+      ap (λ (k : ℕ). marked (on a.week a.first) o.mark_bits.new.days a.at k (a.n - k)) (sym (lead_is a.at))
       ∙ lead_on (on a.week a.first) a.days.now a.at a.n o.eight_days.result (8 - a.at % 8)
       (λ j h. o.eight_days.ensures j (omega arith))
       (o.mark_bits.ensures ∙ ap (marked (has_bit o.eight_days.result) a.days.now a.at 0) o.shorter.ensures)
@@ -76,12 +72,12 @@ loop-i-preserved c =
       omega (arith, c.next_eight-eight.type_inv),
       λ j h. next_days a.week a.first (8 * l.i - a.at) l.eight c.next_eight-eight.result l.invariant.4 c.next_eight-eight.ensures j h ∙ ap (λ (k : ℕ). on a.week a.first (k + j)) (sym m),
       ap (λ (k : ℕ). marked (on a.week a.first) (set l.days l.i (bit_or (get_or l.days l.i 0) l.eight)) a.at k (a.n - k)) m
-          ∙ byte_on (on a.week a.first) l.days a.at a.n l.eight (8 * l.i - a.at) l.i (λ i. omega (arith, c.type_inv.days i)) l.invariant.3 (omega arith) (omega arith) (omega arith) (room (goal.at.loop-i-preserved c).At-loop-i) l.invariant.4
+          ∙ byte_on (on a.week a.first) l.days a.at a.n l.eight (8 * l.i - a.at) l.i (λ i. omega (arith, c.slice_known-in-loop-i-1.given i)) l.invariant.3 (omega arith) (omega arith) (omega arith) (room (goal.at.loop-i-preserved c).At-loop-i) l.invariant.4
           ∙ l.invariant.5,
     )
 
 pub shape_of-days-then-n-k : goal.shape_of-days-then-n-k
-shape_of-days-then-n-k c = c.loop-i.invariant.2 ∙ c.mark_bits.auto.0
+shape_of-days-then-n-k c = c.loop-i.invariant.2 ∙ c.mark_bits.auto.days
 
 pub returns-then-n-k : goal.returns-then-n-k
 returns-then-n-k c =
@@ -95,7 +91,7 @@ mark_bits-requires-2 c =
 
 pub shape_of-days : goal.shape_of-days
 shape_of-days c =
-    c.mark_bits-2.auto.0 ∙ c.loop-i.invariant.2 ∙ c.mark_bits.auto.0
+    c.mark_bits-2.auto.days ∙ c.loop-i.invariant.2 ∙ c.mark_bits.auto.days
 
 pub returns : goal.returns
 returns c =
