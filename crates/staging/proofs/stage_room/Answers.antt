@@ -1,12 +1,10 @@
 -- `stage_room` meets its contract.
 -- Assumes nothing.
-use mathlib.Core.Path.{◌≡◌, sym, ap, ◌∙◌}
+use mathlib.Core.Path.{sym, ap, ◌∙◌}
 use Prim.Native.Nat.{ℕ}
-use borrow.Author.Tests.{not-true, not-false}
-use lib.ListN.{length, replicate, length-replicate}
+use lib.ListN.{replicate, length-replicate}
 use Rattle.service_tests.specs.Tests.{totals_answer}
 use Rattle.staging.specs.Closing.{room_unremoved, room_refused, room_over, room_done, room_ordered}
-use borrow.Author.Rules.{rules}
 use Rattle.staging.proofs.stage_room.Goals as goal
 
 pub returns-then-not-fits : goal.returns-then-not-fits
