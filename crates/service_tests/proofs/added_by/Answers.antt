@@ -1,7 +1,6 @@
 -- `added_by` meets its contract.
 -- Assumes nothing.
 use native.Mathlib.Omega.{arith}
-use borrow.Author.Rules.{rules}
 use Rattle.service_tests.specs.Ways.{adds_record}
 use Rattle.service_tests.proofs.added_by.Goals as goal
 

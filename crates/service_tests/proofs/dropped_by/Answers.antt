@@ -1,7 +1,6 @@
 -- `dropped_by` meets its contract.
 -- Assumes nothing.
 use native.Mathlib.Omega.{arith}
-use borrow.Author.Rules.{rules}
 use Rattle.service_tests.specs.Ways.{drops_live, drops_nothing}
 use Rattle.service_tests.proofs.dropped_by.Goals as goal
 

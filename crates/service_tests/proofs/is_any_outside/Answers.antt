@@ -1,7 +1,6 @@
 -- `is_any_outside` meets its contract.
 -- Assumes nothing.
 use mathlib.Core.Path.{sym, ap, ◌∙◌}
-use borrow.Author.Rules.{rules}
 use Rattle.stages.specs.Stage.{outside_by}
 use Rattle.service_tests.specs.Ways.{period_read}
 use Rattle.service_tests.proofs.is_any_outside.Goals as goal

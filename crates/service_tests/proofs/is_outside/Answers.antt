@@ -1,7 +1,6 @@
 -- `is_outside` meets its contract.
 -- Assumes nothing.
 use mathlib.Core.Path.{sym, ap, ◌∙◌}
-use borrow.Author.Rules.{rules}
 use Rattle.period.specs.Pops.{pop_told_lem}
 use Rattle.stages.specs.Stage.{outside_by}
 use Rattle.service_tests.proofs.is_outside.Goals as goal

@@ -1,6 +1,5 @@
 -- `is_unknown` meets its contract.
 -- Assumes nothing.
-use borrow.Author.Rules.{rules}
 use Rattle.service_tests.specs.Ways.{unknown_nothing}
 use Rattle.service_tests.proofs.is_unknown.Goals as goal
 

@@ -3,7 +3,6 @@
 use mathlib.Core.Bool.{true}
 use Rattle.services.specs.Services.{periods_from}
 use Rattle.service_entries.specs.Ways.{days_are}
-use borrow.Author.Rules.{rules}
 use Rattle.service_tests.proofs.join_days.Goals as goal
 
 pub returns : goal.returns

@@ -3,7 +3,6 @@
 use mathlib.Core.Path.{sym, ap, ◌∙◌}
 use Rattle.syntax.specs.Segment.{body_at}
 use Rattle.service_tests.specs.Orders.{is_outside, join_told}
-use borrow.Author.Rules.{rules}
 use Rattle.service_tests.proofs.join_one.Goals as goal
 
 pub returns-in-Outside : goal.returns-in-Outside

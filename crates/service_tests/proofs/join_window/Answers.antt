@@ -2,18 +2,10 @@
 -- Assumes nothing.
 use mathlib.Core.Path.{◌≡◌, refl, sym, ◌∙◌}
 use mathlib.Core.Bool.{true}
-use mathlib.Core.List.{map}
-use Prim.Native.Nat.{ℕ, ◌+◌, ◌-◌}
+use Prim.Native.Nat.{◌+◌}
 use native.Mathlib.Omega.{arith}
-use borrow.Author.Rules.{rules}
-use lib.ListN.{length}
-use Rattle.laws.specs.Choice.{either}
-use Rattle.syntax.specs.Segment.{body_at}
-use Rattle.joining.specs.Joined.{join_all}
-use Rattle.services.specs.Rows.{row_count}
 use Rattle.services.specs.Services.{periods_from}
 use Rattle.services.specs.Ways.{NextPeriod, period_found, period_gone}
-use Rattle.stages.specs.Stage.{first_outside}
 use Rattle.service_entries.specs.Ways.{join_none}
 use Rattle.service_tests.specs.Orders.{join_next, some≢none}
 use Rattle.service_tests.specs.Ways.{outside_none, outside_here, outside_on, any_of, any_period, any_on, any_done}

@@ -1,7 +1,6 @@
 -- `test_known` meets its contract.
 -- Assumes nothing.
 use mathlib.Core.Path.{◌∙◌}
-use borrow.Author.Rules.{rules}
 use Rattle.service_entries.specs.Room.{held_at}
 use Rattle.service_tests.specs.Ways.{known_refused, known_counted}
 use Rattle.service_tests.proofs.test_known.Goals as goal

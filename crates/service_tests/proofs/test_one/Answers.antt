@@ -4,7 +4,6 @@ use mathlib.Core.Path.{sym, ap, ◌∙◌}
 use Rattle.service_entries.specs.Room.{held_at}
 use Rattle.service_tests.specs.declared.Window.{Window}
 use Rattle.service_tests.specs.Tests.{window_found, test_known, test_inside}
-use borrow.Author.Rules.{rules}
 use Rattle.service_tests.proofs.test_one.Goals as goal
 
 pub returns-in-Inside : goal.returns-in-Inside

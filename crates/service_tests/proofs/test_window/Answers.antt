@@ -1,13 +1,10 @@
 -- `test_window` meets its contract.
 -- Assumes nothing.
-use mathlib.Core.Path.{◌≡◌, refl, sym, ◌∙◌}
-use Prim.Native.Nat.{ℕ, ◌+◌, ◌-◌}
+use mathlib.Core.Path.{sym, ◌∙◌}
+use Prim.Native.Nat.{◌+◌}
 use native.Mathlib.Omega.{arith}
-use borrow.Author.Rules.{rules}
-use Rattle.services.specs.Rows.{row_count}
 use Rattle.services.specs.Services.{periods_from}
 use Rattle.services.specs.Ways.{NextPeriod, period_found, period_gone}
-use Rattle.stages.specs.Stage.{first_outside}
 use Rattle.service_tests.specs.Ways.{outside_none, outside_here, outside_on}
 use Rattle.service_tests.proofs.test_window.Goals.{After-is_outside, At-loop-k, Start}
 use Rattle.service_tests.proofs.test_window.Goals as goal

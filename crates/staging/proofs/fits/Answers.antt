@@ -1,6 +1,5 @@
 -- `fits` meets its contract.
 -- Assumes nothing.
-use borrow.Author.Rules.{rules}
 use Rattle.records.specs.Read.{used_within}
 use Rattle.staging.specs.Closing.{fits_fewer, fits_more}
 use Rattle.staging.proofs.fits.Goals as goal

@@ -3,7 +3,6 @@
 use mathlib.Core.Path.{◌≡◌, sym, ap, subst, ◌∙◌}
 use native.Mathlib.Omega.{arith}
 use Prim.Native.Nat.{ℕ}
-use borrow.Author.Rules.{rules}
 use lib.ListN.{length, replicate, length-replicate}
 use Rattle.interchange.specs.Reader.{read_answer}
 use Rattle.staging.specs.Few.{Rows, read_refused, read_rows, few_rows}
@@ -36,6 +35,9 @@ returns-in-Rows c =
 pub returns-in-Refused : goal.returns-in-Refused
 returns-in-Refused c =
     let l : length {A = ℕ} (replicate 45000 0) ≡ 45000 = length-replicate {A = ℕ} 45000 0 in
-    let y = c.in-Refused.refusal in record { told = (read_stops c.args.b.now c.args.account c.requires.0 c.requires.1 c.args.wish c.args.s.now y
-    (read_refused c.args.wish c.args.s.now (replicate 45000 0) l y (sym c.read.ensures.told ∙ ap read_answer c.in-Refused.is))).0; left = (read_stops c.args.b.now c.args.account c.requires.0 c.requires.1 c.args.wish c.args.s.now y
-    (read_refused c.args.wish c.args.s.now (replicate 45000 0) l y (sym c.read.ensures.told ∙ ap read_answer c.in-Refused.is))).1 }
+    let y = c.in-Refused.refusal in record {
+      told = (read_stops c.args.b.now c.args.account c.requires.0 c.requires.1 c.args.wish c.args.s.now y
+          (read_refused c.args.wish c.args.s.now (replicate 45000 0) l y (sym c.read.ensures.told ∙ ap read_answer c.in-Refused.is))).0;
+      left = (read_stops c.args.b.now c.args.account c.requires.0 c.requires.1 c.args.wish c.args.s.now y
+          (read_refused c.args.wish c.args.s.now (replicate 45000 0) l y (sym c.read.ensures.told ∙ ap read_answer c.in-Refused.is))).1;
+    }

@@ -2,7 +2,6 @@
 -- Assumes nothing.
 use mathlib.Core.Path.{refl}
 use Rattle.service_tests.specs.Marks.{is_marked}
-use borrow.Author.Rules.{rules}
 use Rattle.service_tests.proofs.numbers.set_mark.Goals as goal
 
 pub returns : goal.returns
