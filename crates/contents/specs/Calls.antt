@@ -1,7 +1,7 @@
 -- What each call does, on the account's own view: the window's first date, its quota and its records. What another account holds is no
 -- argument of any definition here. Document 01, "The register"; stage is in the crate `staging`.
 -- Assumes nothing.
-use Rattle.std.specs.Prelude.{ℕ, zero, suc, ◌+◌, ◌-◌, Bool, true, false, List, [], ◌∷◌, ◌++◌, map, eqb, leb, length, get_or, set, replicate}
+use Rattle.std.specs.Prelude.{ℕ, zero, suc, ◌+◌, ◌-◌, Bool, true, false, List, [], ◌∷◌, ◌++◌, eqb, leb, length, get_or, set, replicate}
 use Rattle.std.proofs.Math.Option.{Option, none, some}
 use Rattle.laws.specs.Choice.{pick, both}
 use Rattle.laws.specs.Put.{put_at}

@@ -1,6 +1,6 @@
 -- "Dates are `yyyy-mm-dd`": a date as ten bytes, read and written.
 -- Assumes nothing.
-use Rattle.std.specs.Prelude.{ℕ, ◌+◌, ◌-◌, ◌*◌, ◌/◌, ◌%◌, Bool, List, [], ◌∷◌, eqb, leb, get_or, length}
+use Rattle.std.specs.Prelude.{ℕ, ◌+◌, ◌-◌, ◌*◌, ◌/◌, Bool, List, [], ◌∷◌, eqb, leb, get_or, length}
 use Rattle.laws.specs.Choice.{pick, both}
 use Rattle.laws.specs.Decimal.{digit}
 use Rattle.dates.specs.Dates.{made_of}

@@ -17,7 +17,7 @@ use Rattle.laws.specs.Put.{put_at, put_front}
 use Rattle.laws.specs.Filled.{filled_up}
 use Rattle.gaps.specs.Zero.{zero_from}
 use Rattle.gaps.specs.Move.{closed, closed_in, closed_fits}
-use Rattle.slots.specs.Slots.{slots_of, length_slots, slot_at}
+use Rattle.slots.specs.Slots.{slots_of, slot_at}
 use Rattle.slots.specs.Rising.{leading, leading_stop, leading_on}
 use Rattle.records.specs.Read.{leading_le, used_within}
 use Rattle.entries.specs.Release.{made_live, kept_slot, settled_slot, settled_slots, pending_one, pending_slots, used_slots, released_room}

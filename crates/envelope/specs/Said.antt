@@ -1,6 +1,6 @@
 -- What a service segment comes to is what the table of numbers answers.
 -- Assumes nothing.
-use Rattle.std.specs.Prelude.{◌≡◌, refl, Bool, true, false, List, ℕ}
+use Rattle.std.specs.Prelude.{◌≡◌, Bool, List, ℕ}
 use Rattle.std.proofs.Common.{ap, ◌∙◌}
 use Rattle.laws.specs.Choice.{pick, choose}
 use Rattle.answers.specs.Answers.{done, wrong_envelope}

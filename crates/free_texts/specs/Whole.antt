@@ -6,7 +6,6 @@ use Rattle.std.proofs.Common.{◌∙◌, arith, length-drop}
 use Rattle.std.proofs.Math.ListN.{length, length-append}
 use borrow.Author.Tests.{le-leb, lt-ltb}
 use Rattle.laws.specs.Choice.{both, all, all_append}
-use Rattle.laws.specs.Text.{bytes}
 use Rattle.syntax.specs.Bytes.{permitted_of, plain_on}
 use Rattle.syntax.specs.Pieces.{first_piece, elements, occurrences, components}
 use Rattle.syntax.specs.Segment.{body_at, tagged, component_fits, occurrence_fits, element_fits, within_limits, well_formed, scan_of, segment_at}

@@ -1,6 +1,6 @@
 -- Blocks of 128 bytes inside a buffer.
 -- Assumes nothing.
-use Rattle.std.specs.Prelude.{◌≡◌, List, ℕ, ◌+◌, ◌-◌, ◌≤◌, length, take, drop, replicate}
+use Rattle.std.specs.Prelude.{◌≡◌, List, ℕ, ◌+◌, ◌≤◌, length, take, drop, replicate}
 use Rattle.std.proofs.Common.{sym, ◌∙◌, append_assoc, append-nil, arith, length-drop, drop_of_length-le, take_all, drop-drop, length-take-le}
 use Rattle.std.proofs.Math.Seq.{paste}
 use borrow.Rule.Slice.PartMut.{mid_of, put_mid}

@@ -3,11 +3,7 @@ use Rattle.std.specs.Prelude.{◌≡◌, refl, List, ◌++◌, ℕ}
 use Rattle.laws.specs.Lists.{between}
 use Rattle.messages.specs.declared.MessageType.{MessageType}
 use Rattle.messages.specs.declared.MessageType.TheVariants.{Skdupd, Tsdupd, Tsdupd12B}
-use Rattle.placing.specs.Table.{entry_of}
-use Rattle.placing.specs.Skdupd.{skdupd_table}
-use Rattle.placing.specs.Tsdupd.{tsdupd_table}
-use Rattle.hints.specs.Kinds.{kinds, number_from}
-use Rattle.hints.specs.Hint.{slotted, laid_out}
+use Rattle.hints.specs.Hint.{laid_out}
 use Rattle.hints.specs.SkdupdHints.{skdupd_onward, skdupd_hints}
 use Rattle.hints.specs.TsdupdHints.{tsdupd_onward, tsdupd_hints}
 

@@ -1,5 +1,5 @@
 -- The kinds of hints: what each does with the counts of a place, which stand in one number, fourteen bits a level. Assumes nothing.
-use Rattle.std.specs.Prelude.{ℕ, zero, suc, ◌+◌, ◌-◌, ◌*◌, ◌/◌, ◌%◌, ◌^◌, Bool, List, [], ◌∷◌, eqb, ltb, get_or}
+use Rattle.std.specs.Prelude.{ℕ, suc, ◌+◌, ◌-◌, ◌*◌, ◌/◌, ◌%◌, ◌^◌, Bool, List, [], ◌∷◌, eqb, ltb, get_or}
 use Rattle.laws.specs.Choice.{pick, both}
 
 -- the level at which a place is entered, 1 where that is a group, whose head is reached then one level deeper, 1 where the place is

@@ -17,17 +17,15 @@ use Rattle.placing.specs.declared.Stepped.{Stepped}
 use Rattle.placing.specs.declared.Stepped.TheVariants.{Placed, OutOfPlace}
 use Rattle.placing.specs.Table.{Table, rows, tag_at, most, level_of, outer, later}
 use Rattle.placing.specs.Place.{count_at, reached_of}
-use Rattle.placing.specs.Rule.{reachable, none_left, or_fit, first_fit, fits, go, again, later_ones, choices_from, placed_at, or_stepped, first_of, step_of}
+use Rattle.placing.specs.Rule.{reachable, or_fit, first_fit, fits, go, again, later_ones, choices_from, placed_at, or_stepped, first_of, step_of}
 use Rattle.placing.specs.Walks.{first_append, first_pick_none, more_fits, more_none, step_start}
 use Rattle.messages.specs.Tags.{UIT}
 use Rattle.messages.specs.declared.MessageType.{MessageType}
 use Rattle.messages.specs.declared.MessageType.TheVariants.{Skdupd, Tsdupd, Tsdupd12B}
 use Rattle.placing.specs.Tables.{table_of}
 use Rattle.placing.specs.Tables as tables
-use Rattle.placing.specs.Skdupd.{skdupd_table}
-use Rattle.placing.specs.Tsdupd.{tsdupd_table}
 use Rattle.hints.specs.Kinds.{row_in, kind_in, last_in}
-use Rattle.hints.specs.Told.{Told, More, Next, Silent, next_told, told_by, later_fit, passed, told_from, anew_from, told_behind, hint_told, says_hint, agrees, hint_right, right_from, right}
+use Rattle.hints.specs.Told.{Told, More, Next, Silent, next_told, told_by, later_fit, passed, told_from, anew_from, hint_told, says_hint, agrees, hint_right, right_from, right}
 use Rattle.hints.specs.Hints.{hints_of}
 use Rattle.hints.specs.Hints as hints
 use Rattle.hints.specs.Right.{skdupd_right, tsdupd_right, tsdupd_12b_right}

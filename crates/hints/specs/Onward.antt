@@ -1,6 +1,6 @@
 -- A place in two numbers moved on by a hint. Assumes nothing.
-use Rattle.std.specs.Prelude.{◌≡◌, refl, Bool, true, false, List, [], ℕ, zero, suc, ◌+◌, ◌*◌, ◌/◌, ◌%◌, ◌^◌, ◌<◌, ◌≤◌, ◌⊎◌, T, eqb, ltb, leb, get_or}
-use Rattle.std.proofs.Common.{sym, ap, ◌∙◌, subst, arith, inl, inr, ⊎_elim, eqb-true, ltb-true, leb-true}
+use Rattle.std.specs.Prelude.{◌≡◌, refl, Bool, true, false, List, [], ℕ, ◌+◌, ◌*◌, ◌%◌, ◌^◌, ◌<◌, ◌≤◌, ◌⊎◌, T, eqb, leb, get_or}
+use Rattle.std.proofs.Common.{sym, ap, ◌∙◌, subst, arith, inl, inr, ⊎_elim, eqb-true, leb-true}
 use Rattle.laws.specs.Choice.{pick, both, either, both_left, both_right, holds, choose}
 use Rattle.laws.specs.Sweep.{below, at}
 use Rattle.placing.specs.declared.Place.{Place}
@@ -9,7 +9,7 @@ use Rattle.placing.specs.Table.{Table, rows, tag_at, level_of}
 use Rattle.placing.specs.Place.{count_at, reached_of}
 use Rattle.placing.specs.Rule.{step_of}
 use Rattle.messages.specs.Tags.{UIT}
-use Rattle.hints.specs.Kinds.{kinds, no_kind, kind_at, kind_in, row_in, last_in, shift_of, kept_bits, bound_of, more_of}
+use Rattle.hints.specs.Kinds.{kinds, no_kind, kind_at, kind_in, row_in, last_in, kept_bits, bound_of, more_of}
 use Rattle.hints.specs.Told.{hint_right, right}
 use Rattle.hints.specs.Laws.{Stood, each_right, hint_row, hint_step, hint_level, hint_inside}
 use Rattle.hints.specs.Packing.{place_of, kind_past, two, five, sound_kind, sound_parts, moved_packed}

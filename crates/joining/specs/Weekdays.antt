@@ -1,6 +1,6 @@
 -- Where the weekdays of a good period stand: its first element is so long that a mark behind 25 bytes of it ends it.
 -- Assumes nothing.
-use Rattle.std.specs.Prelude.{◌≡◌, Bool, true, ℕ, zero, suc, ◌+◌, ◌-◌, ◌%◌, ◌≤◌, ◌<◌, eqb, leb, length, drop}
+use Rattle.std.specs.Prelude.{◌≡◌, Bool, true, ℕ, zero, suc, ◌+◌, ◌%◌, ◌≤◌, ◌<◌, leb, length, drop}
 use Rattle.std.proofs.Math.Path.{refl, ap}
 use Rattle.std.proofs.Common.{sym, ◌∙◌, arith, length-drop, drop-drop, get_or-drop}
 use Rattle.std.proofs.Math.Bool.{false}
@@ -11,7 +11,7 @@ use Rattle.laws.specs.Choice.{pick, both, all, both_parts, both_false, choose}
 use Rattle.laws.specs.Text.{bytes}
 use Rattle.syntax.specs.Bytes.{stands, releases, plain}
 use Rattle.syntax.specs.Firsts.{first_length}
-use Rattle.syntax.specs.Pieces.{first_piece, later_pieces, pieces, nth, elements, components, part_of}
+use Rattle.syntax.specs.Pieces.{first_piece, later_pieces, nth, elements, components, part_of}
 use Rattle.parts.specs.Cuts.{later_split}
 use Rattle.calendar.specs.Days.{with_bit}
 use Rattle.free_texts.specs.Free.{numeric, first_all, plain_all, no_plus, no_star, no_colon, no_release}

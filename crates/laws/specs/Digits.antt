@@ -1,6 +1,6 @@
 -- The digits of a number, written into a buffer from its end.
 -- Assumes nothing.
-use Rattle.std.specs.Prelude.{ℕ, zero, suc, ◌+◌, ◌/◌, ◌%◌, ◌-◌, ◌≤◌, ◌<◌, ◌≡◌, refl, List, [], ◌∷◌, ◌++◌, ltb, length, drop, set}
+use Rattle.std.specs.Prelude.{ℕ, zero, suc, ◌/◌, ◌-◌, ◌≤◌, ◌<◌, ◌≡◌, refl, List, [], ◌∷◌, ◌++◌, ltb, length, drop, set}
 use Rattle.std.proofs.Common.{sym, ◌∙◌, ap, append_assoc, arith, lt-ltb, le-ltb, length-set, length-append, drop-cons, drop-set-lt, get_or-set_same}
 use Rattle.laws.specs.Choice.{choose}
 use Rattle.laws.specs.Put.{put_at}

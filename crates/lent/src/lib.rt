@@ -22,7 +22,7 @@ pub enum Found {
 }
 
 /// A reader over the lent interchange, remembering how far it has come.
-#[derive(Drop)]
+#[derive(Clone, Copy)]
 pub struct Reader<'a> {
     src: &'a [u8],
     at: usize,

@@ -1,19 +1,19 @@
 -- The pieces of a text and where they stand in the input.
 -- Assumes nothing.
-use Rattle.std.specs.Prelude.{◌≡◌, refl, Bool, true, false, ℕ, zero, suc, ◌+◌, ◌-◌, ◌≤◌, ◌<◌, min, ◌⊎◌, eqb, ltb, length, get_or, take, drop}
+use Rattle.std.specs.Prelude.{◌≡◌, refl, Bool, true, false, ℕ, suc, ◌+◌, ◌-◌, ◌≤◌, ◌<◌, min, ◌⊎◌, eqb, ltb, length, get_or, take, drop}
 use Rattle.std.proofs.Common.{sym, ◌∙◌, inl, inr, ⊎_elim, not-suc-le-zero, add-one, length-take, length-drop, drop-drop, take-take}
 use Rattle.std.proofs.Math.Path.{ap}
 use mathlib.Core.List.{List, [], ◌∷◌}
 use native.Mathlib.Omega.{arith}
 use Rattle.std.proofs.Math.Decide.{dec_lt}
 use borrow.Author.Tests.{eqb-true, eq-eqb, ne_eqb, lt-ltb, le-ltb}
-use Rattle.laws.specs.Choice.{pick, both, both_false, choose}
+use Rattle.laws.specs.Choice.{both, both_false, choose}
 use Rattle.laws.specs.Lists.{between, between_cons, drop_take}
 use Rattle.parts.specs.declared.Part.{Part}
 use Rattle.syntax.specs.Bytes.{stands, releases}
 use Rattle.syntax.specs.Firsts.{first_length}
 use Rattle.syntax.specs.Pieces.{first_piece, later_pieces, pieces}
-use Rattle.parts.specs.Places.{absent, bytes_of, span_of}
+use Rattle.parts.specs.Places.{absent, span_of}
 
 -- the pieces after the first are those of what follows it
 after_mark : (c b : ℕ) (r : Bool) → eqb c 63 ≡ false → stands c r b ≡ true → releases r b ≡ false

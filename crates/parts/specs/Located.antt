@@ -1,20 +1,19 @@
 -- A part found in the input is the part of the segment.
 -- Assumes nothing.
-use Rattle.std.specs.Prelude.{◌≡◌, Bool, true, List, [], ◌∷◌, ◌⊎◌, eqb, ltb, leb, length, get_or, take, drop}
+use Rattle.std.specs.Prelude.{◌≡◌, List, [], ◌⊎◌, eqb, ltb, length, get_or, take, drop}
 use Rattle.std.proofs.Math.Path.{refl}
-use Rattle.std.proofs.Common.{sym, ap, ◌∙◌, not-suc-le-zero, length-take, length-drop, take-take}
+use Rattle.std.proofs.Common.{sym, ap, ◌∙◌, take-take}
 use Rattle.std.proofs.Math.Bool.{false}
 use Rattle.std.proofs.Math.Logic.{inl, inr, ⊎_elim}
 use Prim.Native.Nat.{ℕ, zero, suc, ◌+◌, ◌-◌, ◌≤◌, ◌<◌}
 use native.Mathlib.Omega.{arith}
-use Rattle.std.proofs.Math.Decide.{dec_lt}
 use Rattle.laws.specs.Choice.{both}
 use Rattle.laws.specs.Lists.{between, between_none}
 use Rattle.parts.specs.declared.Part.{Part}
 use Rattle.syntax.specs.Firsts.{first_take, first_length}
-use Rattle.syntax.specs.Pieces.{first_piece, later_pieces, pieces, nth, elements, occurrences, components, part_of}
-use Rattle.parts.specs.Places.{absent, bytes_of, span_of, piece_at, counted_at, element_at, occurrence_at, component_at, part_at, repeats}
-use Rattle.parts.specs.Cuts.{later_split, later_none, length_part, drop_between, take_between, cut_end, later_cases, several}
+use Rattle.syntax.specs.Pieces.{first_piece, pieces, nth, elements, occurrences, components, part_of}
+use Rattle.parts.specs.Places.{absent, bytes_of, span_of, piece_at, counted_at, element_at, occurrence_at, part_at, repeats}
+use Rattle.parts.specs.Cuts.{length_part, cut_end, later_cases, several}
 
 -- a part lies inside another, or is absent
 unfoldable pub Inside : Part → Part → Type 0

@@ -8,7 +8,7 @@ use Rattle.std.proofs.Math.Decide.{dec_lt}
 use Rattle.laws.specs.Put.{put_at, length_put, take_put}
 use Rattle.values.specs.declared.Copied.TheVariants.{Bytes, NoRoom}
 use borrow.Author.Tests.{eq-eqb, ne_eqb, lt-ltb, le-ltb}
-use Rattle.laws.specs.Choice.{pick, among, both_false}
+use Rattle.laws.specs.Choice.{among, both_false}
 use Rattle.parts.specs.Places.{present}
 use Rattle.dates.specs.Days.{weekday_of}
 use Rattle.dates.specs.Text.{date_at}

@@ -1,6 +1,6 @@
 -- A POP as most are written, `POP+273:first/last` and then a form of days or neither: what its bytes say is its period.
 -- Assumes nothing.
-use Rattle.std.specs.Prelude.{◌≡◌, Bool, true, ℕ, zero, suc, ◌+◌, ◌-◌, ◌*◌, ◌≤◌, eqb, leb, length}
+use Rattle.std.specs.Prelude.{◌≡◌, Bool, true, ℕ, zero, suc, ◌+◌, ◌*◌, ◌≤◌, eqb, leb, length}
 use Rattle.std.proofs.Math.Path.{refl, ap}
 use Rattle.std.proofs.Common.{sym, subst, ◌∙◌, arith, le-leb, leb-true, eqb-true}
 use mathlib.Core.List.{List, [], ◌∷◌, ◌++◌}

@@ -1,6 +1,6 @@
 -- The number of a PRD that is written as most are: behind `PRD+`, with no release in it, it ends at the first mark.
 -- Assumes nothing.
-use Rattle.std.specs.Prelude.{ℕ, ◌+◌, ◌-◌, ◌≤◌, ◌<◌, ◌≡◌, true, ◌⊎◌, eqb, leb, get_or, drop}
+use Rattle.std.specs.Prelude.{ℕ, ◌+◌, ◌≤◌, ◌<◌, ◌≡◌, true, ◌⊎◌, eqb, leb, get_or, drop}
 use Rattle.std.proofs.Math.Path.{refl, sym, ap}
 use Rattle.std.proofs.Common.{◌∙◌, inl, inr, arith, ne_eqb, le-leb}
 use Rattle.std.proofs.Math.Bool.{false}

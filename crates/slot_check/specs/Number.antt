@@ -9,7 +9,7 @@ use Rattle.std.proofs.Math.Nat.{sub-zero, zero-min, min-zero, suc-min-suc}
 use Rattle.std.proofs.lemmas.Bool.{eqb-false}
 use Rattle.std.proofs.lemmas.List.{length-replicate}
 use Rattle.std.proofs.Math.ListN.{drop_of_length-le}
-use Rattle.laws.specs.Choice.{pick, both, choose, all, both_parts, both_assoc, both_true}
+use Rattle.laws.specs.Choice.{both, choose, all, both_parts, both_assoc, both_true}
 use Rattle.laws.specs.Lists.{drop_here, drop_past, drop_take}
 use Rattle.laws.specs.Filled.{filled_up}
 use Rattle.syntax.specs.Bytes.{permitted_of}

@@ -1,6 +1,6 @@
 -- The counts that a scan of a segment keeps.
 -- Assumes nothing.
-use Rattle.std.specs.Prelude.{ℕ, ◌+◌, Bool, true, false, leb, ltb, eqb}
+use Rattle.std.specs.Prelude.{ℕ, ◌+◌, true, false, leb, ltb, eqb}
 use Rattle.laws.specs.Choice.{pick}
 use Rattle.syntax.specs.declared.limits.Counts.{Counts}
 

@@ -1,9 +1,9 @@
 -- What callers cite of a segment: where its end lies, and that what stands before the end decides the answer.
 -- Assumes nothing.
 use Rattle.std.specs.Prelude.{◌≡◌, refl, Bool, true, false, List, [], ◌∷◌, ◌++◌, ℕ, zero, suc, ◌+◌, ◌-◌, ◌≤◌, ◌<◌, ltb, length, take, drop}
-use Rattle.std.proofs.Common.{sym, ap, ◌∙◌, arith, add-one, not-suc-le-zero, ltb-true, lt-ltb, length-take, length-drop, length-append, take-take}
+use Rattle.std.proofs.Common.{sym, ap, ◌∙◌, arith, not-suc-le-zero, ltb-true, lt-ltb, length-take, length-drop, length-append}
 use Rattle.std.proofs.lemmas.List.{drop-append-le}
-use Rattle.laws.specs.Choice.{pick, both, all, choose, both_parts, false≢true}
+use Rattle.laws.specs.Choice.{all, choose, both_parts, false≢true}
 use Rattle.laws.specs.Lists.{drop_take}
 use Rattle.syntax.specs.declared.segment.Scanned.{Scanned}
 use Rattle.syntax.specs.declared.segment.Scanned.TheVariants.{End, NotPermitted, Unended, Malformed}

@@ -52,8 +52,8 @@ unfolding plain_on
 plain_length r [] = omega arith
 plain_length r (b ∷ l) =
     choose (stands 63 r b)
-      (λ q. let h = plain_length true l in rw q (omega (arith, h)))
-      (λ q. let h = plain_length false l in rw q (omega (arith, h)))
+    (λ q. let h = plain_length true l in rw q (omega (arith, h)))
+    (λ q. let h = plain_length false l in rw q (omega (arith, h)))
 
 -- what stands as one of the three is a mark
 standing : (c : ℕ) (r : Bool) (b : ℕ) → is_mark c ≡ true → stands c r b ≡ true → is_mark b ≡ true

@@ -1,17 +1,17 @@
 -- Whether what is left of a segment stays within the limits, given what stood before it, and how that goes on byte by byte.
 -- Assumes nothing.
-use Rattle.std.specs.Prelude.{◌≡◌, refl, Bool, true, List, [], ◌∷◌, leb, eqb}
-use Rattle.std.proofs.Common.{sym, ap, ◌∙◌, zero-add, add-zero, le-leb}
+use Rattle.std.specs.Prelude.{◌≡◌, Bool, true, List, [], ◌∷◌, leb, eqb}
+use Rattle.std.proofs.Common.{zero-add, add-zero, le-leb}
 use Rattle.std.proofs.Math.Bool.{false}
-use Prim.Native.Nat.{ℕ, zero, suc, ◌+◌, ◌≤◌, ◌<◌}
+use Prim.Native.Nat.{ℕ, suc, ◌+◌, ◌≤◌, ◌<◌}
 use native.Mathlib.Omega.{arith}
 use Rattle.std.proofs.Math.Dec.{leb-suc-suc}
 use Rattle.std.proofs.lemmas.Bool.{lt-leb}
 use Rattle.std.proofs.Math.ListN.{length}
-use Rattle.laws.specs.Choice.{pick, both, all, both_false, both_true}
-use Rattle.syntax.specs.Bytes.{component_mark, element_mark, repetition_mark, plain_on, plain}
+use Rattle.laws.specs.Choice.{both, all, both_false}
+use Rattle.syntax.specs.Bytes.{component_mark, element_mark, repetition_mark, plain_on}
 use Rattle.syntax.specs.Pieces.{first_piece, later_pieces}
-use Rattle.syntax.specs.Segment.{component_fits, occurrence_fits, element_fits, within_limits}
+use Rattle.syntax.specs.Segment.{component_fits, occurrence_fits, element_fits}
 
 -- y goes on an occurrence that has c `:` and whose last component has n characters
 unfoldable pub occurrence_left : ℕ → ℕ → Bool → List ℕ → Bool

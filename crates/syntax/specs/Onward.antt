@@ -1,21 +1,19 @@
 -- What the rest of a segment leads to, given what stood before it: the work that a scan has left.
 -- Assumes nothing.
-use Rattle.std.specs.Prelude.{◌≡◌, refl, Bool, true, not, List, [], ◌∷◌, leb, ltb, eqb, length, drop, get_or}
-use Rattle.std.proofs.Common.{sym, ap, ◌∙◌, zero-add, add-zero}
+use Rattle.std.specs.Prelude.{◌≡◌, refl, Bool, true, not, List, [], ◌∷◌, leb, ltb, eqb, length}
+use Rattle.std.proofs.Common.{sym, ◌∙◌, add-zero}
 use Rattle.std.proofs.Math.Bool.{false}
-use Prim.Native.Nat.{ℕ, zero, suc, ◌+◌, ◌≤◌, ◌<◌}
+use Prim.Native.Nat.{ℕ, suc, ◌+◌, ◌≤◌, ◌<◌}
 use native.Mathlib.Omega.{arith}
-use borrow.Author.Tests.{le-ltb, lt-ltb, leb-false, leb-true, ltb-true, ltb-false, not-true}
+use borrow.Author.Tests.{le-ltb, lt-ltb, leb-false, ltb-false, not-true}
 use Rattle.laws.specs.Choice.{pick, both, either, all, among, choose, both_parts, either_parts, both_true, both_false}
 use Rattle.syntax.specs.declared.limits.Counts.{Counts}
 use Rattle.syntax.specs.declared.segment.Scanned.{Scanned}
 use Rattle.syntax.specs.declared.segment.Scanned.TheVariants.{End, NotPermitted, Unended, Malformed}
 use Rattle.syntax.specs.Bytes.{permitted_of, plain_text, is_mark}
-use Rattle.syntax.specs.Pieces.{first_piece, later_pieces}
-use Rattle.syntax.specs.Segment.{permitted_run, scan_of}
+use Rattle.syntax.specs.Segment.{permitted_run}
 use Rattle.syntax.specs.Counts.{text_of, element_of, occurrence_of, component_of, passed_of}
 use Rattle.syntax.specs.Limits.{segment_left, left_text, left_released, left_component, left_occurrence, left_element, left_ends, over_elements, over_occurrences, over_components, over_characters}
-use Rattle.syntax.specs.Runs.{text_run}
 
 -- the answer where g is what is left of the segment from index i on, in an input of n bytes; `tag` is whether the segment is tagged
 unfoldable pub onward : ℕ → Bool → ℕ → Counts → List ℕ → Scanned

@@ -1,19 +1,19 @@
 -- The steps of a scan at an index of the input.
 -- Assumes nothing.
-use Rattle.std.specs.Prelude.{◌≡◌, refl, Bool, true, not, ℕ, zero, suc, ◌+◌, ◌-◌, ◌≤◌, ◌<◌, leb, ltb, eqb, length, drop, get_or}
+use Rattle.std.specs.Prelude.{◌≡◌, Bool, true, not, ℕ, suc, ◌+◌, ◌-◌, ◌≤◌, ◌<◌, leb, ltb, eqb, length, drop, get_or}
 use Rattle.std.proofs.Math.Path.{sym}
-use Rattle.std.proofs.Common.{ap, ◌∙◌, add-one, zero-add, add-zero, not-suc-le-zero, length-drop, drop_of_length-le, drop-cons, drop-drop, get_or-drop}
+use Rattle.std.proofs.Common.{ap, ◌∙◌, zero-add, add-zero, not-suc-le-zero, length-drop, drop-drop, get_or-drop}
 use Rattle.std.proofs.Math.Bool.{false}
 use mathlib.Core.List.{List, [], ◌∷◌}
 use native.Mathlib.Omega.{arith}
-use borrow.Author.Tests.{leb-true, ltb-true, ltb-false, eqb-true}
-use Rattle.laws.specs.Choice.{pick, both, all, choose, both_parts, both_false, false≢true}
+use borrow.Author.Tests.{leb-true, ltb-true, eqb-true}
+use Rattle.laws.specs.Choice.{pick, both, choose, both_parts, false≢true}
 use Rattle.syntax.specs.declared.limits.Counts.{Counts}
 use Rattle.syntax.specs.declared.segment.Scanned.{Scanned}
 use Rattle.syntax.specs.declared.segment.Scanned.TheVariants.{End, NotPermitted, Unended, Malformed}
 use Rattle.syntax.specs.Bytes.{permitted_of, plain_text, plain_on, is_mark}
 use Rattle.syntax.specs.Pieces.{first_piece, later_pieces, tag_text}
-use Rattle.syntax.specs.Segment.{capital, three_capitals, tagged, within_limits, well_formed, element_fits, body_at, scan_of, segment_at}
+use Rattle.syntax.specs.Segment.{capital, three_capitals, tagged, within_limits, well_formed, body_at, scan_of, segment_at}
 use Rattle.syntax.specs.Counts.{none, passed_of, text_of, element_of, occurrence_of, component_of, mark_of}
 use Rattle.syntax.specs.Limits.{segment_left, element_left, occurrence_left}
 use Rattle.syntax.specs.Runs.{text_run}

@@ -1,6 +1,6 @@
 -- A segment, its end, its tag and its limits (document 01, "Bytes and segments"; numbers 4, 5 and 6).
 -- Assumes nothing.
-use Rattle.std.specs.Prelude.{ℕ, zero, suc, ◌+◌, ◌*◌, Bool, true, false, List, [], ◌∷◌, leb, ltb, length, get_or, drop}
+use Rattle.std.specs.Prelude.{ℕ, suc, ◌+◌, ◌*◌, Bool, false, List, [], ◌∷◌, leb, ltb, length, drop}
 use Rattle.laws.specs.Choice.{pick, both, all}
 use Rattle.answers.specs.declared.Refusal.{Refusal}
 use Rattle.answers.specs.Answers.{Answer, done, naming, byte_not_permitted, input_ends, wrong_segment, number, position}

@@ -1,10 +1,10 @@
 -- The tag by the first four bytes of a segment.
 -- Assumes nothing.
-use Rattle.std.specs.Prelude.{◌≡◌, refl, Bool, true, false, List, [], ◌∷◌, ℕ, suc, ◌+◌, ◌*◌, ◌≤◌, ◌<◌, leb, eqb, ◌⊎◌, length, drop, get_or}
+use Rattle.std.specs.Prelude.{◌≡◌, refl, Bool, true, false, List, [], ◌∷◌, ℕ, ◌+◌, ◌*◌, ◌≤◌, ◌<◌, leb, eqb, ◌⊎◌, length, drop, get_or}
 use Rattle.std.proofs.Common.{sym, ap, ◌∙◌, arith, leb-true, ne_eqb, inl, inr, ⊎_elim, length-drop}
-use Rattle.laws.specs.Choice.{pick, both, either, both_parts, either_parts, choose, both_false, either_true, both_assoc₃}
-use Rattle.syntax.specs.Bytes.{element_mark, release_mark, terminator, stands, releases}
-use Rattle.syntax.specs.Pieces.{first_piece, tag_text}
+use Rattle.laws.specs.Choice.{both, either, both_parts, choose, both_false, either_true, both_assoc₃}
+use Rattle.syntax.specs.Bytes.{element_mark, terminator}
+use Rattle.syntax.specs.Pieces.{first_piece}
 use Rattle.syntax.specs.Segment.{capital, three_capitals, tagged, tag_number}
 use Rattle.laws.specs.Lists.{drop_here}
 

@@ -1,15 +1,10 @@
 -- `character_at` meets its contract.
 -- Assumes nothing.
-use mathlib.Core.Path.{◌≡◌, refl, sym, ◌∙◌}
-use mathlib.Core.List.{List}
-use Prim.Native.Nat.{ℕ, ◌-◌}
-use native.Mathlib.Omega.{arith}
-use borrow.Author.Rules.{rules}
+use mathlib.Core.Path.{◌≡◌}
+use Prim.Native.Nat.{◌-◌}
 use lib.ListN.{length, drop}
 use Rattle.syntax.specs.Bytes.{plain}
-use Rattle.values.specs.Laws.{next_byte, next_done, plain_past, Follows}
 use lib.ListN.{get_or}
-use Rattle.characters.specs.Steps.{character_here, character_goes, character_none}
 use Rattle.characters.proofs.character_at.Given as goal
 
 abbrev pub invariant-loop-i : goal.invariant-loop-i

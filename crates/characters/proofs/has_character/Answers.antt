@@ -1,14 +1,12 @@
 -- `has_character` meets its contract.
 -- Assumes nothing.
-use mathlib.Core.Path.{◌≡◌, refl, sym, ◌∙◌}
+use mathlib.Core.Path.{sym, ◌∙◌}
 use mathlib.Core.List.{List}
-use Prim.Native.Nat.{ℕ, ◌-◌}
+use Prim.Native.Nat.{ℕ}
 use native.Mathlib.Omega.{arith}
-use borrow.Author.Rules.{rules}
-use lib.ListN.{length, drop}
+use lib.ListN.{drop}
 use Rattle.syntax.specs.Bytes.{plain}
 use Rattle.values.specs.Laws.{next_byte, next_done, plain_past, Follows}
-use Rattle.laws.specs.Choice.{among}
 use Rattle.characters.specs.Steps.{found_here, found_goes, found_none}
 use Rattle.characters.proofs.has_character.Goals.{At-loop-i, In-Byte}
 use Rattle.characters.proofs.has_character.Goals as goal

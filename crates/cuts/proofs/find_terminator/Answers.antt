@@ -2,7 +2,6 @@
 -- Assumes nothing.
 use native.Mathlib.Omega.{arith}
 use Rattle.cuts.specs.Laws.{none_told, released_told, end_told, search_told}
-use borrow.Author.Rules.{rules}
 use Rattle.cuts.proofs.find_terminator.Goals as goal
 
 pub returns-then-s-eq0 : goal.returns-then-s-eq0

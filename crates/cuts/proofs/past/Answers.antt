@@ -2,7 +2,6 @@
 -- Assumes nothing.
 use native.Mathlib.Omega.{arith}
 use Rattle.cuts.specs.Laws.{gone_plain, gone_release}
-use borrow.Author.Rules.{rules}
 use Rattle.cuts.proofs.past.Goals as goal
 
 pub returns-then-s-i-eq63 : goal.returns-then-s-i-eq63

@@ -1,10 +1,9 @@
 -- `cuts::search` passes a release and the byte behind it at once.
 -- Assumes nothing.
-use Prim.Native.Nat.{◌+◌, ◌-◌, ◌≤◌}
 use mathlib.Core.Path.{refl}
 use native.Mathlib.Omega.{arith}
 use lib.ListN.{length}
-use Rattle.cuts.specs.Laws.{Gone, found_at, found_flag, left_tells, left_end, left_over}
+use Rattle.cuts.specs.Laws.{left_tells, left_end, left_over}
 use Rattle.cuts.proofs.search.Goals as goal
 
 pub loop-i-init : goal.loop-i-init

@@ -1,10 +1,8 @@
 -- `cuts::search` passes a release and the byte behind it at once.
 -- Assumes nothing.
 use Prim.Native.Nat.{◌+◌, ◌-◌, ◌≤◌}
-use mathlib.Core.Path.{refl}
-use native.Mathlib.Omega.{arith}
 use lib.ListN.{length}
-use Rattle.cuts.specs.Laws.{Gone, found_at, found_flag, left_tells, left_end, left_over}
+use Rattle.cuts.specs.Laws.{Gone, found_at, found_flag}
 use Rattle.cuts.proofs.search.Given as goal
 
 abbrev pub invariant-loop-i : goal.invariant-loop-i

@@ -4,7 +4,6 @@ use native.Mathlib.Omega.{arith}
 use mathlib.Core.Path.{◌∙◌}
 use Prim.Native.Nat.{◌+◌, ◌-◌}
 use Rattle.gaps.specs.Block.{block_read}
-use borrow.Author.Rules.{rules}
 use Rattle.gaps.proofs.block_at.Goals as goal
 
 pub returns : goal.returns

@@ -1,9 +1,8 @@
 -- `gaps::blocks_down` meets its contract. Invariant: all from the index up to before i hold what stood n behind.
 -- Assumes nothing.
 use mathlib.Core.Path.{◌≡◌, refl, ◌∙◌, ap}
-use Prim.Native.Nat.{◌+◌, ◌-◌, ◌≤◌}
+use Prim.Native.Nat.{◌+◌, ◌-◌}
 use native.Mathlib.Omega.{arith}
-use borrow.Author.Rules.{rules}
 use lib.ListN.{length}
 use Rattle.gaps.specs.Move.{moved_down, down_start, down_block}
 use Rattle.gaps.proofs.blocks_down.Goals as goal
@@ -16,23 +15,23 @@ loop-i-preserved c =
     let m = c.move_block in
     let l = c.loop-i in
     let a = c.args in (
-      m.auto.0 ∙ l.invariant.0,
+      m.auto.b ∙ l.invariant.0,
       omega arith,
       omega arith,
       m.ensures ∙ down_block a.b.now a.at a.n l.b l.i l.i 128 l.invariant.3 (omega arith) (omega arith) (omega arith) (omega arith) (omega arith),
     )
 
 pub returns-then-n-lt-BLOCK : goal.returns-then-n-lt-BLOCK
-returns-then-n-lt-BLOCK c = let v = c.loop-i.invariant in     record {
-      within = (v.1, omega arith);
-      moved = v.3;
-    }
+returns-then-n-lt-BLOCK c = let v = c.loop-i.invariant in record {
+  within = (v.1, omega arith);
+  moved = v.3;
+}
 
 pub returns-then-past-at-lt-BLOCK : goal.returns-then-past-at-lt-BLOCK
-returns-then-past-at-lt-BLOCK c = let v = c.loop-i.invariant in     record {
-      within = (v.1, omega arith);
-      moved = v.3;
-    }
+returns-then-past-at-lt-BLOCK c = let v = c.loop-i.invariant in record {
+  within = (v.1, omega arith);
+  moved = v.3;
+}
 
 pub returns : goal.returns
 returns c =

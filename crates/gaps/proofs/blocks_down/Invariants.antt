@@ -1,11 +1,9 @@
 -- `gaps::blocks_down` meets its contract. Invariant: all from the index up to before i hold what stood n behind.
 -- Assumes nothing.
-use mathlib.Core.Path.{◌≡◌, refl, ◌∙◌, ap}
-use Prim.Native.Nat.{◌+◌, ◌-◌, ◌≤◌}
-use native.Mathlib.Omega.{arith}
-use borrow.Author.Rules.{rules}
+use mathlib.Core.Path.{◌≡◌}
+use Prim.Native.Nat.{◌-◌, ◌≤◌}
 use lib.ListN.{length}
-use Rattle.gaps.specs.Move.{moved_down, down_start, down_block}
+use Rattle.gaps.specs.Move.{moved_down}
 use Rattle.gaps.proofs.blocks_down.Given as goal
 
 abbrev pub invariant-loop-i : goal.invariant-loop-i

@@ -1,11 +1,9 @@
 -- `gaps::blocks_up` meets its contract. Invariant: all from index i on hold what stood n before.
 -- Assumes nothing.
-use mathlib.Core.Path.{◌≡◌, refl, ◌∙◌}
-use Prim.Native.Nat.{◌≤◌, ◌-◌}
-use native.Mathlib.Omega.{arith}
-use borrow.Author.Rules.{rules}
+use mathlib.Core.Path.{◌≡◌}
+use Prim.Native.Nat.{◌≤◌}
 use lib.ListN.{length}
-use Rattle.gaps.specs.Move.{moved_up, up_start, up_block}
+use Rattle.gaps.specs.Move.{moved_up}
 use Rattle.gaps.proofs.blocks_up.Given as goal
 
 abbrev pub invariant-loop-i : goal.invariant-loop-i

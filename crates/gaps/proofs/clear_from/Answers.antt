@@ -1,10 +1,9 @@
 -- `gaps::clear_from` meets its contract. Invariant: to clear what is left leads to the answer.
 -- Assumes nothing.
-use mathlib.Core.Path.{◌≡◌, refl, sym, ◌∙◌}
-use Prim.Native.Nat.{◌-◌}
+use mathlib.Core.Path.{sym, ◌∙◌}
 use native.Mathlib.Omega.{arith}
-use lib.ListN.{length, length-set}
-use Rattle.gaps.specs.Zero.{zero_from, clear_step, clear_end}
+use lib.ListN.{length-set}
+use Rattle.gaps.specs.Zero.{clear_step, clear_end}
 use Rattle.gaps.proofs.clear_from.Goals as goal
 
 pub loop-i-smaller : goal.loop-i-smaller

@@ -1,10 +1,9 @@
 -- `gaps::clear_from` meets its contract. Invariant: to clear what is left leads to the answer.
 -- Assumes nothing.
-use mathlib.Core.Path.{◌≡◌, refl, sym, ◌∙◌}
+use mathlib.Core.Path.{◌≡◌}
 use Prim.Native.Nat.{◌-◌}
-use native.Mathlib.Omega.{arith}
-use lib.ListN.{length, length-set}
-use Rattle.gaps.specs.Zero.{zero_from, clear_step, clear_end}
+use lib.ListN.{length}
+use Rattle.gaps.specs.Zero.{zero_from}
 use Rattle.gaps.proofs.clear_from.Given as goal
 
 abbrev pub invariant-loop-i : goal.invariant-loop-i

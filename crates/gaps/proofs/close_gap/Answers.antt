@@ -2,7 +2,6 @@
 -- Assumes nothing.
 use mathlib.Core.Path.{sym, ◌∙◌}
 use native.Mathlib.Omega.{arith}
-use borrow.Author.Rules.{rules}
 use Rattle.gaps.specs.Move.{closed_fits, closed_past}
 use Rattle.gaps.proofs.close_gap.Goals as goal
 

@@ -1,13 +1,11 @@
 -- `gaps::close_within` meets its contract. Invariant: of whatever bytes the buffer held all moved up to where the loop starts, it holds them
 -- moved up to before i.
 -- Assumes nothing.
-use mathlib.Core.Path.{◌≡◌, refl, sym, ◌∙◌}
+use mathlib.Core.Path.{◌≡◌}
 use mathlib.Core.List.{List}
 use Prim.Native.Nat.{ℕ, ◌≤◌, ◌-◌}
-use native.Mathlib.Omega.{arith}
-use borrow.Author.Rules.{rules}
-use lib.ListN.{length, length-set}
-use Rattle.gaps.specs.Move.{moved_down, down_turn, down_close}
+use lib.ListN.{length}
+use Rattle.gaps.specs.Move.{moved_down}
 use Rattle.gaps.proofs.close_within.Given as goal
 
 abbrev pub invariant-loop-i : goal.invariant-loop-i

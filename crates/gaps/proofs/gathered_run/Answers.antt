@@ -1,7 +1,7 @@
 -- `gaps::gathered_run` meets its contract. Invariant: the bits gathered are 0 and the rest is zero exactly when they were at the start.
 -- Assumes nothing.
 use mathlib.Core.Path.{◌≡◌, ◌∙◌, ap}
-use Prim.Native.Nat.{ℕ, ◌+◌, ◌-◌, ◌≤◌}
+use Prim.Native.Nat.{ℕ, ◌+◌}
 use native.Mathlib.Omega.{arith}
 use Rattle.gaps.specs.Zero.{zero_on, zero_more}
 use Rattle.gaps.proofs.gathered_run.Goals as goal

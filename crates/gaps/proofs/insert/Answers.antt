@@ -2,7 +2,6 @@
 -- Assumes nothing.
 use mathlib.Core.Path.{sym, ◌∙◌}
 use native.Mathlib.Omega.{arith}
-use borrow.Author.Rules.{rules}
 use Rattle.gaps.specs.Move.{filled, inserted_past}
 use Rattle.gaps.proofs.insert.Goals as goal
 
@@ -15,4 +14,4 @@ returns-then-b-part-2 c = let a = c.args in sym (inserted_past a.b.now a.at a.pa
 pub returns : goal.returns
 returns c =
     let a = c.args in
-    c.put_bytes.ensures.1 ∙ filled c.open_gap.new.0 a.b.now a.part.now a.at c.open_gap.ensures c.open_gap.auto.0 (omega arith)
+    c.put_bytes.ensures.1 ∙ filled c.open_gap.new.b a.b.now a.part.now a.at c.open_gap.ensures c.open_gap.auto.b (omega arith)

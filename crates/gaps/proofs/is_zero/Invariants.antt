@@ -1,9 +1,7 @@
 -- `gaps::is_zero` meets its contract. Invariant: the bits gathered are 0 and the rest is zero exactly when all is.
 -- Assumes nothing.
-use mathlib.Core.Path.{◌≡◌, refl, ◌∙◌}
+use mathlib.Core.Path.{◌≡◌}
 use Prim.Native.Nat.{◌-◌, ◌≤◌}
-use native.Mathlib.Omega.{arith}
-use borrow.Author.Rules.{rules}
 use lib.ListN.{length}
 use Rattle.gaps.specs.Zero.{all_zero, zero_on}
 use Rattle.gaps.proofs.is_zero.Given as goal

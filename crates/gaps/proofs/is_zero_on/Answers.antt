@@ -1,12 +1,7 @@
 -- `gaps::is_zero_on` meets its contract. Invariant: the bits gathered are 0 and the rest is zero exactly when they were at the start.
 -- Assumes nothing.
-use mathlib.Core.Path.{◌≡◌, refl, ◌∙◌}
-use Prim.Native.Nat.{◌-◌}
-use native.Mathlib.Omega.{arith}
-use lib.Dec.{eqb}
-use lib.ListN.{length, drop}
-use Rattle.laws.specs.Choice.{both}
-use Rattle.gaps.specs.Zero.{zero_on, zero_step, zero_end}
+use mathlib.Core.Path.{◌∙◌}
+use Rattle.gaps.specs.Zero.{zero_step, zero_end}
 use Rattle.gaps.proofs.is_zero_on.Goals as goal
 
 pub loop-i-preserved : goal.loop-i-preserved

@@ -1,12 +1,9 @@
 -- `gaps::is_zero_on` meets its contract. Invariant: the bits gathered are 0 and the rest is zero exactly when they were at the start.
 -- Assumes nothing.
-use mathlib.Core.Path.{◌≡◌, refl, ◌∙◌}
+use mathlib.Core.Path.{◌≡◌}
 use Prim.Native.Nat.{◌-◌}
-use native.Mathlib.Omega.{arith}
-use lib.Dec.{eqb}
-use lib.ListN.{length, drop}
-use Rattle.laws.specs.Choice.{both}
-use Rattle.gaps.specs.Zero.{zero_on, zero_step, zero_end}
+use lib.ListN.{length}
+use Rattle.gaps.specs.Zero.{zero_on}
 use Rattle.gaps.proofs.is_zero_on.Given as goal
 
 abbrev pub invariant-loop-i : goal.invariant-loop-i

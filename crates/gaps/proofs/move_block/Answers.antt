@@ -3,7 +3,6 @@
 use Prim.Native.Nat.{◌+◌, ◌-◌}
 use native.Mathlib.Omega.{arith}
 use Rattle.gaps.specs.Block.{block_put}
-use borrow.Author.Rules.{rules}
 use Rattle.gaps.proofs.move_block.Goals as goal
 
 pub returns : goal.returns
@@ -11,4 +10,4 @@ returns c =
     let a = c.args in
     let w = c.block_at-block in
     let p = c.put_bytes in
-    block_put a.b.now a.from a.to c.requires.0 c.requires.1 (a.to + 128 - a.to) w.result p.new.0 (omega arith) w.ensures p.ensures.1
+    block_put a.b.now a.from a.to c.requires.0 c.requires.1 (a.to + 128 - a.to) w.result p.new.out (omega arith) w.ensures p.ensures.1

@@ -1,20 +1,17 @@
 -- `gaps::open_gap` meets its contract. Invariant: of whatever bytes the buffer held all moved from where the loop starts on, it holds them
 -- moved from index i on.
 -- Assumes nothing.
-use mathlib.Core.Path.{◌≡◌, refl, sym, ◌∙◌}
-use mathlib.Core.List.{List}
-use Prim.Native.Nat.{ℕ, ◌≤◌}
+use mathlib.Core.Path.{refl, sym, ◌∙◌}
 use native.Mathlib.Omega.{arith}
-use borrow.Author.Rules.{rules}
-use lib.ListN.{length, length-set}
-use Rattle.gaps.specs.Move.{moved_up, up_turn, up_end}
+use lib.ListN.{length-set}
+use Rattle.gaps.specs.Move.{up_turn, up_end}
 use Rattle.gaps.proofs.open_gap.Goals as goal
 
 pub loop-i-init : goal.loop-i-init
 loop-i-init c =
     let u = c.blocks_up-i in
-    let k = u.auto.0 in
-    let w = u.ensures.0 in
+    let k = u.auto.b in
+    let w = u.ensures.within in
     (refl, w.0, omega arith, λ s l q. q)
 
 pub loop-i-preserved : goal.loop-i-preserved
@@ -28,11 +25,11 @@ loop-i-preserved c =
     )
 
 pub shape_of-b : goal.shape_of-b
-shape_of-b c = c.loop-i.invariant.0 ∙ c.blocks_up-i.auto.0
+shape_of-b c = c.loop-i.invariant.0 ∙ c.blocks_up-i.auto.b
 
 pub returns : goal.returns
 returns c =
     let l = c.loop-i in
     let u = c.blocks_up-i in
     let a = c.args in
-    l.invariant.3 a.b.now (sym u.auto.0) u.ensures.1 ∙ up_end a.b.now a.at a.n l.i (omega arith)
+    l.invariant.3 a.b.now (sym u.auto.b) u.ensures.moved ∙ up_end a.b.now a.at a.n l.i (omega arith)

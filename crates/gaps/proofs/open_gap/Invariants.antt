@@ -1,13 +1,11 @@
 -- `gaps::open_gap` meets its contract. Invariant: of whatever bytes the buffer held all moved from where the loop starts on, it holds them
 -- moved from index i on.
 -- Assumes nothing.
-use mathlib.Core.Path.{◌≡◌, refl, sym, ◌∙◌}
+use mathlib.Core.Path.{◌≡◌}
 use mathlib.Core.List.{List}
 use Prim.Native.Nat.{ℕ, ◌≤◌}
-use native.Mathlib.Omega.{arith}
-use borrow.Author.Rules.{rules}
-use lib.ListN.{length, length-set}
-use Rattle.gaps.specs.Move.{moved_up, up_turn, up_end}
+use lib.ListN.{length}
+use Rattle.gaps.specs.Move.{moved_up}
 use Rattle.gaps.proofs.open_gap.Given as goal
 
 abbrev pub invariant-loop-i : goal.invariant-loop-i

@@ -3,7 +3,7 @@
 use native.Mathlib.Omega.{arith}
 use mathlib.Core.Path.{◌≡◌, refl, ap, ◌∙◌}
 use mathlib.Core.Bool.{Bool, true, false}
-use Prim.Native.Nat.{ℕ, ◌+◌, ◌-◌, ◌≤◌, ◌<◌}
+use Prim.Native.Nat.{ℕ, ◌+◌, ◌-◌}
 use lib.Dec.{eqb}
 use lib.ListN.{get_or}
 use mir.Val.{bool_byte}
@@ -12,7 +12,6 @@ use Rattle.calendar.specs.Days.{has_bit}
 use Rattle.raw_bytes.specs.Eights.{eights_known}
 use Rattle.joining.specs.Eights.{gather_on}
 use Rattle.joining.specs.Gathered.{eight_days}
-use borrow.Author.Rules.{rules}
 use Rattle.joining.proofs.day_bits.Goals as goal
 
 as_digit : (w : Bool) → bool_byte w ≡ pick w 1 0

@@ -3,7 +3,6 @@
 use Prim.Native.Nat.{◌*◌, ◌/◌, ◌%◌, ◌^◌}
 use native.Mathlib.Omega.{arith}
 use lib.Bits.{mask_lt}
-use borrow.Author.Rules.{rules}
 use Rattle.joining.specs.Eights.{eight_from}
 use Rattle.joining.proofs.eight_days.Goals as goal
 

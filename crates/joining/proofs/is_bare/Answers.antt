@@ -1,8 +1,6 @@
 -- `is_bare` meets its contract.
 -- Assumes nothing.
 use mathlib.Core.Path.{sym, ◌∙◌}
-use borrow.Author.Rules.{rules}
-use borrow.Author.Tests.{not-false}
 use Rattle.laws.specs.Choice.{false≢true}
 use Rattle.joining.proofs.is_bare.Goals as goal
 

@@ -1,6 +1,5 @@
 -- `is_marked` meets its contract.
 -- Assumes nothing.
-use borrow.Author.Rules.{rules}
 use Rattle.laws.specs.Choice.{false≢true}
 use Rattle.joining.proofs.is_marked.Goals as goal
 

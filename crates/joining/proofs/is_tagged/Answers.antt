@@ -1,7 +1,5 @@
 -- `is_tagged` meets its contract.
 -- Assumes nothing.
-use native.Mathlib.Omega.{arith}
-use borrow.Author.Rules.{rules}
 use borrow.Author.Tests.{eqb-true}
 use lib.ListN.{get_or}
 use Rattle.laws.specs.Choice.{false≢true}

@@ -5,7 +5,6 @@ use mathlib.Core.Bool.{true}
 use mathlib.Core.List.{List}
 use Prim.Native.Nat.{ℕ, ◌+◌, ◌≤◌, ◌<◌}
 use native.Mathlib.Omega.{arith}
-use borrow.Author.Rules.{rules}
 use lib.ListN.{length}
 use Rattle.syntax.specs.Segment.{body_at}
 use Rattle.syntax.specs.Ends.{body_slice, end_within}
@@ -13,7 +12,6 @@ use Rattle.parts.specs.Segments.{segment_body}
 use Rattle.period.specs.Period.{period_of}
 use Rattle.period.specs.Pops.{PopKnown, pop_told_lem}
 use Rattle.period.specs.Wishes.{good_old}
-use Rattle.period.specs.declared.Form.{Form}
 use Rattle.joining.specs.Joined.{window_days, answered, days_joined}
 use Rattle.joining.specs.Told.{good_told, join_said}
 use Rattle.joining.proofs.join_at.Goals.{In-Whole, Start}

@@ -2,7 +2,6 @@
 -- Assumes nothing.
 use mathlib.Core.Bool.{true}
 use native.Mathlib.Omega.{arith}
-use borrow.Author.Rules.{rules}
 use Rattle.period.specs.Facts.{good_bounds}
 use Rattle.joining.specs.Told.{before_window, past_window, in_window_lem}
 use Rattle.joining.proofs.join_form.Goals as goal

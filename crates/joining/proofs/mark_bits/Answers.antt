@@ -1,7 +1,6 @@
 -- `mark_bits` meets its contract.
 -- Assumes nothing.
 use native.Mathlib.Omega.{arith}
-use borrow.Author.Rules.{rules}
 use Prim.Native.Nat.{◌/◌, ◌%◌}
 use Rattle.calendar.specs.Days.{has_bit}
 use Rattle.joining.specs.Eights.{mark_byte, moved_among, moved_small}

@@ -1,14 +1,12 @@
 -- `mark_released` meets its contract.
 -- Assumes nothing.
-use mathlib.Core.Path.{◌≡◌, refl, sym, ap, ◌∙◌}
-use Prim.Native.Nat.{ℕ, ◌+◌, ◌-◌, ◌≤◌}
+use mathlib.Core.Path.{refl, sym, ap, ◌∙◌}
+use Prim.Native.Nat.{ℕ, ◌+◌, ◌-◌}
 use native.Mathlib.Omega.{arith}
-use borrow.Author.Rules.{rules}
 use lib.Dec.{eqb}
-use lib.ListN.{length, drop, get_or}
+use lib.ListN.{get_or}
 use Rattle.syntax.specs.Bytes.{plain}
-use Rattle.values.specs.Laws.{next_byte, next_text, next_done}
-use Rattle.joining.specs.Joined.{marked}
+use Rattle.values.specs.Laws.{next_text, next_done}
 use Rattle.joining.specs.Marks.{length_step, mark_starts, mark_step, mark_ends, mark_none, text_here, text_next, text_gone}
 use Rattle.joining.proofs.mark_released.Goals as goal
 

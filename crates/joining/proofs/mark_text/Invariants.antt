@@ -1,19 +1,12 @@
 -- `mark_text` meets its contract.
 -- Assumes nothing.
-use mathlib.Core.Path.{◌≡◌, refl, sym, ap, ◌∙◌}
+use mathlib.Core.Path.{◌≡◌}
 use mathlib.Core.Bool.{Bool}
 use mathlib.Core.List.{List}
-use Prim.Native.Nat.{ℕ, ◌+◌, ◌-◌, ◌*◌, ◌/◌, ◌%◌, ◌≤◌, ◌<◌}
-use native.Mathlib.Omega.{arith}
-use borrow.Author.Rules.{rules}
+use Prim.Native.Nat.{ℕ, ◌+◌, ◌-◌, ◌%◌}
 use lib.Dec.{eqb}
-use lib.ListN.{length, get_or, length-set}
-use Rattle.raw_bytes.specs.Eights.{Eights, eights_known, fewer_known}
-use Rattle.calendar.specs.Days.{has_bit}
+use lib.ListN.{length, get_or}
 use Rattle.joining.specs.Joined.{marked}
-use Rattle.joining.specs.Marks.{mark_ends}
-use Rattle.joining.specs.Eights.{lead_on, byte_on, rest_on}
-use Rattle.joining.specs.Gathered.{eight_days}
 use Rattle.joining.proofs.mark_text.Given as goal
 
 abbrev pub on : List ℕ → ℕ → Bool

@@ -1,17 +1,12 @@
 -- `mark_weekdays` meets its contract.
 -- Assumes nothing.
-use mathlib.Core.Path.{◌≡◌, refl, sym, ap, ◌∙◌}
+use mathlib.Core.Path.{◌≡◌}
 use mathlib.Core.Bool.{Bool}
-use Prim.Native.Nat.{ℕ, ◌+◌, ◌-◌, ◌*◌, ◌/◌, ◌%◌, ◌≤◌, ◌<◌}
-use native.Mathlib.Omega.{arith}
-use borrow.Author.Rules.{rules}
-use lib.Bits.{bit_or}
-use lib.ListN.{length, get_or, set, length-set}
+use Prim.Native.Nat.{ℕ, ◌+◌, ◌-◌, ◌*◌, ◌≤◌, ◌<◌}
+use lib.ListN.{length}
 use Rattle.dates.specs.Days.{weekday_of}
 use Rattle.calendar.specs.Days.{has_bit}
 use Rattle.joining.specs.Joined.{marked}
-use Rattle.joining.specs.Marks.{mark_ends}
-use Rattle.joining.specs.Eights.{lead_on, byte_on, rest_on, next_days}
 use Rattle.joining.proofs.mark_weekdays.Given as goal
 
 abbrev pub on : ℕ → ℕ → ℕ → Bool

@@ -1,7 +1,6 @@
 -- `next_eight` meets its contract.
 -- Assumes nothing.
 use native.Mathlib.Omega.{arith}
-use borrow.Author.Rules.{rules}
 use Rattle.joining.specs.Eights.{turned_bit}
 use Rattle.joining.proofs.next_eight.Goals as goal
 

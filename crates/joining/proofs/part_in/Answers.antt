@@ -3,7 +3,6 @@
 use mathlib.Core.Path.{ap, ◌∙◌}
 use mathlib.Core.List.{List}
 use Prim.Native.Nat.{ℕ}
-use borrow.Author.Rules.{rules}
 use Rattle.syntax.specs.Pieces.{part_of}
 use Rattle.joining.specs.Places.{bytes_all}
 use Rattle.joining.proofs.part_in.Goals as goal

@@ -1,13 +1,9 @@
 -- `plain_week` meets its contract.
 -- Assumes nothing.
-use mathlib.Core.Path.{◌≡◌, refl, ◌∙◌}
-use mathlib.Core.List.{List, ◌∷◌}
-use Prim.Native.Nat.{ℕ, ◌+◌, ◌-◌}
-use native.Mathlib.Omega.{arith}
-use borrow.Author.Rules.{rules}
-use lib.ListN.{length, get_or, drop}
-use Rattle.laws.specs.Lists.{drop_here, drop_past}
-use Rattle.joining.specs.Weekdays.{plain_week, week_under, week_over, week_on, week_over_all}
+use mathlib.Core.Path.{◌≡◌}
+use Prim.Native.Nat.{◌-◌}
+use lib.ListN.{length, drop}
+use Rattle.joining.specs.Weekdays.{plain_week}
 use Rattle.joining.proofs.plain_week.Given as goal
 
 abbrev pub invariant-loop-i : goal.invariant-loop-i

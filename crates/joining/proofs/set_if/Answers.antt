@@ -1,9 +1,7 @@
 -- `set_if` meets its contract.
 -- Assumes nothing.
-use borrow.Author.Tests.{not-true, not-false}
 use mathlib.Core.Path.{sym, ap, ◌∙◌}
 use mathlib.Core.Bool.{Bool}
-use borrow.Author.Rules.{rules}
 use Rattle.laws.specs.Choice.{pick}
 use Rattle.calendar.specs.Days.{with_day}
 use Rattle.joining.proofs.set_if.Goals as goal

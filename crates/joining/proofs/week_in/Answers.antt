@@ -4,8 +4,6 @@ use mathlib.Core.Path.{ap, ◌∙◌}
 use mathlib.Core.List.{List}
 use Prim.Native.Nat.{ℕ}
 use native.Mathlib.Omega.{arith}
-use borrow.Author.Rules.{rules}
-use borrow.Author.Tests.{not-false}
 use Rattle.syntax.specs.Bytes.{plain}
 use Rattle.joining.specs.Joined.{week_bits}
 use Rattle.joining.specs.Weekdays.{week_found}

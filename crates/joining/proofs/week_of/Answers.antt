@@ -1,14 +1,10 @@
 -- `week_of` meets its contract.
 -- Assumes nothing.
-use mathlib.Core.Path.{◌≡◌, refl, sym, ◌∙◌}
-use mathlib.Core.List.{List}
-use Prim.Native.Nat.{ℕ, ◌-◌}
+use mathlib.Core.Path.{sym, ◌∙◌}
 use native.Mathlib.Omega.{arith}
-use borrow.Author.Rules.{rules}
-use lib.ListN.{length, drop}
+use lib.ListN.{drop}
 use Rattle.syntax.specs.Bytes.{plain}
 use Rattle.values.specs.Laws.{next_byte, next_done, plain_past, Follows}
-use Rattle.joining.specs.Joined.{week_bits}
 use Rattle.joining.specs.Weeks.{week_goes, week_ends}
 use Rattle.joining.proofs.week_of.Goals.{At-loop-i, In-Byte}
 use Rattle.joining.proofs.week_of.Goals as goal

@@ -1,5 +1,4 @@
 -- `messages::is_period` meets its contract. Assumes nothing.
-use borrow.Author.Rules.{rules}
 use borrow.Author.Tests.{eq-eqb, ne_eqb}
 use Rattle.messages.specs.Tags.{POP}
 use Rattle.messages.proofs.is_period.Goals as goal

@@ -1,7 +1,6 @@
 use mathlib.Core.Path.{sym}
 use native.Mathlib.Omega.{arith}
 use Rattle.laws.specs.Lists.{between_none, between_past, between_all}
-use borrow.Author.Rules.{rules}
 use Rattle.parts.proofs.bytes_of.Goals as goal
 
 pub returns-then-to-from : goal.returns-then-to-from

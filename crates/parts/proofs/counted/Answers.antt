@@ -1,6 +1,5 @@
 use mathlib.Core.Path.{◌∙◌}
 use Rattle.parts.specs.Located.{counted_none, counted_some}
-use borrow.Author.Rules.{rules}
 use Rattle.parts.proofs.counted.Goals as goal
 
 pub returns-then-n-eq0 : goal.returns-then-n-eq0

@@ -1,6 +1,5 @@
 use mathlib.Core.Path.{◌∙◌}
 use Rattle.parts.specs.Located.{element_none, element_some}
-use borrow.Author.Rules.{rules}
 use Rattle.parts.proofs.element.Goals as goal
 
 pub returns-then-e-eq0 : goal.returns-then-e-eq0

@@ -1,5 +1,4 @@
 use mathlib.Core.Path.{◌∙◌}
-use borrow.Author.Rules.{rules}
 use Rattle.parts.specs.Component.{component_absent, component_first}
 use Rattle.parts.proofs.first_component.Goals as goal
 

@@ -1,13 +1,10 @@
 use mathlib.Core.Path.{◌≡◌, sym, ◌∙◌}
-use mathlib.Core.Bool.{Bool}
-use Prim.Native.Nat.{ℕ}
 use borrow.Author.Tests.{lt-ltb, le-ltb}
 use lib.Dec.{ltb}
 use lib.ListN.{length}
 use Rattle.laws.specs.Choice.{both}
 use Rattle.parts.specs.Places.{bytes_of, repeats}
 use Rattle.parts.specs.Located.{repeats_at}
-use borrow.Author.Rules.{rules}
 use Rattle.parts.proofs.is_repeated.Goals.{After-piece_end-end}
 use Rattle.parts.proofs.is_repeated.Goals as goal
 

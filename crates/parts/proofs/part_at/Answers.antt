@@ -1,9 +1,7 @@
 use mathlib.Core.Path.{sym, ap, ap₂, ◌∙◌}
 use Prim.Native.Nat.{ℕ}
-use borrow.Author.Tests.{eqb-true}
 use Rattle.parts.specs.declared.Part.{Part}
 use Rattle.parts.specs.Places.{occurrence_at, component_at, part_at}
-use borrow.Author.Rules.{rules}
 use Rattle.parts.proofs.part_at.Goals as goal
 
 pub returns-then-c-eq1 : goal.returns-then-c-eq1

@@ -1,7 +1,5 @@
 use mathlib.Core.Path.{ap, ◌∙◌}
 use Prim.Native.Nat.{ℕ}
-use borrow.Author.Rules.{rules}
-use Rattle.parts.specs.declared.Part.{Part}
 use Rattle.parts.proofs.piece.Goals as goal
 
 pub returns : goal.returns

@@ -1,7 +1,6 @@
 -- `pop_at` meets its contract.
 -- Assumes nothing.
 use mathlib.Core.Path.{sym, ◌∙◌}
-use borrow.Author.Rules.{rules}
 use Rattle.period.specs.Pops.{pop_known}
 use Rattle.period.specs.Wishes.{wished_pop, unwished_pop}
 use Rattle.period.proofs.pop_at.Goals as goal

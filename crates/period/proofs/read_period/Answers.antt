@@ -1,6 +1,5 @@
 -- `read_period` meets its contract.
 -- Assumes nothing.
-use borrow.Author.Rules.{rules}
 use Rattle.parts.specs.Places.{bytes_of}
 use Rattle.period.specs.Said.{period_said}
 use Rattle.period.proofs.read_period.Goals as goal

@@ -1,7 +1,6 @@
 -- `read_pop` meets its contract.
 -- Assumes nothing.
 use mathlib.Core.Path.{◌≡◌, refl, sym, ◌∙◌}
-use borrow.Author.Rules.{rules}
 use Rattle.syntax.specs.declared.segment.Scanned.{Scanned}
 use Rattle.syntax.specs.declared.segment.Scanned.TheVariants.{NotPermitted, Unended, Malformed}
 use Rattle.syntax.specs.Segment.{body_at}

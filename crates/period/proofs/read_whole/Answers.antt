@@ -1,9 +1,6 @@
 -- `read_whole` meets its contract.
 -- Assumes nothing.
 use mathlib.Core.Path.{◌≡◌, sym, ap, ◌∙◌}
-use mathlib.Core.List.{List}
-use Prim.Native.Nat.{ℕ}
-use borrow.Author.Rules.{rules}
 use Rattle.syntax.specs.Ends.{body_slice}
 use Rattle.syntax.specs.declared.segment.Scanned.TheVariants.{End}
 use Rattle.period.specs.declared.Period.{Period}

@@ -1,7 +1,6 @@
 -- `eight_at` meets its contract.
 -- Assumes nothing.
 use native.Mathlib.Omega.{arith}
-use borrow.Author.Rules.{rules}
 use Rattle.laws.specs.Eight.{word_row}
 use Rattle.raw_bytes.specs.Eights.{eights_of}
 use Rattle.raw_bytes.proofs.eight_at.Goals as goal

@@ -3,7 +3,6 @@
 use Prim.Native.Nat.{◌+◌, ◌≤◌}
 use native.Mathlib.Omega.{arith}
 use lib.ListN.{length, get_or-eq_default}
-use borrow.Author.Rules.{rules}
 use Rattle.raw_bytes.proofs.number_at.Goals as goal
 
 pub returns-then-b-at : goal.returns-then-b-at

@@ -1,14 +1,9 @@
 -- `put_bytes` meets its contract: after i turns the first i bytes are pasted at the offset.
 -- Assumes nothing.
-use mathlib.Core.Path.{◌≡◌, refl, sym, ◌∙◌, ap}
-use mathlib.Core.Bool.{true}
+use mathlib.Core.Path.{◌≡◌}
 use Prim.Native.Nat.{◌+◌, ◌-◌, ◌≤◌}
-use native.Mathlib.Omega.{arith}
-use lib.Dec.{leb}
-use lib.ListN.{length, length-set}
-use lib.Seq.{paste, paste-zero}
-use borrow.Author.Tests.{le-leb}
-use Rattle.laws.specs.Put.{put_room, put_refused, copied}
+use lib.ListN.{length}
+use lib.Seq.{paste}
 use Rattle.raw_bytes.proofs.put_bytes.Given as goal
 
 abbrev pub invariant-loop-i : goal.invariant-loop-i

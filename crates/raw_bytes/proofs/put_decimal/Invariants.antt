@@ -1,13 +1,10 @@
 -- `put_decimal` meets its contract: the digits still to be written stand before those that are.
 -- Assumes nothing.
-use mathlib.Core.Path.{◌≡◌, refl, ◌∙◌}
-use mathlib.Core.List.{◌++◌, append-nil}
-use Prim.Native.Nat.{◌+◌, ◌%◌, ◌≤◌}
-use native.Mathlib.Omega.{arith}
-use borrow.Author.Rules.{rules}
-use lib.ListN.{length, drop, length-set}
+use mathlib.Core.Path.{◌≡◌}
+use mathlib.Core.List.{◌++◌}
+use Prim.Native.Nat.{◌≤◌}
+use lib.ListN.{length, drop}
 use Rattle.laws.specs.Decimal.{decimal_on, decimal_of}
-use Rattle.laws.specs.Digits.{last_written, one_written, all_written, digits_put}
 use Rattle.raw_bytes.proofs.put_decimal.Given as goal
 
 abbrev pub invariant-loop-from : goal.invariant-loop-from

@@ -6,7 +6,6 @@ use native.Mathlib.Omega.{arith}
 use lib.ListN.{length, drop, length-drop}
 use lib.Seq.{take_all}
 use Rattle.laws.specs.Put.{put_at}
-use borrow.Author.Rules.{rules}
 use Rattle.raw_bytes.proofs.put_from.Goals as goal
 
 pub returns : goal.returns

@@ -1,7 +1,6 @@
 -- `segment_tables::table_of` meets its contract. Assumes nothing.
 use mathlib.Core.Path.{sym, ap, ◌∙◌}
 use Rattle.placing.specs.Tables.{table_in, lent_in}
-use borrow.Author.Rules.{rules}
 use Rattle.segment_tables.proofs.table_of.Goals as goal
 
 pub returns-in-Skdupd : goal.returns-in-Skdupd

@@ -1,7 +1,7 @@
 -- `slots::compare` meets its contract. Invariant: what is left of the two compares as the two do.
 -- Assumes nothing.
-use Rattle.std.proofs.Common.{◌≡◌, ℕ, ◌-◌, List, length, drop, refl, ◌∙◌, arith}
-use Rattle.slots.specs.Order.{order_of, ended, shorter, longer, below, above, level}
+use Rattle.std.proofs.Common.{◌∙◌}
+use Rattle.slots.specs.Order.{ended, shorter, longer, below, above, level}
 use Rattle.slots.proofs.compare.Goals.{Else-b-i}
 use Rattle.slots.proofs.compare.Goals as goal
 

@@ -1,7 +1,7 @@
 -- `slots::compare` meets its contract. Invariant: what is left of the two compares as the two do.
 -- Assumes nothing.
-use Rattle.std.proofs.Common.{◌≡◌, ℕ, ◌-◌, List, length, drop, refl, ◌∙◌, arith}
-use Rattle.slots.specs.Order.{order_of, ended, shorter, longer, below, above, level}
+use Rattle.std.proofs.Common.{◌≡◌, ◌-◌, length, drop}
+use Rattle.slots.specs.Order.{order_of}
 use Rattle.slots.proofs.compare.Given as goal
 
 abbrev pub invariant-loop-i : goal.invariant-loop-i

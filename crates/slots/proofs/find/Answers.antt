@@ -1,6 +1,6 @@
 -- `slots::find` meets its contract.
 -- Assumes nothing.
-use Rattle.std.proofs.Common.{sym, ◌∙◌, rules}
+use Rattle.std.proofs.Common.{sym, ◌∙◌}
 use Rattle.slots.specs.Steps.{none_found}
 use Rattle.slots.proofs.find.Goals as goal
 

@@ -1,9 +1,7 @@
 -- `slots::find_words` meets its contract. Invariant: halving between lo and hi, with halvings left, leads to the answer.
 -- Assumes nothing.
-use Rattle.std.proofs.Common.{◌≡◌, ℕ, ◌+◌, ◌-◌, ◌/◌, ◌≤◌, List, length, sym, refl, ◌∙◌, arith, rules}
-use Rattle.slots.specs.declared.Order.{Order}
-use Rattle.slots.specs.declared.Order.TheVariants.{Before, Same, After}
-use Rattle.slots.specs.Find.{slot_order, halve, half_of, find_of, slot_order_lem, halve_end, halve_step}
+use Rattle.std.proofs.Common.{◌≡◌, ℕ, ◌+◌, ◌-◌, ◌/◌, ◌≤◌, length}
+use Rattle.slots.specs.Find.{slot_order, halve, find_of}
 use Rattle.slots.proofs.find_words.Given as goal
 
 abbrev pub invariant-loop-lo : goal.invariant-loop-lo

@@ -1,9 +1,7 @@
 -- `slots::is_rising` meets its contract. Invariant: the slots from k on rise exactly when all do.
 -- Assumes nothing.
-use Rattle.std.proofs.Common.{◌≡◌, ◌-◌, ◌/◌, ◌≤◌, length, drop, refl, ◌∙◌, arith}
-use borrow.Author.Tests.{not-true, not-false}
-use Rattle.slots.specs.Slots.{slots_of}
-use Rattle.slots.specs.Rising.{rising, rising_end, rising_on, rising_not}
+use Rattle.std.proofs.Common.{refl, ◌∙◌, arith}
+use Rattle.slots.specs.Rising.{rising_end, rising_on, rising_not}
 use Rattle.slots.proofs.is_rising.Goals as goal
 
 pub loop-k-init : goal.loop-k-init

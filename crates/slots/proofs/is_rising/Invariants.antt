@@ -1,9 +1,8 @@
 -- `slots::is_rising` meets its contract. Invariant: the slots from k on rise exactly when all do.
 -- Assumes nothing.
-use Rattle.std.proofs.Common.{◌≡◌, ◌-◌, ◌/◌, ◌≤◌, length, drop, refl, ◌∙◌, arith}
-use borrow.Author.Tests.{not-true, not-false}
+use Rattle.std.proofs.Common.{◌≡◌, ◌-◌, ◌/◌, ◌≤◌, length, drop}
 use Rattle.slots.specs.Slots.{slots_of}
-use Rattle.slots.specs.Rising.{rising, rising_end, rising_on, rising_not}
+use Rattle.slots.specs.Rising.{rising}
 use Rattle.slots.proofs.is_rising.Given as goal
 
 abbrev pub invariant-loop-k : goal.invariant-loop-k

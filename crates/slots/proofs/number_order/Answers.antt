@@ -1,30 +1,30 @@
 -- `slots::number_order` meets its contract.
 -- Assumes nothing.
-use Rattle.std.proofs.Common.{◌≡◌, ℕ, ◌+◌, ◌-◌, ◌%◌, ◌^◌, List, take, drop, sym, ap, ◌∙◌, ap₂, arith, rules}
+use Rattle.std.proofs.Common.{◌≡◌, ℕ, ◌+◌, ◌-◌, ◌%◌, ◌^◌, take, drop, sym, ap, ◌∙◌, ap₂, arith}
 use Rattle.slots.specs.declared.Order.{Order}
 use Rattle.slots.specs.Order.{order_by}
 use Rattle.slots.specs.Words.{Bytes, high_of}
 use Rattle.slots.specs.Steps.{Step, high_least, level_told, before_told, after_told}
-use Rattle.slots.proofs.number_order.Goals.{After-shared_slice_known-2-1, After-wrapping_sub_usize-behind, Start}
+use Rattle.slots.proofs.number_order.Goals.{After-wrapping_sub_usize-behind}
 use Rattle.slots.proofs.number_order.Goals as goal
 
 -- how far the number is behind the slot's was told
 module _ (b : After-wrapping_sub_usize-behind) where
   number_bytes : Bytes b.args.number.now
-  number_bytes i = omega (arith, b.shared_slice_known-2-1.given i)
+  number_bytes i = omega (arith, b.type_inv.number i)
 
   behind_is : (b.wrapping_sub_usize-behind.result + high_of (take (b.args.at + 10 - b.args.at) (drop b.args.at b.args.room.now))) % 2 ^ 64 ≡ b.args.high
-  behind_is = sym (ap (λ (h : ℕ). (b.wrapping_sub_usize-behind.result + h) % 2 ^ 64) b.high.ensures) ∙ b.wrapping_sub_usize-behind.ensures
+  behind_is = sym (ap (λ (h : ℕ). (b.wrapping_sub_usize-behind.result + h) % 2 ^ 64) b.high.ensures) ∙ b.wrapping_sub_usize-behind.ensures.value
 
   abbrev step : Step b.args.room.now b.args.number.now b.args.at (b.args.at + 10 - b.args.at) b.args.high b.args.low b.wrapping_sub_usize-behind.result
   step = record {
     ten = omega arith;
-    b.args.room.now = b.requires.0;
-    slot = λ i. omega (arith, b.shared_slice_known-1.given i);
+    room = b.requires.0;
+    slot = λ i. omega (arith, b.type_inv.room i);
     bytes = number_bytes;
     words = b.requires.1;
     is = behind_is;
-    fits = omega (arith, b.wrapping_sub_usize-behind.ok);
+    fits = omega (arith, b.wrapping_sub_usize-behind.type_inv);
   }
 
 pub returns-then-behind-eq0 : goal.returns-then-behind-eq0

@@ -1,6 +1,6 @@
 -- `slots::rises_at` meets its contract.
 -- Assumes nothing.
-use Rattle.std.proofs.Common.{◌≡◌, ℕ, ◌+◌, ◌-◌, List, take, drop, sym, ap, ◌∙◌, arith, rules}
+use Rattle.std.proofs.Common.{◌≡◌, ◌+◌, ◌-◌, take, drop, sym, ap, ◌∙◌, arith}
 use Rattle.slots.specs.Rising.{is_before, rises, rises_told}
 use Rattle.slots.proofs.rises_at.Goals.{After-compare}
 use Rattle.slots.proofs.rises_at.Goals as goal

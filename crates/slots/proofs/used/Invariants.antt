@@ -1,8 +1,8 @@
 -- `slots::used` meets its contract. Invariant: those passed and those that still lead are all that lead.
 -- Assumes nothing.
-use Rattle.std.proofs.Common.{◌≡◌, ◌+◌, ◌-◌, ◌/◌, ◌≤◌, length, drop, zero-add, arith}
+use Rattle.std.proofs.Common.{◌≡◌, ◌+◌, ◌-◌, ◌/◌, ◌≤◌, length, drop}
 use Rattle.slots.specs.Slots.{slots_of}
-use Rattle.slots.specs.Rising.{leading, leading_end, leading_stop, leading_on}
+use Rattle.slots.specs.Rising.{leading}
 use Rattle.slots.proofs.used.Given as goal
 
 abbrev pub invariant-loop-k : goal.invariant-loop-k

@@ -1,4 +1,4 @@
-use mathlib.Core.Path.{◌≡◌, refl, sym, ap, ◌∙◌}
+use mathlib.Core.Path.{◌≡◌, sym, ap, ◌∙◌}
 use mathlib.Core.Bool.{true, false}
 use native.Mathlib.Omega.{arith}
 use borrow.Author.Tests.{lt-ltb, le-ltb}
@@ -7,7 +7,6 @@ use lib.ListN.{length}
 use Rattle.laws.specs.Put.{put_no_room}
 use Rattle.values.specs.declared.Copied.TheVariants.{Bytes}
 use Rattle.syntax.specs.Bytes.{plain}
-use borrow.Author.Rules.{rules}
 use Rattle.values.proofs.copy_plain.Goals as goal
 
 pub returns-then-to-n : goal.returns-then-to-n

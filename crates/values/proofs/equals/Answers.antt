@@ -1,14 +1,10 @@
 use Rattle.values.specs.Laws.{same_short, same_differs, same_goes, same_over}
-use mathlib.Core.Path.{◌≡◌, refl, sym, ap, ◌∙◌}
-use mathlib.Core.List.{List}
-use Prim.Native.Nat.{ℕ, ◌+◌, ◌-◌, ◌≤◌}
+use mathlib.Core.Path.{refl, sym, ◌∙◌}
 use native.Mathlib.Omega.{arith}
-use borrow.Author.Rules.{rules}
-use lib.ListN.{length, drop}
+use lib.ListN.{drop}
 use Rattle.laws.specs.Lists.{drop_here, drop_past}
 use Rattle.syntax.specs.Bytes.{plain}
-use Rattle.values.specs.Values.{same_text}
-use Rattle.values.specs.Laws.{next_byte, next_done, plain_past, same_here, same_not, same_more, same_end, none_left, Follows}
+use Rattle.values.specs.Laws.{next_byte, next_done, plain_past, none_left, Follows}
 use Rattle.values.proofs.equals.Goals.{At-loop-i, In-Byte}
 use Rattle.values.proofs.equals.Goals as goal
 

@@ -1,12 +1,8 @@
-use mathlib.Core.Path.{◌≡◌, refl, sym, ap, ◌∙◌}
-use mathlib.Core.List.{List}
-use Prim.Native.Nat.{ℕ, ◌+◌, ◌-◌, ◌≤◌}
-use native.Mathlib.Omega.{arith}
-use borrow.Author.Rules.{rules}
-use lib.ListN.{length, drop, length-set}
-use Rattle.laws.specs.Put.{put_at, put_none, put_step}
+use mathlib.Core.Path.{◌≡◌}
+use Prim.Native.Nat.{◌+◌, ◌-◌, ◌≤◌}
+use lib.ListN.{length, drop}
+use Rattle.laws.specs.Put.{put_at}
 use Rattle.syntax.specs.Bytes.{plain}
-use Rattle.values.specs.Laws.{next_byte, next_done, plain_past, Follows}
 use Rattle.values.proofs.fill.Given as goal
 
 abbrev pub invariant-loop-i : goal.invariant-loop-i

@@ -1,6 +1,4 @@
-use native.Mathlib.Omega.{arith}
 use Rattle.values.specs.Laws.{next_past, next_bare, next_none, next_released}
-use borrow.Author.Rules.{rules}
 use Rattle.values.proofs.next_byte.Goals as goal
 
 pub returns-then-part-i : goal.returns-then-part-i

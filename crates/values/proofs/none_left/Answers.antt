@@ -1,8 +1,6 @@
 use mathlib.Core.Path.{sym, ap, ◌∙◌}
-use Rattle.laws.specs.Choice.{choose}
 use Rattle.values.specs.Values.{is_empty}
 use Rattle.values.specs.Laws.{next_done, next_some}
-use borrow.Author.Rules.{rules}
 use Rattle.values.proofs.none_left.Goals as goal
 
 pub returns-in-Byte : goal.returns-in-Byte

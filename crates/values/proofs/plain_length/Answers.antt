@@ -1,11 +1,7 @@
 use Rattle.values.specs.Laws.{Follows}
-use mathlib.Core.Path.{◌≡◌, refl, sym, ap, ◌∙◌}
-use mathlib.Core.List.{List}
-use Prim.Native.Nat.{ℕ, ◌+◌, ◌-◌, ◌≤◌}
+use mathlib.Core.Path.{sym, ap, ◌∙◌}
 use native.Mathlib.Omega.{arith}
-use borrow.Author.Rules.{rules}
-use lib.ListN.{length, drop}
-use Rattle.syntax.specs.Bytes.{plain}
+use lib.ListN.{length}
 use Rattle.values.specs.Laws.{next_byte, next_done, plain_past}
 use Rattle.values.proofs.plain_length.Goals.{In-Byte}
 use Rattle.values.proofs.plain_length.Goals as goal

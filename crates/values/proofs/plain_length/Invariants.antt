@@ -1,12 +1,7 @@
-use Rattle.values.specs.Laws.{Follows}
-use mathlib.Core.Path.{◌≡◌, refl, sym, ap, ◌∙◌}
-use mathlib.Core.List.{List}
-use Prim.Native.Nat.{ℕ, ◌+◌, ◌-◌, ◌≤◌}
-use native.Mathlib.Omega.{arith}
-use borrow.Author.Rules.{rules}
+use mathlib.Core.Path.{◌≡◌}
+use Prim.Native.Nat.{◌+◌, ◌-◌, ◌≤◌}
 use lib.ListN.{length, drop}
 use Rattle.syntax.specs.Bytes.{plain}
-use Rattle.values.specs.Laws.{next_byte, next_done, plain_past}
 use Rattle.values.proofs.plain_length.Given as goal
 
 abbrev pub invariant-loop-i : goal.invariant-loop-i

@@ -1,11 +1,8 @@
-use mathlib.Core.Path.{◌≡◌, refl, sym, ap, ◌∙◌}
-use mathlib.Core.List.{List, ◌∷◌}
-use Prim.Native.Nat.{ℕ, ◌+◌, ◌-◌, ◌≤◌}
+use mathlib.Core.Path.{◌≡◌, sym, ◌∙◌}
+use mathlib.Core.List.{◌∷◌}
 use native.Mathlib.Omega.{arith}
-use borrow.Author.Rules.{rules}
-use lib.ListN.{length, drop}
+use lib.ListN.{drop}
 use Rattle.syntax.specs.Bytes.{plain}
-use Rattle.values.specs.Values.{same_text}
 use Rattle.values.specs.Laws.{next_byte, next_text, next_done, plain_past, same_short, same_differs, same_goes, same_over, Follows}
 use Rattle.values.proofs.same.Goals.{At-loop-i, In-Byte, In-Byte-next_byte}
 use Rattle.values.proofs.same.Goals as goal

@@ -2,7 +2,6 @@
 -- Assumes nothing.
 use mathlib.Core.Path.{ap, sym, ◌∙◌}
 use mathlib.Core.Bool.{Bool}
-use borrow.Author.Rules.{rules}
 use Rattle.calendar.specs.Written.{character_count}
 use Rattle.calendar.proofs.day_string.character_count.Goals as goal
 

@@ -2,7 +2,6 @@
 -- Assumes nothing.
 use mathlib.Core.Path.{sym, ◌∙◌}
 use Rattle.calendar.specs.Written.{day_character}
-use borrow.Author.Rules.{rules}
 use Rattle.calendar.proofs.day_string.day_character.Goals as goal
 
 pub returns-then-test_day : goal.returns-then-test_day

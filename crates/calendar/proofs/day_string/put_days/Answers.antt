@@ -1,10 +1,9 @@
 -- `put_days` meets its contract: after i turns the first i characters are pasted at the offset.
 -- Assumes nothing.
-use mathlib.Core.Path.{◌≡◌, refl, ◌∙◌}
-use Prim.Native.Nat.{◌+◌, ◌-◌, ◌≤◌}
+use mathlib.Core.Path.{refl, ◌∙◌}
 use native.Mathlib.Omega.{arith}
-use lib.ListN.{length, length-set}
-use lib.Seq.{paste, paste-zero}
+use lib.ListN.{length-set}
+use lib.Seq.{paste-zero}
 use Rattle.calendar.specs.Written.{day_characters}
 use Rattle.calendar.specs.Steps.{days_refused, days_step, days_done}
 use Rattle.calendar.proofs.day_string.put_days.Goals as goal

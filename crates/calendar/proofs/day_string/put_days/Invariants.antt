@@ -1,12 +1,10 @@
 -- `put_days` meets its contract: after i turns the first i characters are pasted at the offset.
 -- Assumes nothing.
-use mathlib.Core.Path.{◌≡◌, refl, ◌∙◌}
+use mathlib.Core.Path.{◌≡◌}
 use Prim.Native.Nat.{◌+◌, ◌-◌, ◌≤◌}
-use native.Mathlib.Omega.{arith}
-use lib.ListN.{length, length-set}
-use lib.Seq.{paste, paste-zero}
+use lib.ListN.{length}
+use lib.Seq.{paste}
 use Rattle.calendar.specs.Written.{day_characters}
-use Rattle.calendar.specs.Steps.{days_refused, days_step, days_done}
 use Rattle.calendar.proofs.day_string.put_days.Given as goal
 
 abbrev pub invariant-loop-i : goal.invariant-loop-i

@@ -1,10 +1,6 @@
 -- `short_count` meets its contract: the days left decide as all the days do.
 -- Assumes nothing.
-use mathlib.Core.Path.{◌≡◌, refl, sym, ◌∙◌}
-use Prim.Native.Nat.{◌-◌}
-use native.Mathlib.Omega.{arith}
-use borrow.Author.Rules.{rules}
-use Rattle.calendar.specs.Written.{short_count}
+use mathlib.Core.Path.{sym, ◌∙◌}
 use Rattle.calendar.specs.Short.{short_found, short_on, short_none}
 use Rattle.calendar.proofs.day_string.short_count.Goals as goal
 

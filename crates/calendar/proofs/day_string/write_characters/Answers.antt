@@ -2,7 +2,6 @@
 -- Assumes nothing.
 use native.Mathlib.Omega.{arith}
 use Rattle.calendar.specs.Parts.{characters_refused, characters_put}
-use borrow.Author.Rules.{rules}
 use Rattle.calendar.proofs.day_string.write_characters.Goals as goal
 
 pub returns-then-out-lt32 : goal.returns-then-out-lt32

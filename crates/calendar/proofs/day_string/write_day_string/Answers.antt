@@ -2,7 +2,6 @@
 -- Assumes nothing.
 use mathlib.Core.Path.{sym, ◌∙◌}
 use Rattle.calendar.specs.Parts.{day_string_bad, day_string_good}
-use borrow.Author.Rules.{rules}
 use Rattle.calendar.proofs.day_string.write_day_string.Goals as goal
 
 pub returns-in_default : goal.returns-in_default

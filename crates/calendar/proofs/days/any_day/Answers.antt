@@ -1,9 +1,6 @@
 -- `any_day` meets its contract: the days left decide as all the days do.
 -- Assumes nothing.
-use mathlib.Core.Path.{◌≡◌, refl, sym, ◌∙◌}
-use Prim.Native.Nat.{◌-◌}
-use native.Mathlib.Omega.{arith}
-use Rattle.calendar.specs.Written.{any_day}
+use mathlib.Core.Path.{sym, ◌∙◌}
 use Rattle.calendar.specs.Steps.{any_found, any_on, any_end}
 use Rattle.calendar.proofs.days.any_day.Goals as goal
 

@@ -1,10 +1,8 @@
 -- `any_day` meets its contract: the days left decide as all the days do.
 -- Assumes nothing.
-use mathlib.Core.Path.{◌≡◌, refl, sym, ◌∙◌}
+use mathlib.Core.Path.{◌≡◌}
 use Prim.Native.Nat.{◌-◌}
-use native.Mathlib.Omega.{arith}
 use Rattle.calendar.specs.Written.{any_day}
-use Rattle.calendar.specs.Steps.{any_found, any_on, any_end}
 use Rattle.calendar.proofs.days.any_day.Given as goal
 
 abbrev pub invariant-loop-k : goal.invariant-loop-k

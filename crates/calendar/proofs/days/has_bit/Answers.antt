@@ -5,7 +5,6 @@ use Prim.Native.Nat.{ℕ, ◌/◌, ◌%◌, ◌^◌}
 use lib.Bits.{and_mask}
 use lib.Dec.{eqb}
 use Rattle.calendar.specs.Days.{has_bit}
-use borrow.Author.Rules.{rules}
 use Rattle.calendar.proofs.days.has_bit.Goals as goal
 
 pub returns : goal.returns

@@ -5,7 +5,6 @@ use Prim.Native.Nat.{◌/◌}
 use lib.ListN.{set}
 use Rattle.calendar.specs.Days.{with_day}
 use Rattle.calendar.specs.Laws.{with_past}
-use borrow.Author.Rules.{rules}
 use Rattle.calendar.proofs.days.set_day.Goals as goal
 
 pub returns-then-days-at : goal.returns-then-days-at

@@ -3,7 +3,6 @@
 use mathlib.Core.Path.{sym}
 use Rattle.calendar.specs.Days.{day}
 use Rattle.calendar.specs.Laws.{day_past}
-use borrow.Author.Rules.{rules}
 use Rattle.calendar.proofs.days.test_day.Goals as goal
 
 pub returns-then-days-at : goal.returns-then-days-at

@@ -4,7 +4,6 @@ use Prim.Native.Nat.{◌%◌}
 use native.Mathlib.Omega.{arith}
 use Rattle.calendar.specs.Days.{with_bit}
 use Rattle.calendar.specs.Bits.{shifted}
-use borrow.Author.Rules.{rules}
 use Rattle.calendar.proofs.days.with_bit.Goals as goal
 
 pub returns : goal.returns

@@ -2,7 +2,6 @@
 -- Assumes nothing.
 use mathlib.Core.Path.{sym, ◌∙◌}
 use Rattle.calendar.specs.Check.{bad_length, bad_span, bad_past, good}
-use borrow.Author.Rules.{rules}
 use Rattle.calendar.proofs.spans.check.Goals as goal
 
 pub returns-then-days-ne64 : goal.returns-then-days-ne64

@@ -3,7 +3,6 @@
 use mathlib.Core.Path.{sym, ◌∙◌}
 use Rattle.dates.specs.Laws.{number_known, number_unknown}
 use Rattle.calendar.specs.Check.{bad_first, bad_last, span_numbers}
-use borrow.Author.Rules.{rules}
 use Rattle.calendar.proofs.spans.days_between.Goals as goal
 
 pub returns-in_default : goal.returns-in_default

@@ -1,6 +1,5 @@
 -- `days_from` meets its contract.
 -- Assumes nothing.
-use borrow.Author.Rules.{rules}
 use Rattle.calendar.specs.Check.{bad_order, bad_many, good_span}
 use Rattle.calendar.proofs.spans.days_from.Goals as goal
 

@@ -1,7 +1,6 @@
 -- `put_start` meets its contract.
 -- Assumes nothing.
 use Rattle.calendar.specs.Parts.{start_refused, start_put}
-use borrow.Author.Rules.{rules}
 use Rattle.calendar.proofs.start.put_start.Goals as goal
 
 pub returns-then-out-lt29 : goal.returns-then-out-lt29

@@ -1,12 +1,9 @@
 -- `all_on` meets its contract: the days left decide as all the days do.
 -- Assumes nothing.
-use mathlib.Core.Path.{◌≡◌, sym, ◌∙◌}
+use mathlib.Core.Path.{◌≡◌}
 use Prim.Native.Nat.{◌-◌}
-use native.Mathlib.Omega.{arith}
-use borrow.Author.Tests.{not-true, not-false}
 use Rattle.calendar.specs.Days.{has_bit}
 use Rattle.calendar.specs.Written.{all_on}
-use Rattle.calendar.specs.WeekLaws.{on_fails, on_goes, on_ends, on_starts}
 use Rattle.calendar.proofs.weekdays.all_on.Given as goal
 
 abbrev pub invariant-loop-k : goal.invariant-loop-k

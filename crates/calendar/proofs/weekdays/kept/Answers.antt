@@ -1,7 +1,6 @@
 -- `kept` meets its contract.
 -- Assumes nothing.
 use mathlib.Core.Path.{sym, ◌∙◌}
-use borrow.Author.Rules.{rules}
 use Rattle.calendar.proofs.weekdays.kept.Goals as goal
 
 pub returns-then-has_bit : goal.returns-then-has_bit

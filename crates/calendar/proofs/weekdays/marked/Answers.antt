@@ -2,7 +2,6 @@
 -- Assumes nothing.
 use mathlib.Core.Path.{sym, ◌∙◌}
 use Rattle.calendar.specs.Week.{mark}
-use borrow.Author.Rules.{rules}
 use Rattle.calendar.proofs.weekdays.marked.Goals as goal
 
 pub returns-then-test_day : goal.returns-then-test_day

@@ -1,12 +1,10 @@
 -- `weekday_digits` meets its contract: the digits placed, and those of the weekdays left, are all the digits.
 -- Assumes nothing.
-use mathlib.Core.Path.{◌≡◌, refl, sym, ◌∙◌}
-use mathlib.Core.List.{◌++◌}
-use Prim.Native.Nat.{◌-◌, ◌%◌, ◌≤◌, ◌<◌}
+use mathlib.Core.Path.{refl, sym, ◌∙◌}
+use Prim.Native.Nat.{◌%◌}
 use native.Mathlib.Omega.{arith}
-use lib.ListN.{length, take, length-set}
+use lib.ListN.{take, length-set}
 use Rattle.calendar.specs.Days.{has_bit}
-use Rattle.calendar.specs.Written.{digits_from}
 use Rattle.calendar.specs.WeekLaws.{one_small, digit_step, digits_end}
 use Rattle.calendar.proofs.weekdays.weekday_digits.Goals as goal
 

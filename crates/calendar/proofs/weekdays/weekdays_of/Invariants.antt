@@ -1,10 +1,8 @@
 -- `weekdays_of` meets its contract: after k turns the byte is that of the first k days.
 -- Assumes nothing.
-use mathlib.Core.Path.{◌≡◌, refl, ◌∙◌, ap}
+use mathlib.Core.Path.{◌≡◌}
 use Prim.Native.Nat.{◌-◌, ◌≤◌}
-use native.Mathlib.Omega.{arith}
 use Rattle.calendar.specs.Week.{week_of}
-use Rattle.calendar.specs.WeekLaws.{week_step}
 use Rattle.calendar.proofs.weekdays.weekdays_of.Given as goal
 
 abbrev pub invariant-loop-k : goal.invariant-loop-k

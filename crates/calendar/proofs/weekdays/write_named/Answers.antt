@@ -2,7 +2,6 @@
 -- Assumes nothing.
 use native.Mathlib.Omega.{arith}
 use Rattle.calendar.specs.Parts.{named_refused, named_put}
-use borrow.Author.Rules.{rules}
 use Rattle.calendar.proofs.weekdays.write_named.Goals as goal
 
 pub returns-then-out-lt31 : goal.returns-then-out-lt31

@@ -2,9 +2,7 @@
 -- Assumes nothing.
 use mathlib.Core.Path.{sym, ◌∙◌}
 use lib.Seq.{length-take-le}
-use borrow.Author.Tests.{not-true, not-false}
 use Rattle.calendar.specs.Parts.{checked_small, no_day, not_whole, weekdays_good, weekdays_bad}
-use borrow.Author.Rules.{rules}
 use Rattle.calendar.proofs.weekdays.write_weekdays.Goals as goal
 
 pub returns-in_default : goal.returns-in_default

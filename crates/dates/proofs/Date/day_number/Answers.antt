@@ -1,7 +1,6 @@
 -- `Date::day_number` meets its contract.
 -- Assumes nothing.
 use Rattle.dates.specs.Dates.{day_of, number_of}
-use borrow.Author.Rules.{rules}
 use Rattle.dates.proofs.Date.day_number.Goals as goal
 
 pub returns : goal.returns

@@ -1,7 +1,6 @@
 -- `Date::from_number` meets its contract.
 -- Assumes nothing.
 use Rattle.dates.specs.Back.{past_last, found}
-use borrow.Author.Rules.{rules}
 use Rattle.dates.proofs.Date.from_number.Goals as goal
 
 pub returns-then-number-ge40177 : goal.returns-then-number-ge40177

@@ -4,7 +4,6 @@ use mathlib.Core.Path.{sym, ◌∙◌}
 use native.Mathlib.Omega.{arith}
 use Rattle.dates.specs.Dates.{made_of}
 use Rattle.dates.specs.Facts.{date_facts, month_at_most}
-use borrow.Author.Rules.{rules}
 use Rattle.dates.proofs.Date.new.Goals as goal
 
 pub overflow_cast-result : goal.overflow_cast-result

@@ -1,7 +1,6 @@
 -- `Date::text` meets its contract.
 -- Assumes nothing.
 use Rattle.dates.specs.Text.{date_text}
-use borrow.Author.Rules.{rules}
 use Rattle.dates.proofs.Date.text.Goals as goal
 
 pub returns : goal.returns

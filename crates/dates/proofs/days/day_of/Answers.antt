@@ -2,7 +2,6 @@
 -- Assumes nothing.
 use mathlib.Core.Path.{sym, ◌∙◌}
 use Rattle.dates.specs.Dates.{day_of}
-use borrow.Author.Rules.{rules}
 use Rattle.dates.proofs.days.day_of.Goals as goal
 
 pub number_of-requires : goal.number_of-requires

@@ -2,7 +2,6 @@
 -- Assumes nothing.
 use native.Mathlib.Omega.{arith}
 use Rattle.dates.specs.Formula.{before_march, leap_from_march, common_from_march}
-use borrow.Author.Rules.{rules}
 use Rattle.dates.proofs.days.days_before_month.Goals as goal
 
 pub returns-then-month-lt3 : goal.returns-then-month-lt3

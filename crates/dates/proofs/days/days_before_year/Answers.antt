@@ -2,7 +2,6 @@
 -- Assumes nothing.
 use native.Mathlib.Omega.{arith}
 use Rattle.dates.specs.Formula.{years_before}
-use borrow.Author.Rules.{rules}
 use Rattle.dates.proofs.days.days_before_year.Goals as goal
 
 pub returns : goal.returns

@@ -2,7 +2,6 @@
 -- Assumes nothing.
 use native.Mathlib.Omega.{arith}
 use borrow.Author.Tests.{le-leb, lt-leb}
-use borrow.Author.Rules.{rules}
 use Rattle.dates.specs.Days.{month_length, is_date}
 use Rattle.dates.specs.Facts.{month_at_least}
 use Rattle.dates.proofs.days.is_date.Goals as goal

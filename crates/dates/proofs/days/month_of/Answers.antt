@@ -1,9 +1,6 @@
 -- `month_of` meets its contract: the days of the whole months passed, and those left, are the day of the year.
 -- Assumes nothing.
-use mathlib.Core.Path.{◌≡◌}
-use Prim.Native.Nat.{◌+◌, ◌-◌, ◌≤◌}
 use native.Mathlib.Omega.{arith}
-use Rattle.dates.specs.Days.{month_days}
 use Rattle.dates.specs.Back.{no_months_yet, next_month}
 use Rattle.dates.proofs.days.month_of.Goals as goal
 

@@ -2,9 +2,7 @@
 -- Assumes nothing.
 use mathlib.Core.Path.{◌≡◌}
 use Prim.Native.Nat.{◌+◌, ◌-◌, ◌≤◌}
-use native.Mathlib.Omega.{arith}
 use Rattle.dates.specs.Days.{month_days}
-use Rattle.dates.specs.Back.{no_months_yet, next_month}
 use Rattle.dates.proofs.days.month_of.Given as goal
 
 abbrev pub invariant-loop-left : goal.invariant-loop-left

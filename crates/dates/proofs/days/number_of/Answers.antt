@@ -3,7 +3,6 @@
 use native.Mathlib.Omega.{arith}
 use Rattle.dates.specs.Days.{day_number}
 use Rattle.dates.specs.Facts.{date_facts, month_at_most}
-use borrow.Author.Rules.{rules}
 use Rattle.dates.proofs.days.number_of.Goals as goal
 
 pub days_before_year-requires : goal.days_before_year-requires

@@ -2,7 +2,6 @@
 -- Assumes nothing.
 use mathlib.Core.Path.{sym, ◌∙◌}
 use Rattle.dates.specs.Back.{year_leap, year_common}
-use borrow.Author.Rules.{rules}
 use Rattle.dates.proofs.days.year_length.Goals as goal
 
 pub returns-then-leap_year : goal.returns-then-leap_year

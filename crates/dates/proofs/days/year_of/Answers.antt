@@ -1,9 +1,6 @@
 -- `year_of` meets its contract: the days of the whole years passed, and those left, are the number.
 -- Assumes nothing.
-use mathlib.Core.Path.{◌≡◌}
-use Prim.Native.Nat.{◌+◌, ◌-◌, ◌≤◌}
 use native.Mathlib.Omega.{arith}
-use Rattle.dates.specs.Days.{year_days}
 use Rattle.dates.specs.Back.{no_years, next_year}
 use Rattle.dates.proofs.days.year_of.Goals as goal
 

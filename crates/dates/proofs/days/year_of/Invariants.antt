@@ -2,9 +2,7 @@
 -- Assumes nothing.
 use mathlib.Core.Path.{◌≡◌}
 use Prim.Native.Nat.{◌+◌, ◌-◌, ◌≤◌}
-use native.Mathlib.Omega.{arith}
 use Rattle.dates.specs.Days.{year_days}
-use Rattle.dates.specs.Back.{no_years, next_year}
 use Rattle.dates.proofs.days.year_of.Given as goal
 
 abbrev pub invariant-loop-left : goal.invariant-loop-left

@@ -1,7 +1,6 @@
 -- `digits_at` meets its contract.
 -- Assumes nothing.
 use Rattle.dates.specs.Text.{digits_at}
-use borrow.Author.Rules.{rules}
 use Rattle.dates.proofs.reading.digits_at.Goals as goal
 
 pub returns : goal.returns

@@ -3,7 +3,6 @@
 use mathlib.Core.Path.{sym, ◌∙◌}
 use native.Mathlib.Omega.{arith}
 use Rattle.dates.specs.Read.{no_room_to_read, no_first_hyphen, no_second_hyphen, no_year, no_month, no_day, all_read}
-use borrow.Author.Rules.{rules}
 use Rattle.dates.proofs.reading.read_date.Goals as goal
 
 pub returns-then-text-lt10 : goal.returns-then-text-lt10

@@ -2,7 +2,6 @@
 -- Assumes nothing.
 use borrow.Author.Tests.{le-leb, lt-leb}
 use Rattle.dates.specs.Text.{two_digits}
-use borrow.Author.Rules.{rules}
 use Rattle.dates.proofs.reading.two_digits.Goals as goal
 
 pub returns-then-tens-lt48 : goal.returns-then-tens-lt48

@@ -4,7 +4,6 @@ use mathlib.Core.Path.{sym, ◌∙◌}
 use Prim.Native.Nat.{◌+◌}
 use native.Mathlib.Omega.{arith}
 use Rattle.dates.specs.Again.{digits_small}
-use borrow.Author.Rules.{rules}
 use Rattle.dates.proofs.reading.year_at.Goals as goal
 
 pub returns-in_default : goal.returns-in_default

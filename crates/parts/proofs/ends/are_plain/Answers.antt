@@ -2,7 +2,6 @@
 -- Assumes nothing.
 use mathlib.Core.Path.{ap₂}
 use Prim.Native.Nat.{ℕ}
-use borrow.Author.Rules.{rules}
 use lib.Bits.{bit_and}
 use lib.Dec.{eqb}
 use Rattle.parts.proofs.ends.are_plain.Goals as goal

@@ -1,11 +1,8 @@
 -- `component_end` meets its contract.
 -- Assumes nothing.
-use mathlib.Core.Path.{◌≡◌, refl, sym, ap, ◌∙◌}
-use mathlib.Core.List.{List}
-use Prim.Native.Nat.{ℕ, ◌-◌, ◌≤◌, ◌<◌}
+use mathlib.Core.Path.{sym, ap, ◌∙◌}
 use native.Mathlib.Omega.{arith}
-use borrow.Author.Rules.{rules}
-use lib.ListN.{length, get_or}
+use lib.ListN.{get_or}
 use Rattle.parts.specs.Component.{component_end, component_least, component_none, at_element, at_repetition, at_component, component_on, no_release}
 use Rattle.parts.proofs.ends.component_end.Goals.{At-loop-i, In-loop-i}
 use Rattle.parts.proofs.ends.component_end.Goals as goal

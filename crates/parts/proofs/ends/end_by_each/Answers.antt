@@ -1,7 +1,6 @@
 -- `end_by_each` meets its contract.
 -- Assumes nothing.
 use mathlib.Core.Path.{◌∙◌}
-use borrow.Author.Rules.{rules}
 use Rattle.parts.specs.Component.{by_each}
 use Rattle.parts.proofs.ends.end_by_each.Goals as goal
 

@@ -1,13 +1,8 @@
 -- `pass_plain` meets its contract.
 -- Assumes nothing.
-use mathlib.Core.Path.{◌≡◌, refl, sym, ◌∙◌}
-use mathlib.Core.List.{List}
-use Prim.Native.Nat.{ℕ, ◌-◌, ◌≤◌}
+use mathlib.Core.Path.{refl, sym, ◌∙◌}
 use native.Mathlib.Omega.{arith}
-use borrow.Author.Rules.{rules}
-use borrow.Author.Tests.{not-false}
 use Rattle.raw_bytes.specs.Eights.{Eights, eights_known}
-use Rattle.parts.specs.Cuts.{cut_end}
 use Rattle.parts.specs.Plain.{pass_eight}
 use Rattle.parts.proofs.ends.pass_plain.Goals.{At-loop-i, In-Word}
 use Rattle.parts.proofs.ends.pass_plain.Goals as goal

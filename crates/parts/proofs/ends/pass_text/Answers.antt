@@ -1,13 +1,11 @@
 -- `pass_text` meets its contract.
 -- Assumes nothing.
 use mathlib.Core.Path.{◌≡◌, refl, ◌∙◌}
-use mathlib.Core.List.{List}
-use Prim.Native.Nat.{ℕ, ◌+◌, ◌-◌, ◌/◌, ◌≤◌}
+use Prim.Native.Nat.{ℕ, ◌+◌, ◌/◌, ◌≤◌}
 use native.Mathlib.Omega.{arith}
-use borrow.Author.Rules.{rules}
 use lib.Bits.{bit_xor}
 use lib.Count.{count_trailing_zeros, trailing_le}
-use lib.ListN.{length, drop}
+use lib.ListN.{drop}
 use Rattle.laws.specs.Leads.{run_of, eight_lead}
 use Rattle.raw_bytes.specs.Eights.{Eights, eights_known}
 use Rattle.parts.specs.Component.{component_end}
@@ -61,11 +59,10 @@ pub overflow_add-i : goal.overflow_add-i
 overflow_add-i c = let f = (found (goal.at.overflow_add-i c).In-Word).inside in omega arith
 
 pub loop-i-preserved : goal.loop-i-preserved
-loop-i-preserved c =
-    (
-      c.loop-i.invariant.0,
-      goes_by (goal.at.loop-i-preserved c).After-text_bits-text 8 (omega arith) (eight_text c.args.s.now c.loop-i.i (found (goal.at.loop-i-preserved c).In-Word) c.text_bits-text.result c.text_bits-text.ensures c.if-text.false),
-    )
+loop-i-preserved c = (
+  c.loop-i.invariant.0,
+  goes_by (goal.at.loop-i-preserved c).After-text_bits-text 8 (omega arith) (eight_text c.args.s.now c.loop-i.i (found (goal.at.loop-i-preserved c).In-Word) c.text_bits-text.result c.text_bits-text.ensures c.if-text.false),
+)
 
 pub returns : goal.returns
 returns c = c.loop-i.invariant.1

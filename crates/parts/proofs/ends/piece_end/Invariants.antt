@@ -1,12 +1,8 @@
 -- `piece_end` meets its contract.
 -- Assumes nothing.
-use mathlib.Core.Path.{◌≡◌, refl, ap, ◌∙◌}
-use mathlib.Core.List.{List}
-use Prim.Native.Nat.{ℕ, ◌-◌, ◌<◌}
-use native.Mathlib.Omega.{arith}
-use borrow.Author.Rules.{rules}
+use mathlib.Core.Path.{◌≡◌}
+use Prim.Native.Nat.{◌-◌}
 use Rattle.parts.specs.Cuts.{cut_end}
-use Rattle.parts.specs.Walked.{ends_known, goes_known, cut_least}
 use Rattle.parts.proofs.ends.piece_end.Given as goal
 
 abbrev pub invariant-loop-at : goal.invariant-loop-at

@@ -1,7 +1,6 @@
 -- `text_bits` meets its contract.
 -- Assumes nothing.
 use mathlib.Core.Path.{ap₂}
-use borrow.Author.Rules.{rules}
 use lib.Bits.{bit_and}
 use Rattle.parts.proofs.ends.text_bits.Goals as goal
 

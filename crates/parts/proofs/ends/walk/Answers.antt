@@ -1,12 +1,8 @@
 -- `walk` meets its contract.
 -- Assumes nothing.
-use mathlib.Core.Path.{◌≡◌, refl, ◌∙◌}
-use mathlib.Core.List.{List}
-use Prim.Native.Nat.{ℕ, ◌-◌, ◌≤◌, ◌<◌}
+use mathlib.Core.Path.{refl, ◌∙◌}
+use Prim.Native.Nat.{◌<◌}
 use native.Mathlib.Omega.{arith}
-use borrow.Author.Rules.{rules}
-use lib.ListN.{length}
-use Rattle.parts.specs.Cuts.{cut_end}
 use Rattle.parts.specs.Walked.{cut_none, cut_here, cut_on, cut_last, cut_released}
 use Rattle.parts.proofs.ends.walk.Goals.{At-loop-i, In-loop-i}
 use Rattle.parts.proofs.ends.walk.Goals as goal

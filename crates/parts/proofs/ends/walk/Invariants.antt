@@ -1,13 +1,9 @@
 -- `walk` meets its contract.
 -- Assumes nothing.
-use mathlib.Core.Path.{◌≡◌, refl, ◌∙◌}
-use mathlib.Core.List.{List}
-use Prim.Native.Nat.{ℕ, ◌-◌, ◌≤◌, ◌<◌}
-use native.Mathlib.Omega.{arith}
-use borrow.Author.Rules.{rules}
+use mathlib.Core.Path.{◌≡◌}
+use Prim.Native.Nat.{◌-◌, ◌≤◌, ◌<◌}
 use lib.ListN.{length}
 use Rattle.parts.specs.Cuts.{cut_end}
-use Rattle.parts.specs.Walked.{cut_none, cut_here, cut_on, cut_last, cut_released}
 use Rattle.parts.proofs.ends.walk.Given as goal
 
 abbrev pub invariant-loop-i : goal.invariant-loop-i

@@ -1,13 +1,7 @@
 -- `end_of` meets its contract: what stands from here on ends where the whole does.
 -- Assumes nothing.
-use mathlib.Core.Path.{◌≡◌, refl, sym, ◌∙◌}
-use mathlib.Core.Logic.{⊎_elim}
-use Prim.Native.Nat.{◌+◌, ◌-◌}
+use mathlib.Core.Path.{sym, ◌∙◌}
 use native.Mathlib.Omega.{arith}
-use lib.ListN.{length, drop}
-use Rattle.syntax.specs.Bytes.{terminator}
-use Rattle.syntax.specs.Pieces.{first_piece}
-use Rattle.syntax.specs.Segment.{body_at}
 use Rattle.parts.specs.Segments.{body_past, body_here, body_released, body_goes}
 use Rattle.parts.proofs.segments.end_of.Goals.{then-released, else-released+else-b-eq39}
 use Rattle.parts.proofs.segments.end_of.Goals as goal
@@ -24,8 +18,8 @@ loop-i-preserved c =
     let a = c.args in
     let v = c.loop-i.invariant in
     elim c.if-released.branch [
-      then-released w ↦ rw w.released-is (sym (body_released a.s.now c.loop-i.i c.loop-i-test.true) ∙ (rw w.if-released.true at v))
-    | else-released+else-b-eq39 w ↦ rw w.released-is (sym (body_goes a.s.now c.loop-i.i c.loop-i-test.true w.if-b-eq39.false) ∙ (rw w.if-released.false at v))
+      | then-released w ↦ rw w.released-is (sym (body_released a.s.now c.loop-i.i c.loop-i-test.true) ∙ (rw w.if-released.true at v))
+      | else-released+else-b-eq39 w ↦ rw w.released-is (sym (body_goes a.s.now c.loop-i.i c.loop-i-test.true w.if-b-eq39.false) ∙ (rw w.if-released.false at v))
     ]
 
 pub returns : goal.returns

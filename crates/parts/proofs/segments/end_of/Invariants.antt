@@ -1,14 +1,11 @@
 -- `end_of` meets its contract: what stands from here on ends where the whole does.
 -- Assumes nothing.
-use mathlib.Core.Path.{◌≡◌, refl, sym, ◌∙◌}
-use mathlib.Core.Logic.{⊎_elim}
+use mathlib.Core.Path.{◌≡◌}
 use Prim.Native.Nat.{◌+◌, ◌-◌}
-use native.Mathlib.Omega.{arith}
 use lib.ListN.{length, drop}
 use Rattle.syntax.specs.Bytes.{terminator}
 use Rattle.syntax.specs.Pieces.{first_piece}
 use Rattle.syntax.specs.Segment.{body_at}
-use Rattle.parts.specs.Segments.{body_past, body_here, body_released, body_goes}
 use Rattle.parts.proofs.segments.end_of.Given as goal
 
 abbrev pub invariant-loop-i : goal.invariant-loop-i

@@ -1,7 +1,6 @@
 -- `segment_at` meets its contract.
 -- Assumes nothing.
 use Rattle.parts.specs.Segments.{segment_is, segment_ended}
-use borrow.Author.Rules.{rules}
 use Rattle.parts.proofs.segments.segment_at.Goals as goal
 
 pub returns-then-found-s : goal.returns-then-found-s

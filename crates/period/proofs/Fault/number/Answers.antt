@@ -2,7 +2,6 @@
 -- Assumes nothing.
 use mathlib.Core.Path.{sym, ap}
 use Rattle.period.specs.Period.{fault_number}
-use borrow.Author.Rules.{rules}
 use Rattle.period.proofs.Fault.number.Goals as goal
 
 pub returns-in-BadDates : goal.returns-in-BadDates

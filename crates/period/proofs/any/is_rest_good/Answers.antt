@@ -4,12 +4,9 @@ use mathlib.Core.Path.{◌≡◌, sym, ap, ◌∙◌}
 use mathlib.Core.Bool.{not}
 use mathlib.Core.List.{List}
 use Prim.Native.Nat.{ℕ}
-use borrow.Author.Tests.{not-true, not-false}
-use borrow.Author.Rules.{rules}
 use Rattle.laws.specs.Text.{bytes}
 use Rattle.syntax.specs.Bytes.{plain}
 use Rattle.values.specs.Values.{same_text}
-use Rattle.period.specs.declared.elements.Element.{Element}
 use Rattle.period.specs.Elements.{text_in, other_qualifier, first_repeated, second_repeated}
 use Rattle.period.proofs.any.is_rest_good.Goals.{After-equals}
 use Rattle.period.proofs.any.is_rest_good.Goals as goal

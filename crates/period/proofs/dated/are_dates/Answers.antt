@@ -3,7 +3,6 @@
 use Rattle.laws.specs.Choice.{false≢true}
 use Rattle.raw_bytes.specs.Eights.{eights_known}
 use Rattle.period.specs.Dated.{dates_told}
-use borrow.Author.Rules.{rules}
 use Rattle.period.proofs.dated.are_dates.Goals as goal
 
 pub returns-in_default : goal.returns-in_default

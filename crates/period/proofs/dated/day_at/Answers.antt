@@ -2,7 +2,6 @@
 -- Assumes nothing.
 use mathlib.Core.Path.{◌∙◌}
 use Rattle.period.specs.Dated.{day_in_lem}
-use borrow.Author.Rules.{rules}
 use Rattle.period.proofs.dated.day_at.Goals as goal
 
 pub returns : goal.returns

@@ -1,6 +1,5 @@
 -- `find_element` meets its contract.
 -- Assumes nothing.
-use borrow.Author.Rules.{rules}
 use Rattle.period.specs.Elements.{element_found_lem}
 use Rattle.period.proofs.elements.find_element.Goals as goal
 

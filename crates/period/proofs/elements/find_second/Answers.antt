@@ -1,6 +1,5 @@
 -- `find_second` meets its contract.
 -- Assumes nothing.
-use borrow.Author.Rules.{rules}
 use Rattle.period.specs.Second.{second_found}
 use Rattle.period.proofs.elements.find_second.Goals as goal
 

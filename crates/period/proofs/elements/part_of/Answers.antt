@@ -1,7 +1,6 @@
 -- `part_of` meets its contract.
 -- Assumes nothing.
 use mathlib.Core.Path.{ap, ◌∙◌}
-use borrow.Author.Rules.{rules}
 use Rattle.parts.specs.Places.{bytes_of}
 use Rattle.parts.specs.Located.{part_bytes}
 use Rattle.period.proofs.elements.part_of.Goals as goal

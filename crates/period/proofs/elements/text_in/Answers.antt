@@ -1,7 +1,6 @@
 -- `text_in` meets its contract.
 -- Assumes nothing.
 use mathlib.Core.Path.{ap, ◌∙◌}
-use borrow.Author.Rules.{rules}
 use Rattle.parts.specs.Places.{bytes_of}
 use Rattle.period.proofs.elements.text_in.Goals as goal
 

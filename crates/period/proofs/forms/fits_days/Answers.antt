@@ -1,7 +1,6 @@
 -- `fits_days` meets its contract.
 -- Assumes nothing.
 use mathlib.Core.Path.{sym, ◌∙◌}
-use borrow.Author.Rules.{rules}
 use Rattle.syntax.specs.Bytes.{plain}
 use Rattle.period.specs.Tests.{fits_present, fits_absent}
 use Rattle.period.proofs.forms.fits_days.Goals as goal

@@ -1,14 +1,12 @@
 -- `is_day_string` meets its contract.
 -- Assumes nothing.
-use mathlib.Core.Path.{◌≡◌, refl, sym, ◌∙◌}
+use mathlib.Core.Path.{sym, ◌∙◌}
 use mathlib.Core.List.{List}
-use Prim.Native.Nat.{ℕ, ◌-◌}
+use Prim.Native.Nat.{ℕ}
 use native.Mathlib.Omega.{arith}
-use borrow.Author.Rules.{rules}
-use lib.ListN.{length, drop}
+use lib.ListN.{drop}
 use Rattle.syntax.specs.Bytes.{plain}
 use Rattle.values.specs.Laws.{next_byte, next_done, plain_past, Follows}
-use Rattle.period.specs.Period.{day_string}
 use Rattle.period.specs.Steps.{string_longer, string_below, string_above, string_goes, string_ends}
 use Rattle.period.proofs.forms.is_day_string.Goals.{At-loop-i, In-Byte}
 use Rattle.period.proofs.forms.is_day_string.Goals as goal

@@ -1,7 +1,6 @@
 -- `is_present` meets its contract.
 -- Assumes nothing.
 use mathlib.Core.Path.{sym, ◌∙◌}
-use borrow.Author.Rules.{rules}
 use lib.ListN.{drop}
 use Rattle.syntax.specs.Bytes.{plain}
 use Rattle.values.specs.Laws.{next_text, next_done}

@@ -1,14 +1,12 @@
 -- `is_rising` meets its contract.
 -- Assumes nothing.
-use mathlib.Core.Path.{◌≡◌, refl, sym, ◌∙◌}
+use mathlib.Core.Path.{sym, ◌∙◌}
 use mathlib.Core.List.{List}
-use Prim.Native.Nat.{ℕ, ◌-◌}
+use Prim.Native.Nat.{ℕ}
 use native.Mathlib.Omega.{arith}
-use borrow.Author.Rules.{rules}
-use lib.ListN.{length, drop}
+use lib.ListN.{drop}
 use Rattle.syntax.specs.Bytes.{plain}
 use Rattle.values.specs.Laws.{next_byte, next_done, plain_past, Follows}
-use Rattle.period.specs.Period.{rising_days}
 use Rattle.period.specs.Steps.{rises_not, rises_past, rises_goes, rises_ends}
 use Rattle.period.proofs.forms.is_rising.Goals.{At-loop-i, In-Byte}
 use Rattle.period.proofs.forms.is_rising.Goals as goal

@@ -1,13 +1,10 @@
 -- `read_form` meets its contract.
 -- Assumes nothing.
-use borrow.Author.Tests.{not-true, not-false}
 use mathlib.Core.Path.{◌≡◌, sym, ◌∙◌}
-use mathlib.Core.Bool.{true, false}
+use mathlib.Core.Bool.{true}
 use mathlib.Core.List.{List}
 use Prim.Native.Nat.{ℕ}
-use borrow.Author.Rules.{rules}
 use Rattle.syntax.specs.Bytes.{plain}
-use Rattle.parts.specs.Places.{present}
 use Rattle.period.specs.Period.{fits_days, rising_days}
 use Rattle.period.specs.Tests.{bad_string, bad_weekdays, both_forms, by_string, by_weekdays, by_wish, neither_form}
 use Rattle.period.proofs.forms.read_form.Goals.{After-is_present, Start}

@@ -1,6 +1,5 @@
 -- `day_runs` meets its contract.
 -- Assumes nothing.
-use borrow.Author.Rules.{rules}
 use Rattle.parts.specs.Places.{bytes_of}
 use Rattle.period.specs.Tests.{runs_past, runs_inside, runs_wrong}
 use Rattle.period.proofs.runs.day_runs.Goals as goal

@@ -1,7 +1,6 @@
 -- `read_dates` meets its contract.
 -- Assumes nothing.
 use mathlib.Core.Path.{refl, sym, ap, ◌∙◌}
-use borrow.Author.Rules.{rules}
 use Rattle.syntax.specs.Bytes.{plain}
 use lib.ListN.{replicate}
 use lib.Seq.{length-take-le}

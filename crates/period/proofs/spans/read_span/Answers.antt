@@ -1,7 +1,6 @@
 -- `read_span` meets its contract.
 -- Assumes nothing.
 use mathlib.Core.Path.{sym, ◌∙◌}
-use borrow.Author.Rules.{rules}
 use Rattle.period.specs.Tests.{not_long, no_stroke, no_first, no_last, two_dates}
 use Rattle.period.proofs.spans.read_span.Goals as goal
 

@@ -1,16 +1,11 @@
 -- `are_days` meets its contract.
 -- Assumes nothing.
-use mathlib.Core.Path.{◌≡◌, refl, ◌∙◌}
-use mathlib.Core.List.{List}
-use Prim.Native.Nat.{ℕ, ◌-◌}
-use native.Mathlib.Omega.{arith}
-use borrow.Author.Rules.{rules}
+use mathlib.Core.Path.{◌≡◌}
+use Prim.Native.Nat.{◌-◌}
 use lib.Dec.{eqb}
 use lib.ListN.{length, drop}
 use Rattle.laws.specs.Choice.{both, all}
-use Rattle.raw_bytes.specs.Eights.{Eights, eights_known}
 use Rattle.period.specs.Period.{zero_or_one}
-use Rattle.period.specs.Strings.{days_eight, days_other, days_none, run_whole}
 use Rattle.period.proofs.strings.are_days.Given as goal
 
 abbrev pub invariant-loop-word : goal.invariant-loop-word

@@ -1,14 +1,8 @@
 -- `days_end` meets its contract.
 -- Assumes nothing.
-use mathlib.Core.Path.{◌≡◌, refl, ◌∙◌}
-use mathlib.Core.List.{List}
-use Prim.Native.Nat.{ℕ, ◌+◌, ◌-◌}
+use mathlib.Core.Path.{◌∙◌}
 use native.Mathlib.Omega.{arith}
-use borrow.Author.Rules.{rules}
-use lib.ListN.{length, drop}
-use Rattle.laws.specs.Leads.{run_of}
 use Rattle.raw_bytes.specs.Eights.{Eights, eights_known}
-use Rattle.period.specs.Period.{zero_or_one}
 use Rattle.period.specs.Strings.{run_eight}
 use Rattle.period.proofs.strings.days_end.Goals.{At-loop-word, In-Word}
 use Rattle.period.proofs.strings.days_end.Goals as goal

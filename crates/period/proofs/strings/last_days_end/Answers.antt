@@ -1,12 +1,6 @@
 -- `last_days_end` meets its contract.
 -- Assumes nothing.
-use mathlib.Core.Path.{◌≡◌, refl, ◌∙◌}
-use Prim.Native.Nat.{◌+◌, ◌-◌}
-use native.Mathlib.Omega.{arith}
-use borrow.Author.Rules.{rules}
-use lib.ListN.{length, drop}
-use Rattle.laws.specs.Leads.{run_of}
-use Rattle.period.specs.Period.{zero_or_one}
+use mathlib.Core.Path.{◌∙◌}
 use Rattle.period.specs.Strings.{run_below, run_above, run_goes, run_ends}
 use Rattle.period.proofs.strings.last_days_end.Goals as goal
 

@@ -1,13 +1,10 @@
 -- `last_days_end` meets its contract.
 -- Assumes nothing.
-use mathlib.Core.Path.{◌≡◌, refl, ◌∙◌}
+use mathlib.Core.Path.{◌≡◌}
 use Prim.Native.Nat.{◌+◌, ◌-◌}
-use native.Mathlib.Omega.{arith}
-use borrow.Author.Rules.{rules}
 use lib.ListN.{length, drop}
 use Rattle.laws.specs.Leads.{run_of}
 use Rattle.period.specs.Period.{zero_or_one}
-use Rattle.period.specs.Strings.{run_below, run_above, run_goes, run_ends}
 use Rattle.period.proofs.strings.last_days_end.Given as goal
 
 abbrev pub invariant-loop-i : goal.invariant-loop-i

@@ -2,7 +2,6 @@
 -- Assumes nothing.
 use mathlib.Core.Path.{sym}
 use native.Mathlib.Omega.{arith}
-use borrow.Author.Rules.{rules}
 use Rattle.period.specs.Pops.{alone_pop, string_pop}
 use Rattle.period.proofs.written.read_behind.Goals.{Start, Then-end-gt0}
 use Rattle.period.proofs.written.read_behind.Goals as goal

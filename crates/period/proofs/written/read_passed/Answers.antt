@@ -1,7 +1,6 @@
 -- `read_passed` meets its contract.
 -- Assumes nothing.
 use mathlib.Core.Path.{refl, sym, ◌∙◌}
-use borrow.Author.Rules.{rules}
 use lib.ListN.{drop}
 use Rattle.syntax.specs.Quick.{quick_segment}
 use Rattle.period.specs.Pops.{passed_pop, passed_tag, passed_plus}

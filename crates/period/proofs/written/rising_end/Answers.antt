@@ -1,13 +1,9 @@
 -- `rising_end` meets its contract.
 -- Assumes nothing.
-use mathlib.Core.Path.{◌≡◌, refl, ◌∙◌}
-use mathlib.Core.List.{List}
-use Prim.Native.Nat.{ℕ, ◌+◌, ◌-◌}
-use native.Mathlib.Omega.{arith}
-use borrow.Author.Rules.{rules}
+use mathlib.Core.Path.{◌∙◌}
 use borrow.Author.Tests.{le-ltb, lt-ltb, le-leb, lt-leb}
-use lib.ListN.{length, get_or, drop}
-use Rattle.period.specs.Pops.{rising_run, run_stops, run_goes, run_ends}
+use lib.ListN.{get_or}
+use Rattle.period.specs.Pops.{run_stops, run_goes, run_ends}
 use Rattle.period.proofs.written.rising_end.Goals.{At-loop-i, In-loop-i}
 use Rattle.period.proofs.written.rising_end.Goals as goal
 

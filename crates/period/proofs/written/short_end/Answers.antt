@@ -1,7 +1,6 @@
 -- `short_end` meets its contract.
 -- Assumes nothing.
 use native.Mathlib.Omega.{arith}
-use borrow.Author.Rules.{rules}
 use Rattle.period.specs.Strings.{run_between}
 use Rattle.period.specs.Written.{word_same}
 use Rattle.period.proofs.written.short_end.Goals as goal

@@ -1,11 +1,9 @@
 -- `written_span` meets its contract.
 -- Assumes nothing.
 use mathlib.Core.Path.{sym, ◌∙◌}
-use borrow.Author.Tests.{not-false}
 use Rattle.calendar.specs.Check.{span_numbers}
 use Rattle.period.specs.Dated.{day_known}
 use Rattle.period.specs.Written.{word_same, begins_told}
-use borrow.Author.Rules.{rules}
 use Rattle.period.proofs.written.written_span.Goals as goal
 
 pub day_at-requires : goal.day_at-requires

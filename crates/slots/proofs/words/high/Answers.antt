@@ -1,6 +1,6 @@
 -- `slots::words::high` meets its contract.
 -- Assumes nothing.
-use Rattle.std.proofs.Common.{◌∙◌, arith, rules}
+use Rattle.std.proofs.Common.{◌∙◌, arith}
 use Rattle.laws.specs.Eight.{row_sum}
 use Rattle.slots.specs.Words.{four, high_of}
 use Rattle.slots.proofs.words.high.Goals as goal

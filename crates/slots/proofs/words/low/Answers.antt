@@ -1,6 +1,6 @@
 -- `slots::words::low` meets its contract.
 -- Assumes nothing.
-use Rattle.std.proofs.Common.{arith, rules}
+use Rattle.std.proofs.Common.{arith}
 use Rattle.slots.specs.Words.{low_of}
 use Rattle.slots.proofs.words.low.Goals as goal
 

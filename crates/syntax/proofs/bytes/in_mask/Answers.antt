@@ -1,9 +1,7 @@
 use borrow.Author.Tests.{lt-ltb, le-ltb}
 use Prim.Native.Nat.{◌-◌, ◌/◌, ◌^◌}
-use native.Mathlib.Omega.{arith}
 use lib.Bits.{and_mask}
 use Rattle.syntax.specs.Masks.{in_mask}
-use borrow.Author.Rules.{rules}
 use Rattle.syntax.proofs.bytes.in_mask.Goals as goal
 
 pub returns-then-b-lt64 : goal.returns-then-b-lt64

@@ -1,7 +1,6 @@
 use mathlib.Core.Path.{◌∙◌}
 use native.Mathlib.Omega.{arith}
 use Rattle.syntax.specs.Masks.{permitted_mask}
-use borrow.Author.Rules.{rules}
 use Rattle.syntax.proofs.bytes.permitted.Goals as goal
 
 pub returns : goal.returns

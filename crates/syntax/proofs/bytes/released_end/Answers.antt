@@ -1,11 +1,7 @@
-use mathlib.Core.Path.{◌≡◌, refl, sym, ap, ◌∙◌}
-use mathlib.Core.List.{List}
-use Prim.Native.Nat.{ℕ, ◌+◌, ◌-◌, ◌*◌, ◌≤◌, ◌<◌}
+use mathlib.Core.Path.{refl, sym, ◌∙◌}
 use native.Mathlib.Omega.{arith}
-use borrow.Author.Rules.{rules}
-use borrow.Author.Tests.{ne_eqb, not-true, not-false}
-use lib.ListN.{length, drop, get_or}
-use Rattle.syntax.specs.Released.{release_run, release_short, release_two, release_other, release_bad}
+use borrow.Author.Tests.{ne_eqb}
+use Rattle.syntax.specs.Released.{release_short, release_two, release_other, release_bad}
 use Rattle.syntax.proofs.bytes.released_end.Goals.{At-loop-i}
 use Rattle.syntax.proofs.bytes.released_end.Goals as goal
 

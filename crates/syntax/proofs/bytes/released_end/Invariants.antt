@@ -1,11 +1,7 @@
-use mathlib.Core.Path.{◌≡◌, refl, sym, ap, ◌∙◌}
-use mathlib.Core.List.{List}
-use Prim.Native.Nat.{ℕ, ◌+◌, ◌-◌, ◌*◌, ◌≤◌, ◌<◌}
-use native.Mathlib.Omega.{arith}
-use borrow.Author.Rules.{rules}
-use borrow.Author.Tests.{ne_eqb, not-true, not-false}
-use lib.ListN.{length, drop, get_or}
-use Rattle.syntax.specs.Released.{release_run, release_short, release_two, release_other, release_bad}
+use mathlib.Core.Path.{◌≡◌}
+use Prim.Native.Nat.{◌+◌, ◌-◌, ◌*◌}
+use lib.ListN.{length, drop}
+use Rattle.syntax.specs.Released.{release_run}
 use Rattle.syntax.proofs.bytes.released_end.Given as goal
 
 abbrev pub invariant-loop-i : goal.invariant-loop-i

@@ -1,7 +1,6 @@
 -- `eight_at` meets its contract.
 -- Assumes nothing.
 use Rattle.laws.specs.Eight.{word_row}
-use borrow.Author.Rules.{rules}
 use Rattle.syntax.proofs.ends.eight_at.Goals as goal
 
 pub returns : goal.returns

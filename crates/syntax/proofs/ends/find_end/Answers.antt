@@ -1,11 +1,9 @@
 -- `find_end` meets its contract.
 -- Assumes nothing.
-use mathlib.Core.Path.{◌≡◌, refl, sym, ◌∙◌}
+use mathlib.Core.Path.{◌≡◌, sym, ◌∙◌}
 use mathlib.Core.List.{List}
-use Prim.Native.Nat.{ℕ, ◌-◌}
+use Prim.Native.Nat.{ℕ}
 use native.Mathlib.Omega.{arith}
-use borrow.Author.Rules.{rules}
-use lib.ListN.{length}
 use Rattle.syntax.specs.Found.{end_from, end_past, end_quote}
 use Rattle.syntax.proofs.ends.find_end.Goals.{After-common_end-j, At-loop-i}
 use Rattle.syntax.proofs.ends.find_end.Goals as goal

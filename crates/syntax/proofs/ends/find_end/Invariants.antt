@@ -1,12 +1,9 @@
 -- `find_end` meets its contract.
 -- Assumes nothing.
-use mathlib.Core.Path.{◌≡◌, refl, sym, ◌∙◌}
-use mathlib.Core.List.{List}
-use Prim.Native.Nat.{ℕ, ◌-◌}
-use native.Mathlib.Omega.{arith}
-use borrow.Author.Rules.{rules}
+use mathlib.Core.Path.{◌≡◌}
+use Prim.Native.Nat.{◌-◌}
 use lib.ListN.{length}
-use Rattle.syntax.specs.Found.{end_from, end_past, end_quote}
+use Rattle.syntax.specs.Found.{end_from}
 use Rattle.syntax.proofs.ends.find_end.Given as goal
 
 abbrev pub invariant-loop-i : goal.invariant-loop-i

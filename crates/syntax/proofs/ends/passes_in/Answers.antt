@@ -5,7 +5,6 @@ use Prim.Native.Nat.{◌+◌}
 use native.Mathlib.Omega.{arith}
 use lib.Bits.{bit_and, and_le_r}
 use Rattle.syntax.specs.Passed.{passes_of}
-use borrow.Author.Rules.{rules}
 use Rattle.syntax.proofs.ends.passes_in.Goals as goal
 
 pub overflow_add-result : goal.overflow_add-result

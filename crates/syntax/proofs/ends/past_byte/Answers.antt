@@ -3,14 +3,13 @@
 use mathlib.Core.Path.{◌≡◌, sym, ◌∙◌}
 use mathlib.Core.Bool.{false}
 use mathlib.Core.List.{List}
-use Prim.Native.Nat.{ℕ, ◌<◌}
+use Prim.Native.Nat.{ℕ}
 use native.Mathlib.Omega.{arith}
-use borrow.Author.Tests.{ne_eqb, not-true, not-false}
+use borrow.Author.Tests.{ne_eqb}
 use lib.Dec.{eqb}
 use lib.ListN.{length, get_or}
 use Rattle.syntax.specs.Found.{end_from, end_past, end_plain, end_other, end_question, end_released_bad}
 use Rattle.syntax.specs.Released.{release_from, end_releases}
-use borrow.Author.Rules.{rules}
 use Rattle.syntax.proofs.ends.past_byte.Goals.{After-permitted}
 use Rattle.syntax.proofs.ends.past_byte.Goals as goal
 

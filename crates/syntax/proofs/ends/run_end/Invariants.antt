@@ -1,19 +1,9 @@
 -- `run_end` meets its contract.
 -- Assumes nothing.
-use mathlib.Core.Path.{◌≡◌, refl, sym, ap, ◌∙◌}
-use mathlib.Core.List.{List}
-use Prim.Native.Nat.{ℕ, ◌+◌, ◌-◌, ◌/◌, ◌≤◌}
-use native.Mathlib.Omega.{arith}
-use borrow.Author.Rules.{rules}
-use lib.Bits.{bit_xor, xor_self}
-use lib.Count.{count_trailing_zeros, trailing_le}
-use lib.ListN.{length, drop}
-use Rattle.laws.specs.Choice.{pick}
-use Rattle.laws.specs.Words.{word_by, xor_zero}
-use Rattle.laws.specs.Eight.{eight_at}
-use Rattle.laws.specs.Leads.{run_of, eight_lead, eight_inside, eight_clear}
-use Rattle.syntax.specs.Passed.{goes, passes_word}
-use Rattle.syntax.specs.Found.{end_from, end_run}
+use mathlib.Core.Path.{◌≡◌}
+use Prim.Native.Nat.{◌+◌, ◌-◌, ◌≤◌}
+use lib.ListN.{length}
+use Rattle.syntax.specs.Found.{end_from}
 use Rattle.syntax.proofs.ends.run_end.Given as goal
 
 abbrev pub invariant-loop-i : goal.invariant-loop-i

@@ -6,7 +6,6 @@ use native.Mathlib.Omega.{arith}
 use lib.Bits.{bit_and, bit_or, bit_xor, and_le_r, xor_lt}
 use lib.Dec.{lit≤}
 use Rattle.syntax.specs.Passed.{stops_of}
-use borrow.Author.Rules.{rules}
 use Rattle.syntax.proofs.ends.stops_in.Goals as goal
 
 pub overflow_add-result : goal.overflow_add-result

@@ -1,7 +1,6 @@
 -- `is_small` meets its contract.
 -- Assumes nothing.
 use mathlib.Core.Path.{sym}
-use borrow.Author.Rules.{rules}
 use borrow.Author.Tests.{le-leb}
 use Rattle.syntax.specs.Few.{marks_in}
 use Rattle.syntax.proofs.marks.is_small.Goals as goal

@@ -4,7 +4,6 @@ use native.Mathlib.Omega.{arith}
 use lib.Bits.{bit_or}
 use lib.Dec.{eqb}
 use Rattle.syntax.specs.Few.{byte_unit, mark_sum}
-use borrow.Author.Rules.{rules}
 use Rattle.syntax.proofs.marks.mark_of.Goals as goal
 
 pub overflow_add-result : goal.overflow_add-result

@@ -1,13 +1,10 @@
 -- `marks_in` meets its contract.
 -- Assumes nothing.
-use mathlib.Core.Path.{◌≡◌}
-use Prim.Native.Nat.{◌+◌, ◌-◌, ◌≤◌}
 use native.Mathlib.Omega.{arith}
 use native.Mathlib.Nat.{zero-add}
-use borrow.Author.Rules.{rules}
-use lib.ListN.{length, get_or, drop}
+use lib.ListN.{get_or}
 use Rattle.syntax.specs.Bytes.{is_mark}
-use Rattle.syntax.specs.Few.{marks_in, marks_past, marks_here, unit_bound}
+use Rattle.syntax.specs.Few.{marks_past, marks_here, unit_bound}
 use Rattle.syntax.proofs.marks.marks_in.Goals as goal
 
 pub loop-i-init : goal.loop-i-init

@@ -2,12 +2,8 @@
 -- Assumes nothing.
 use mathlib.Core.Path.{◌≡◌}
 use Prim.Native.Nat.{◌+◌, ◌-◌, ◌≤◌}
-use native.Mathlib.Omega.{arith}
-use native.Mathlib.Nat.{zero-add}
-use borrow.Author.Rules.{rules}
-use lib.ListN.{length, get_or, drop}
-use Rattle.syntax.specs.Bytes.{is_mark}
-use Rattle.syntax.specs.Few.{marks_in, marks_past, marks_here, unit_bound}
+use lib.ListN.{length, drop}
+use Rattle.syntax.specs.Few.{marks_in}
 use Rattle.syntax.proofs.marks.marks_in.Given as goal
 
 abbrev pub invariant-loop-i : goal.invariant-loop-i

@@ -1,7 +1,6 @@
 -- `texts_at` meets its contract.
 -- Assumes nothing.
 use Prim.Native.Nat.{◌/◌}
-use borrow.Author.Rules.{rules}
 use Rattle.syntax.specs.Texts.{seen_eight, seen_twice}
 use Rattle.syntax.proofs.marks.texts_at.Goals as goal
 

@@ -1,6 +1,5 @@
 -- `closes` meets its contract.
 -- Assumes nothing.
-use Prim.Native.Nat.{◌^◌}
 use native.Mathlib.Omega.{arith}
 use lib.Bits.{xor_lt}
 use lib.Dec.{lit≤}

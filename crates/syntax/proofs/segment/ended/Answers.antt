@@ -1,4 +1,3 @@
-use borrow.Author.Tests.{not-true, not-false}
 use Rattle.syntax.proofs.segment.ended.Goals as goal
 
 pub returns-then-not-tagged : goal.returns-then-not-tagged

@@ -1,7 +1,6 @@
 use mathlib.Core.Path.{sym, ◌∙◌}
-use borrow.Author.Tests.{eq-eqb, ne_eqb, not-true, not-false}
+use borrow.Author.Tests.{eq-eqb, ne_eqb}
 use Rattle.laws.specs.Choice.{both_false}
-use borrow.Author.Rules.{rules}
 use Rattle.syntax.proofs.segment.is_tag.Goals as goal
 
 pub returns-then-not-is_capital : goal.returns-then-not-is_capital

@@ -1,7 +1,6 @@
 use mathlib.Core.Path.{sym, ◌∙◌}
 use native.Mathlib.Omega.{arith}
 use Rattle.syntax.specs.Tags.{tag_few, tag_four}
-use borrow.Author.Rules.{rules}
 use Rattle.syntax.proofs.segment.is_tagged.Goals as goal
 
 pub returns-then-s-lt4 : goal.returns-then-s-lt4

@@ -10,7 +10,6 @@ use Rattle.laws.specs.Choice.{pick}
 use Rattle.syntax.specs.Found.{end_from}
 use Rattle.syntax.specs.Whole.{end_most}
 use Rattle.syntax.specs.Quick.{quick_end, quick_small, quick_far}
-use borrow.Author.Rules.{rules}
 use Rattle.syntax.proofs.segment.long_end.Goals.{After-is_small}
 use Rattle.syntax.proofs.segment.long_end.Goals as goal
 

@@ -1,7 +1,6 @@
 -- `near_end` meets its contract.
 -- Assumes nothing.
 use mathlib.Core.Path.{◌≡◌, sym, ◌∙◌}
-use mathlib.Core.List.{List}
 use Prim.Native.Nat.{ℕ, ◌+◌, ◌≤◌, min}
 use native.Mathlib.Omega.{arith}
 use lib.ListN.{length, take}
@@ -9,7 +8,6 @@ use lib.Seq.{length-take-le}
 use Rattle.syntax.specs.Found.{end_from, end_quote}
 use Rattle.syntax.specs.Whole.{end_most}
 use Rattle.syntax.specs.Near.{end_front}
-use borrow.Author.Rules.{rules}
 use Rattle.syntax.proofs.segment.near_end.Goals.{After-near-cut}
 use Rattle.syntax.proofs.segment.near_end.Goals as goal
 

@@ -1,17 +1,15 @@
 -- `quick_end` meets its contract.
 -- Assumes nothing.
 use mathlib.Core.Path.{◌≡◌, sym, ◌∙◌}
-use mathlib.Core.List.{List}
-use Prim.Native.Nat.{ℕ, ◌+◌, ◌-◌, ◌≤◌, ◌<◌}
+use Prim.Native.Nat.{◌+◌, ◌-◌, ◌≤◌, ◌<◌}
 use native.Mathlib.Omega.{arith}
 use borrow.Author.Tests.{eqb-true, leb-true}
 use lib.Dec.{eqb, leb}
 use lib.ListN.{length, get_or}
-use Rattle.laws.specs.Choice.{both, both_parts}
+use Rattle.laws.specs.Choice.{both_parts}
 use Rattle.syntax.specs.Found.{end_from, end_quote}
 use Rattle.syntax.specs.Ran.{stops_known, left_known}
 use Rattle.syntax.specs.Quick.{quick_past, quick_short, told_ends, told_unsure, quick_told}
-use borrow.Author.Rules.{rules}
 use Rattle.syntax.proofs.segment.quick_end.Goals.{In-Stops}
 use Rattle.syntax.proofs.segment.quick_end.Goals as goal
 

@@ -2,8 +2,7 @@
 -- Assumes nothing.
 use mathlib.Core.Path.{◌≡◌, refl, sym, ap, ◌∙◌}
 use mathlib.Core.Bool.{true}
-use mathlib.Core.List.{List}
-use Prim.Native.Nat.{ℕ, ◌+◌, ◌≤◌}
+use Prim.Native.Nat.{◌+◌, ◌≤◌}
 use native.Mathlib.Omega.{arith}
 use lib.ListN.{length, drop}
 use Rattle.syntax.specs.declared.segment.Scanned.TheVariants.{End}
@@ -11,7 +10,6 @@ use Rattle.syntax.specs.Tags.{tag_ahead}
 use Rattle.syntax.specs.Said.{scan_said}
 use Rattle.syntax.specs.Whole.{tag_facts, plus_after, whole_bare}
 use Rattle.syntax.specs.Quick.{quick_whole}
-use borrow.Author.Rules.{rules}
 use Rattle.syntax.proofs.segment.read_segment.Goals.{Then-is_tagged}
 use Rattle.syntax.proofs.segment.read_segment.Goals as goal
 
@@ -43,9 +41,12 @@ small_end-end-requires c = let h = long (goal.at.small_end-end-requires c).Then-
 
 pub returns-then-end-s : goal.returns-then-end-s
 returns-then-end-s c =
-    let e = c.small_end-end.ensures in record { scan = (scan_said c.args.s.now c.args.at
-    (ap End e ∙ sym (quick_whole c.args.s.now c.args.at (ahead (goal.at.returns-then-end-s c).Then-is_tagged) (plus_after c.args.s.now c.args.at (ahead (goal.at.returns-then-end-s c).Then-is_tagged) c.if-s-at-eq39.false) (omega arith)))).0; said = (scan_said c.args.s.now c.args.at
-    (ap End e ∙ sym (quick_whole c.args.s.now c.args.at (ahead (goal.at.returns-then-end-s c).Then-is_tagged) (plus_after c.args.s.now c.args.at (ahead (goal.at.returns-then-end-s c).Then-is_tagged) c.if-s-at-eq39.false) (omega arith)))).1 }
+    let e = c.small_end-end.ensures in record {
+      scan = (scan_said c.args.s.now c.args.at
+          (ap End e ∙ sym (quick_whole c.args.s.now c.args.at (ahead (goal.at.returns-then-end-s c).Then-is_tagged) (plus_after c.args.s.now c.args.at (ahead (goal.at.returns-then-end-s c).Then-is_tagged) c.if-s-at-eq39.false) (omega arith)))).0;
+      said = (scan_said c.args.s.now c.args.at
+          (ap End e ∙ sym (quick_whole c.args.s.now c.args.at (ahead (goal.at.returns-then-end-s c).Then-is_tagged) (plus_after c.args.s.now c.args.at (ahead (goal.at.returns-then-end-s c).Then-is_tagged) c.if-s-at-eq39.false) (omega arith)))).1;
+    }
 
 pub returns : goal.returns
 returns c =

@@ -1,13 +1,11 @@
 -- `small_end` meets its contract.
 -- Assumes nothing.
 use mathlib.Core.Path.{◌≡◌, sym, ap, ◌∙◌}
-use mathlib.Core.List.{List}
 use Prim.Native.Nat.{ℕ, ◌+◌, ◌≤◌, min}
 use native.Mathlib.Omega.{arith}
 use Rattle.syntax.specs.Found.{end_from, end_quote}
 use Rattle.syntax.specs.Whole.{end_past_start}
 use Rattle.syntax.specs.Quick.{quick_short}
-use borrow.Author.Rules.{rules}
 use Rattle.syntax.proofs.segment.small_end.Goals.{After-near_end-end}
 use Rattle.syntax.proofs.segment.small_end.Goals as goal
 

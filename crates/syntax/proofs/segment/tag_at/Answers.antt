@@ -1,7 +1,6 @@
-use mathlib.Core.Path.{sym, ◌∙◌}
+use mathlib.Core.Path.{sym}
 use native.Mathlib.Omega.{arith}
 use Rattle.syntax.specs.Tags.{number_few, number_three}
-use borrow.Author.Rules.{rules}
 use Rattle.syntax.proofs.segment.tag_at.Goals as goal
 
 pub returns-then-s-lt3 : goal.returns-then-s-lt3

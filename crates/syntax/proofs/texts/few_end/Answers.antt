@@ -1,12 +1,8 @@
 -- `few_end` meets its contract.
 -- Assumes nothing.
-use mathlib.Core.Path.{◌≡◌, refl, sym, ◌∙◌}
-use Prim.Native.Nat.{◌+◌, ◌-◌, ◌≤◌}
+use mathlib.Core.Path.{refl, sym, ◌∙◌}
 use native.Mathlib.Omega.{arith}
-use borrow.Author.Rules.{rules}
-use borrow.Author.Tests.{not-false}
-use lib.ListN.{length, drop}
-use Rattle.syntax.specs.Runs.{text_run, run_on}
+use Rattle.syntax.specs.Runs.{run_on}
 use Rattle.syntax.proofs.texts.few_end.Goals as goal
 
 pub loop-i-init : goal.loop-i-init
@@ -24,8 +20,7 @@ returns-then-not-is_text c = c.loop-i.invariant
 pub loop-i-preserved : goal.loop-i-preserved
 loop-i-preserved c =
     let v = c.loop-i.invariant in
-    let h = v.0 in
-    (
+    let h = v.0 in (
       omega arith,
       sym (run_on c.args.s.now c.loop-i.i c.loop-i-test.true (sym c.is_text.ensures ∙ c.if-not-is_text.false)) ∙ v.1,
     )

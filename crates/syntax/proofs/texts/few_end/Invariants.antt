@@ -1,12 +1,9 @@
 -- `few_end` meets its contract.
 -- Assumes nothing.
-use mathlib.Core.Path.{◌≡◌, refl, sym, ◌∙◌}
+use mathlib.Core.Path.{◌≡◌}
 use Prim.Native.Nat.{◌+◌, ◌-◌, ◌≤◌}
-use native.Mathlib.Omega.{arith}
-use borrow.Author.Rules.{rules}
-use borrow.Author.Tests.{not-false}
 use lib.ListN.{length, drop}
-use Rattle.syntax.specs.Runs.{text_run, run_on}
+use Rattle.syntax.specs.Runs.{text_run}
 use Rattle.syntax.proofs.texts.few_end.Given as goal
 
 abbrev pub invariant-loop-i : goal.invariant-loop-i

@@ -1,19 +1,9 @@
 -- `words_end` meets its contract.
 -- Assumes nothing.
-use mathlib.Core.Path.{◌≡◌, refl, ◌∙◌}
-use mathlib.Core.List.{List}
-use Prim.Native.Nat.{ℕ, ◌+◌, ◌-◌, ◌/◌, ◌≤◌}
-use native.Mathlib.Omega.{arith}
-use borrow.Author.Rules.{rules}
-use lib.Bits.{bit_or, bit_xor}
-use lib.Count.{count_trailing_zeros, trailing_le}
+use mathlib.Core.Path.{◌≡◌}
+use Prim.Native.Nat.{◌+◌, ◌-◌, ◌≤◌}
 use lib.ListN.{length, drop}
-use Rattle.laws.specs.Choice.{pick}
-use Rattle.laws.specs.Words.{word_by}
-use Rattle.laws.specs.Eight.{eight_at}
-use Rattle.laws.specs.Leads.{run_of, eight_lead, eight_clear}
 use Rattle.syntax.specs.Runs.{text_run}
-use Rattle.syntax.specs.Plain.{common_text, text_on, text_word}
 use Rattle.syntax.proofs.texts.words_end.Given as goal
 
 abbrev pub invariant-loop-i : goal.invariant-loop-i

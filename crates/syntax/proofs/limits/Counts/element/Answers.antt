@@ -1,7 +1,5 @@
-use mathlib.Core.Path.{sym, ◌∙◌}
 use borrow.Author.Tests.{lt-ltb, le-ltb}
 use Rattle.syntax.specs.Counts.{element_of}
-use borrow.Author.Rules.{rules}
 use Rattle.syntax.proofs.limits.Counts.element.Goals as goal
 
 pub returns-then-self-lt64 : goal.returns-then-self-lt64

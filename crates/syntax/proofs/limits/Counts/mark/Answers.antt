@@ -1,5 +1,4 @@
 use borrow.Author.Tests.{eq-eqb, ne_eqb}
-use borrow.Author.Rules.{rules}
 use Rattle.syntax.proofs.limits.Counts.mark.Goals as goal
 
 pub returns-then-b-eq43 : goal.returns-then-b-eq43

@@ -2,7 +2,6 @@ use borrow.Author.Tests.{le-leb, lt-leb}
 use Prim.Native.Nat.{◌+◌}
 use native.Mathlib.Omega.{arith}
 use Rattle.syntax.specs.Counts.{text_of}
-use borrow.Author.Rules.{rules}
 use Rattle.syntax.proofs.limits.Counts.text.Goals as goal
 
 pub returns-then-n-gt512 : goal.returns-then-n-gt512

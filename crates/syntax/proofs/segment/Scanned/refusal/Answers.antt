@@ -1,6 +1,5 @@
 use mathlib.Core.Path.{sym, ap}
 use Rattle.syntax.specs.Segment.{refusal_of}
-use borrow.Author.Rules.{rules}
 use Rattle.syntax.proofs.segment.Scanned.refusal.Goals as goal
 
 pub returns-in-End : goal.returns-in-End

@@ -1,0 +1,8 @@
+-- `save` meets its contract.
+-- Assumes nothing.
+use borrow.Author.Rules.{rules}
+use Rattle.parcel_store.proofs.save.Goals as goal
+
+pub returns : goal.returns
+returns c =
+    rw (c.put_bytes-2.ensures.1, c.put_bytes.ensures.1, c.other_head-second.ensures, c.state_head-first.ensures)

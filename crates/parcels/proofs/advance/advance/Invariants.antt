@@ -1,0 +1,12 @@
+-- `parcels::advance::advance` reads a parcel part by part; what is left of it grows less.
+-- Assumes nothing.
+use mathlib.Core.Path.{refl}
+use borrow.Author.Tests.{not-true, not-false}
+use Rattle.parcels.specs.Advancing.{Upto, left_of, upto_start, upto_size, upto_within, upto_standing, upto_on, upto_less, upto_held, advanced}
+use Rattle.parcels.proofs.advance.advance.Given as goal
+
+abbrev pub invariant-loop-x : goal.invariant-loop-x
+invariant-loop-x l = Upto l.parcel l.initial.x l.initial.store l.initial.rows l.x l.store l.rows
+
+abbrev pub decreases-loop-x : goal.decreases-loop-x
+decreases-loop-x l = left_of l.parcel l.x

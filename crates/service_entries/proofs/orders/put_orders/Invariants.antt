@@ -1,0 +1,17 @@
+-- `put_orders` meets its contract.
+-- Assumes nothing.
+use mathlib.Core.Path.{◌≡◌, refl, sym, ap, ◌∙◌}
+use Prim.Native.Nat.{ℕ, ◌-◌}
+use native.Mathlib.Omega.{arith}
+use borrow.Author.Rules.{rules}
+use lib.ListN.{length}
+use Rattle.service_entries.specs.Front.{Ends}
+use Rattle.service_entries.specs.Orders.{put_orders, order_length, order_part, orders_none, orders_on}
+use Rattle.service_entries.proofs.orders.put_orders.Given as goal
+
+abbrev pub invariant-loop-k : goal.invariant-loop-k
+invariant-loop-k l =
+    (put_orders l.orders l.k (l.count - l.k) l.room ≡ put_orders l.orders 0 l.count l.initial.room) × (length l.room ≡ length l.initial.room) × Ends l.room l.end
+
+abbrev pub decreases-loop-k : goal.decreases-loop-k
+decreases-loop-k l = l.count - l.k

@@ -1,0 +1,23 @@
+-- `put_all` meets its contract.
+-- Assumes nothing.
+use mathlib.Core.Path.{◌≡◌, refl, sym, ◌∙◌}
+use mathlib.Core.List.{List}
+use Prim.Native.Nat.{◌-◌}
+use native.Mathlib.Omega.{arith}
+use borrow.Author.Rules.{rules}
+use lib.ListN.{length}
+use Rattle.services.specs.declared.Service.{Service}
+use Rattle.services.specs.Rows.{row_count}
+use Rattle.services.specs.Services.{services_from, services_of}
+use Rattle.services.specs.Ways.{Next, next_found, next_gone}
+use Rattle.service_entries.specs.Room.{puts_in}
+use Rattle.service_entries.specs.Ways.{puts_none, puts_on}
+use Rattle.service_entries.specs.Front.{Ends}
+use Rattle.service_entries.proofs.put_all.Given as goal
+
+abbrev pub invariant-loop-service : goal.invariant-loop-service
+invariant-loop-service l =
+    (puts_in l.first l.s l.rows (services_from l.s l.rows (row_count l.rows l.n) l.i) l.room ≡ puts_in l.first l.s l.rows (services_of l.s l.rows l.n) l.initial.room) × (length l.room ≡ length l.initial.room) × Ends l.room l.end
+
+abbrev pub decreases-loop-service : goal.decreases-loop-service
+decreases-loop-service l = row_count l.rows l.n - l.i

@@ -1,0 +1,62 @@
+-- `put_service` meets its contract.
+-- Assumes nothing.
+use mathlib.Core.Path.{◌≡◌}
+use Prim.Native.Nat.{◌+◌, ◌*◌, ◌≤◌}
+use native.Mathlib.Omega.{arith}
+use borrow.Author.Rules.{rules}
+use lib.ListN.{length}
+use Rattle.service_entries.specs.Ways.{found_fits, gap_fits, put_found, put_gap}
+use Rattle.service_entries.specs.Front.{entry_put}
+use Rattle.service_entries.proofs.put_service.Goals.{After-find, In-At, In-Gap, Start}
+use Rattle.service_entries.proofs.put_service.Goals as goal
+
+-- the slot that was found
+module _ (k : In-At) where
+  fits : k.in-At.k * 140 + 140 ≤ length k.args.room.now
+  fits = found_fits k.args.room.now k.args.t2 k.find.result k.find.ensures k.in-At.k k.in-At.is
+
+pub overflow_mul-at : goal.overflow_mul-at
+overflow_mul-at c =
+    let h = fits (goal.at.overflow_mul-at c).In-At in
+    omega arith
+
+pub overflow_add-at : goal.overflow_add-at
+overflow_add-at c =
+    let h = fits (goal.at.overflow_add-at c).In-At in
+    omega arith
+
+pub overflow_add-at-in-At : goal.overflow_add-at-in-At
+overflow_add-at-in-At c =
+    let h = fits (goal.at.overflow_add-at-in-At c).In-At in
+    omega arith
+
+-- the place where it would go
+module _ (k : In-Gap) where
+  within : k.in-Gap.k * 140 ≤ length k.args.room.now
+  within = gap_fits k.args.room.now k.args.t2 k.find.result k.find.ensures k.in-Gap.k k.in-Gap.is
+
+pub overflow_mul-k : goal.overflow_mul-k
+overflow_mul-k c =
+    let h = within (goal.at.overflow_mul-k c).In-Gap in
+    omega arith
+
+pub insert_slot-requires : goal.insert_slot-requires
+insert_slot-requires c =
+    (within (goal.at.insert_slot-requires c).In-Gap, c.requires)
+
+pub returns-in-At : goal.returns-in-At
+returns-in-At c =
+    let l : length c.args.t3 ≡ 65 = search rules in
+    record {
+      left = put_found c.args.room.now c.args.t2 c.find.result c.find.ensures c.in-At.k c.args.t3 c.put_bytes.new.out c.in-At.is c.put_bytes.ensures.1;
+      zeros = entry_put c.args.room.now c.args.end c.later.result c.requires (c.in-At.k * 140) c.args.t3 c.put_bytes.new.out (fits (goal.at.returns-in-At c).In-At) c.later.ensures l c.put_bytes.ensures.1;
+    }
+
+pub returns-in-Gap : goal.returns-in-Gap
+returns-in-Gap c =
+    let a = c.args in
+    record {
+      left = put_gap a.room.now a.t2 c.find.result c.find.ensures c.in-Gap.k a.t3 c.new_slot-slot.result c.insert_slot.new.room c.in-Gap.is c.new_slot-slot.ensures
+          c.insert_slot.ensures.left;
+      zeros = c.insert_slot.ensures.zeros;
+    }

@@ -1,0 +1,27 @@
+use mathlib.Core.Path.{◌≡◌, sym, ap, ◌∙◌}
+use Prim.Native.Nat.{ℕ}
+use Rattle.syntax.specs.Segment.{tag_number}
+use Rattle.placing.specs.Rule.{step_of}
+use Rattle.steps.specs.Step.{placed}
+use Rattle.steps.specs.Ways.{inside_placed, inside_out}
+use borrow.Author.Rules.{rules}
+use Rattle.steps.proofs.step.next_segment.Goals.{After-step}
+use Rattle.steps.proofs.step.next_segment.Goals as goal
+
+module _ (u : After-step) where
+  told : u.step.result ≡ step_of u.args.table.now u.args.st.place (tag_number u.args.segment.now)
+  told =
+      let a = u.args in
+      u.step.ensures.step ∙ ap (step_of a.table.now a.st.place) u.tag_at.ensures
+
+pub returns-in-Placed : goal.returns-in-Placed
+returns-in-Placed c =
+    let a = c.args in
+    c.take_segment.ensures
+    ∙ ap (λ (x : ℕ). placed a.st a.at a.segment.now a.reference.now x c.in-Placed.p) c.group.ensures
+    ∙ inside_placed a.st a.at a.segment.now a.table.now a.reference.now c.in-Placed.p (sym (told (goal.at.returns-in-Placed c).After-step) ∙ c.in-Placed.is)
+
+pub returns-in-OutOfPlace : goal.returns-in-OutOfPlace
+returns-in-OutOfPlace c =
+    let a = c.args in
+    c.refused.ensures ∙ inside_out a.st a.at a.segment.now a.table.now a.reference.now (sym (told (goal.at.returns-in-OutOfPlace c).After-step) ∙ c.in-OutOfPlace.is)
