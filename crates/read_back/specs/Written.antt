@@ -9,7 +9,6 @@ use Rattle.std.proofs.Math.Dec.{eqb}
 use Rattle.std.proofs.Math.ListN.{get_or-eq_default}
 use borrow.Author.Tests.{le-leb, lt-ltb}
 use Rattle.laws.specs.Choice.{pick, both, either, all, both_false, all_append}
-use Rattle.laws.specs.Text.{bytes}
 use Rattle.syntax.specs.Segment.{body_at, segment_at}
 use Rattle.syntax.specs.declared.segment.Scanned.TheVariants.{End}
 use Rattle.parts.specs.Places.{present}

@@ -67,27 +67,27 @@ module _ (t : After-take_turn) where
 -- the row, and where the next segment starts
 module _ (k : In-On) where
   on : turn_at all k.args.s.now k.loop-numbers.st k.loop-numbers.at ≡ On k.in-On.next k.in-On.row k.in-On.then
-  on = turned (earlier_after_take_turn k.before.before.before) (On k.in-On.next k.in-On.row k.in-On.then) k.in-On.is
+  on = turned (earlier_after_take_turn k.before.before) (On k.in-On.next k.in-On.row k.in-On.then) k.in-On.is
 
   placed : (k.in-On.row.offset ≡ k.loop-numbers.at) × (k.loop-numbers.at + 4 ≤ k.in-On.then) × (k.in-On.then ≤ length k.args.s.now)
   placed = turn_on all k.args.s.now k.loop-numbers.st k.loop-numbers.at k.in-On.next k.in-On.row k.in-On.then on
 
   fits : k.loop-numbers.numbers + 2 < length k.loop-numbers.room
   fits =
-      let w = size (earlier_at_loop_numbers k.before.before.before.before.before.before.before.before) in
+      let w = size (earlier_at_loop_numbers k.before.before.before.before.before.before.before) in
       let l = k.loop-numbers-test.true in
       omega arith
 
 -- the row is put
 module _ (p : After-put_row) where
   put_size : length p.put_row.new.to ≡ room_size
-  put_size = ap length p.put_row.ensures ∙ length_put_row p.loop-numbers.room p.loop-numbers.numbers p.in-On.row ∙ size (earlier_at_loop_numbers p.before.before.before.before.before.before.before.before.before.before)
+  put_size = ap length p.put_row.ensures ∙ length_put_row p.loop-numbers.room p.loop-numbers.numbers p.in-On.row ∙ size (earlier_at_loop_numbers p.before.before.before.before.before.before.before.before.before)
 
   put_moved : Moved p.args.s.now p.loop-numbers.st p.loop-numbers.at p.loop-numbers.numbers p.loop-numbers.room p.in-On.next p.in-On.then (p.loop-numbers.numbers + 3) p.put_row.new.to
   put_moved =
       moved_as p.args.s.now refl p.put_row.ensures
       (moved_turn p.args.s.now p.loop-numbers.st p.loop-numbers.at p.loop-numbers.numbers p.loop-numbers.room p.in-On.next p.in-On.row p.in-On.then
-      (open_still (earlier_after_take_turn p.before.before.before.before.before)) p.if-s-at.false (on (earlier_in_on p.before.before)) (fits (earlier_in_on p.before.before)))
+      (open_still (earlier_after_take_turn p.before.before.before.before)) p.if-s-at.false (on (earlier_in_on p.before.before.before)) (fits (earlier_in_on p.before.before.before)))
 
 pub run_on-begun-requires : goal.run_on-begun-requires
 run_on-begun-requires c =

@@ -51,4 +51,4 @@ returns-in-Ends c =
     let w = c.end_at.ensures c.in-Ends.end c.in-Ends.is in
     let n : c.head_at-head.result / 256 ≡ tag_number (drop a.at c.args.s.now) = ap (λ x. x / 256) b.0 ∙ tag_number_lem c.args.s.now a.at b.1 c.requires.0 in
     let g : tag_at c.args.table.now c.next_place-next.result.row ≡ tag_number (drop a.at c.args.s.now) = sym (found (goal.at.returns-in-Ends c).Else-not-next) ∙ sym w.1 ∙ n in
-    record { whole = w.0; on = (led (goal.at.returns-in-Ends c).Else-not-next).on (tag_number (drop a.at c.args.s.now)) g; tagged = g; inside = (led (goal.at.returns-in-Ends c).Else-not-next).inside; fits = (led (goal.at.returns-in-Ends c).Else-not-next).ranges; good = w.2 }
+    record { whole = w.0; on = (led (goal.at.returns-in-Ends c).Else-not-next).on (tag_number (drop a.at c.args.s.now)) g; tagged = g; inside = (led (goal.at.returns-in-Ends c).Else-not-next).inside; fits = (led (goal.at.returns-in-Ends c).Else-not-next).fits; good = w.2 }

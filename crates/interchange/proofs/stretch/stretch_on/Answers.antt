@@ -65,21 +65,21 @@ module _ (t : After-turn_with) where
 -- the row, and where the next segment starts
 module _ (k : In-On) where
   on : turn_with all k.args.s.now k.args.reference.now k.args.reference.now k.loop-numbers.state k.loop-numbers.at (segment_at k.args.s.now k.loop-numbers.at) ≡ On k.in-On.next k.in-On.row k.in-On.then
-  on = turned (earlier_after_turn_with k.before.before.before) (On k.in-On.next k.in-On.row k.in-On.then) k.in-On.is
+  on = turned (earlier_after_turn_with k.before.before) (On k.in-On.next k.in-On.row k.in-On.then) k.in-On.is
 
   placed : (k.in-On.row.offset ≡ k.loop-numbers.at) × (k.loop-numbers.at + 4 ≤ k.in-On.then) × (k.in-On.then ≤ length k.args.s.now)
   placed = with_on all k.args.s.now k.args.reference.now k.args.reference.now k.loop-numbers.state k.loop-numbers.at k.in-On.next k.in-On.row k.in-On.then on
 
   fits : k.loop-numbers.numbers + 2 < length k.loop-numbers.room
   fits =
-      let w = size (earlier_at_loop_numbers k.before.before.before.before.before) in
+      let w = size (earlier_at_loop_numbers k.before.before.before.before) in
       let l = k.loop-numbers-test.true in
       omega arith
 
 -- the row is put
 module _ (p : After-put_row) where
   put_size : length p.put_row.new.to ≡ room_size
-  put_size = ap length p.put_row.ensures ∙ length_put_row p.loop-numbers.room p.loop-numbers.numbers p.in-On.row ∙ size (earlier_at_loop_numbers p.before.before.before.before.before.before.before)
+  put_size = ap length p.put_row.ensures ∙ length_put_row p.loop-numbers.room p.loop-numbers.numbers p.in-On.row ∙ size (earlier_at_loop_numbers p.before.before.before.before.before.before)
 
 pub run_on-begun-requires : goal.run_on-begun-requires
 run_on-begun-requires c =
