@@ -1,6 +1,6 @@
 -- A refusal of stage has a part beside 10 alone, and there one of the six.
 -- Assumes nothing.
-use Rattle.std.specs.Prelude.{◌≡◌, refl, Bool, false, ℕ, leb, length}
+use Rattle.std.specs.Prelude.{◌≡◌, refl, Bool, ℕ, leb, length}
 use Rattle.std.proofs.Common.{subst}
 use Rattle.std.proofs.Math.Bool.{true}
 use mathlib.Core.List.{List, [], ◌∷◌}
@@ -16,7 +16,7 @@ use Rattle.services.specs.declared.Service.{Service}
 use Rattle.services.specs.Services.{periods_of, is_wrong, is_twice, services_of}
 use Rattle.contents.specs.Contents.{Record}
 use Rattle.contents.specs.Calls.{View, lookup}
-use Rattle.stages.specs.Stage.{number_in, first_outside, is_unknown, enter_known, enter_inside, enter, and_then, enter_all, close_by, stage_services, stage_by, stage_of}
+use Rattle.stages.specs.Stage.{number_in, first_outside, is_unknown, enter_known, enter_inside, enter, and_then, enter_all, close_by, stage_by, stage_of}
 
 module _ (first : ℕ) (s rows : List ℕ) where
   known_parted : (v : Service) (rs : List Record) → Parted (enter_known first s rows v rs)

@@ -1,6 +1,6 @@
 -- What an accepted reading says of a service: its number has permitted characters only, and its days are a calendar.
 -- Assumes nothing.
-use Prim.Native.Nat.{ℕ, zero, suc, ◌+◌, ◌*◌, ◌/◌, ◌≤◌, ◌<◌}
+use Prim.Native.Nat.{ℕ, zero, suc, ◌+◌, ◌*◌, ◌/◌, ◌<◌}
 use Rattle.std.specs.Prelude.{◌≡◌, Bool, true, false, List, [], ◌∷◌, map, ltb, length, get_or, replicate}
 use Rattle.std.proofs.Math.Path.{refl}
 use Rattle.std.proofs.Common.{sym, ap, ◌∙◌, subst, arith, lit≤, lt-ltb, eq-eqb}
@@ -12,7 +12,6 @@ use Rattle.syntax.specs.Segment.{body_at, scan_of, segment_at}
 use Rattle.syntax.specs.declared.segment.Scanned.{Scanned}
 use Rattle.syntax.specs.declared.segment.Scanned.TheVariants.{End, NotPermitted, Unended, Malformed}
 use Rattle.answers.specs.Answers.{Answer, done, refused}
-use Rattle.placing.specs.Table.{Table}
 use Rattle.placing.specs.Tables.{tables}
 use Rattle.steps.specs.declared.state.State.{State}
 use Rattle.steps.specs.declared.state.Row.{Row}
@@ -76,16 +75,22 @@ nth_permitted ps (suc n) h = get_or_permitted ps n h
 pub part_permitted : (g : List ℕ) (e o c : ℕ) → Permitted g → Permitted (part_of g e o c)
 unfolding part_of
 part_permitted g e o c q =
-    nth_permitted _ c (pieces_permitted 58 _ (nth_permitted _ o (pieces_permitted 42 _ (nth_permitted _ e (later_permitted 43 false g q)))))
+    let h = nth_permitted (later_pieces 43 false g) e (later_permitted 43 false g q) in
+    let k = nth_permitted (pieces 42 (nth (later_pieces 43 false g) e)) o (pieces_permitted 42 (nth (later_pieces 43 false g) e) h) in
+    nth_permitted (pieces 58 (nth (pieces 42 (nth (later_pieces 43 false g) e)) o)) c
+    (pieces_permitted 58 (nth (pieces 42 (nth (later_pieces 43 false g) e)) o) k)
 
 pub plain_permitted : (r : Bool) (l : List ℕ) → Permitted l → Permitted (plain_on r l)
 unfolding plain_on
 plain_permitted r [] q = refl
-plain_permitted r (b ∷ l) q =
+plain_permitted true (b ∷ l) q =
     let w = both_parts (permitted_of b) (all permitted_of l) q in
-    choose (stands 63 r b)
-    (λ p. rw p (plain_permitted (releases r b) l w.1))
-    (λ p. rw p (more b (plain_on (releases r b) l) w.0 (plain_permitted (releases r b) l w.1)))
+    more b (plain_on false l) w.0 (plain_permitted false l w.1)
+plain_permitted false (b ∷ l) q =
+    let w = both_parts (permitted_of b) (all permitted_of l) q in
+    choose (stands 63 false b)
+    (λ p. rw p (plain_permitted true l w.1))
+    (λ p. rw p (more b (plain_on false l) w.0 (plain_permitted false l w.1)))
 
 -- ---- the days of a service are a calendar
 

@@ -1,10 +1,6 @@
 -- `parcel_cases::call_all` is safe and ends: past a call stands less of the line.
 -- Assumes nothing.
-use Prim.Native.Nat.{◌-◌}
-use mathlib.Core.Path.{◌≡◌}
 use native.Mathlib.Omega.{arith}
-use lib.ListN.{length}
-use borrow.Author.Rules.{rules}
 use Rattle.lines.specs.Lines.{past_forward}
 use Rattle.parcel_cases.proofs.call_all.Goals as goal
 

@@ -1,10 +1,6 @@
 -- `parcel_cases::expand` is safe and ends: past a piece stands less of the notation.
 -- Assumes nothing.
-use Prim.Native.Nat.{◌-◌}
-use mathlib.Core.Path.{◌≡◌}
 use native.Mathlib.Omega.{arith}
-use lib.ListN.{length}
-use borrow.Author.Rules.{rules}
 use Rattle.lines.specs.Lines.{past_forward}
 use Rattle.parcel_cases.proofs.expand.Goals as goal
 

@@ -2,10 +2,7 @@
 -- Assumes nothing.
 use Prim.Native.Nat.{◌-◌}
 use mathlib.Core.Path.{◌≡◌}
-use native.Mathlib.Omega.{arith}
 use lib.ListN.{length}
-use borrow.Author.Rules.{rules}
-use Rattle.lines.specs.Lines.{past_forward}
 use Rattle.parcel_cases.proofs.expand.Given as goal
 
 abbrev pub invariant-loop-i : goal.invariant-loop-i

@@ -3,7 +3,6 @@
 use Prim.Native.Nat.{◌-◌}
 use mathlib.Core.Path.{◌≡◌}
 use lib.ListN.{length}
-use borrow.Author.Rules.{rules}
 use Rattle.parcel_cases.proofs.first_other.Given as goal
 
 abbrev pub invariant-loop-at : goal.invariant-loop-at

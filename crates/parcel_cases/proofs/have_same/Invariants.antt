@@ -1,7 +1,6 @@
 -- `parcel_cases::have_same` is safe and ends.
 -- Assumes nothing.
 use Prim.Native.Nat.{◌-◌}
-use borrow.Author.Rules.{rules}
 use Rattle.parcel_cases.proofs.have_same.Given as goal
 
 abbrev pub invariant-loop-i : goal.invariant-loop-i

@@ -3,7 +3,6 @@
 use Prim.Native.Nat.{◌-◌}
 use mathlib.Core.Path.{◌≡◌}
 use lib.ListN.{length}
-use borrow.Author.Rules.{rules}
 use Rattle.parcel_cases.proofs.take_all.Given as goal
 
 abbrev pub invariant-loop-at : goal.invariant-loop-at

@@ -2,7 +2,6 @@
 -- Assumes nothing.
 use Rattle.parcels.specs.Calls.{parcel_told}
 use Rattle.parcels.specs.CallLaws.{begin_other, begun}
-use borrow.Author.Rules.{rules}
 use Rattle.parcels.proofs.begin.Goals as goal
 
 pub returns-then-store-ne-STORE : goal.returns-then-store-ne-STORE

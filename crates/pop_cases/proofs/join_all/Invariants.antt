@@ -3,7 +3,6 @@
 use Prim.Native.Nat.{◌-◌}
 use lib.ListN.{length}
 use mathlib.Core.Path.{◌≡◌}
-use borrow.Author.Rules.{rules}
 use Rattle.pop_cases.proofs.join_all.Given as goal
 
 abbrev pub invariant-loop-at : goal.invariant-loop-at

@@ -1,7 +1,6 @@
 -- `window_text` is safe and ends.
 -- Assumes nothing.
 use Prim.Native.Nat.{◌-◌, ◌≤◌}
-use borrow.Author.Rules.{rules}
 use Rattle.pop_cases.proofs.window_text.Given as goal
 
 abbrev pub invariant-loop-k : goal.invariant-loop-k

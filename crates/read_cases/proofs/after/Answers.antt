@@ -2,7 +2,6 @@
 -- Assumes nothing.
 use mathlib.Core.Path.{ap}
 use native.Mathlib.Omega.{arith}
-use borrow.Author.Rules.{rules}
 use Rattle.lines.specs.declared.coded.Sign.{Sign}
 use Rattle.lines.specs.Lines.{past_forward}
 use Rattle.lines.specs.Coded.{sign_forward}

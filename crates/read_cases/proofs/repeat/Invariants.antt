@@ -1,9 +1,7 @@
 -- `read_cases::repeat` is safe and ends.
 -- Assumes nothing.
-use Prim.Native.Nat.{◌-◌}
 use mathlib.Core.Path.{◌≡◌}
 use lib.ListN.{length}
-use borrow.Author.Rules.{rules}
 use Rattle.read_cases.proofs.repeat.Given as goal
 
 abbrev pub invariant-loop-left : goal.invariant-loop-left

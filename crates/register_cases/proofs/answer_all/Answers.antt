@@ -1,10 +1,6 @@
 -- `register_cases::answer_all` is safe and ends: past a line stands less of the text.
 -- Assumes nothing.
-use Prim.Native.Nat.{◌-◌}
-use mathlib.Core.Path.{◌≡◌}
 use native.Mathlib.Omega.{arith}
-use lib.ListN.{length}
-use borrow.Author.Rules.{rules}
 use Rattle.lines.specs.Lines.{past_forward}
 use Rattle.register_cases.proofs.answer_all.Goals as goal
 

@@ -2,10 +2,7 @@
 -- Assumes nothing.
 use Prim.Native.Nat.{◌-◌}
 use mathlib.Core.Path.{◌≡◌}
-use native.Mathlib.Omega.{arith}
 use lib.ListN.{length}
-use borrow.Author.Rules.{rules}
-use Rattle.lines.specs.Lines.{past_forward}
 use Rattle.register_cases.proofs.answer_all.Given as goal
 
 abbrev pub invariant-loop-at : goal.invariant-loop-at

@@ -2,7 +2,6 @@
 -- Assumes nothing.
 use mathlib.Core.Path.{sym}
 use lib.Seq.{length-take-le}
-use borrow.Author.Rules.{rules}
 use Rattle.register_cases.proofs.call_lent.Goals as goal
 
 pub slice_bounds-call-end-2 : goal.slice_bounds-call-end-2

@@ -1,7 +1,6 @@
 -- `register_cases::quotas` is safe and ends.
 -- Assumes nothing.
 use Prim.Native.Nat.{◌-◌, ◌≤◌}
-use borrow.Author.Rules.{rules}
 use Rattle.register_cases.proofs.quotas.Given as goal
 
 abbrev pub invariant-loop-k : goal.invariant-loop-k

@@ -2,7 +2,6 @@
 -- Assumes nothing.
 use mathlib.Core.Path.{sym}
 use lib.Seq.{length-take-le}
-use borrow.Author.Rules.{rules}
 use Rattle.register_cases.proofs.show_part.Goals as goal
 
 pub slice_bounds-show-end-2 : goal.slice_bounds-show-end-2

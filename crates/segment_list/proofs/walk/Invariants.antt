@@ -2,7 +2,6 @@
 -- Assumes nothing.
 use Prim.Native.Nat.{◌+◌, ◌-◌}
 use lib.ListN.{length}
-use borrow.Author.Rules.{rules}
 use Rattle.segment_list.proofs.walk.Given as goal
 
 abbrev pub invariant-loop-n : goal.invariant-loop-n

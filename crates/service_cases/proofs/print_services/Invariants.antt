@@ -1,7 +1,6 @@
 -- `service_cases::print_services` is safe and ends.
 -- Assumes nothing.
 use Prim.Native.Nat.{◌-◌}
-use borrow.Author.Rules.{rules}
 use Rattle.service_cases.proofs.print_services.Given as goal
 
 abbrev pub invariant-loop-i : goal.invariant-loop-i

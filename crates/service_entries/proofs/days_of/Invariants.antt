@@ -1,17 +1,13 @@
 -- `days_of` meets its contract.
 -- Assumes nothing.
-use mathlib.Core.Path.{◌≡◌, refl, sym, ◌∙◌}
+use mathlib.Core.Path.{◌≡◌}
 use mathlib.Core.List.{map}
-use Prim.Native.Nat.{ℕ, ◌+◌, ◌-◌}
-use native.Mathlib.Omega.{arith}
-use borrow.Author.Rules.{rules}
+use Prim.Native.Nat.{◌-◌}
 use lib.ListN.{length, replicate}
 use Rattle.syntax.specs.Segment.{body_at}
 use Rattle.joining.specs.Joined.{join_all}
 use Rattle.services.specs.Rows.{row_count}
 use Rattle.services.specs.Services.{periods_from}
-use Rattle.services.specs.Ways.{NextPeriod, period_found, period_gone}
-use Rattle.service_entries.specs.Ways.{join_none, join_on, days_are}
 use Rattle.service_entries.proofs.days_of.Given as goal
 
 abbrev pub invariant-loop-k : goal.invariant-loop-k

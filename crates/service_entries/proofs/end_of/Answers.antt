@@ -3,7 +3,6 @@
 use mathlib.Core.Path.{sym, ◌∙◌}
 use Prim.Native.Nat.{◌*◌}
 use native.Mathlib.Omega.{arith}
-use borrow.Author.Rules.{rules}
 use Rattle.records.specs.Read.{used_within}
 use Rattle.service_entries.specs.Front.{ends_zero, ends_whole}
 use Rattle.service_entries.proofs.end_of.Goals as goal

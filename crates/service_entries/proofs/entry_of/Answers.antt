@@ -9,5 +9,5 @@ use Rattle.service_entries.proofs.entry_of.Goals as goal
 pub returns : goal.returns
 returns c =
     let a = c.args in
-    let l : length a.t2 ≡ 64 = search rules in
-    entry_is a.flag a.t2 c.put_bytes.new.out l c.put_bytes.ensures.1
+    let l : length a.days ≡ 64 = search rules in
+    entry_is a.flag a.days c.put_bytes.new.out l c.put_bytes.ensures.1

@@ -1,6 +1,5 @@
 -- `known_at` meets its contract.
 -- Assumes nothing.
-use borrow.Author.Rules.{rules}
 use Rattle.service_entries.specs.Ways.{known_is}
 use Rattle.service_entries.proofs.known_at.Goals as goal
 

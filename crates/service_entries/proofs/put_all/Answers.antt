@@ -1,18 +1,13 @@
 -- `put_all` meets its contract.
 -- Assumes nothing.
-use mathlib.Core.Path.{◌≡◌, refl, sym, ◌∙◌}
+use mathlib.Core.Path.{refl, sym, ◌∙◌}
 use mathlib.Core.List.{List}
-use Prim.Native.Nat.{◌-◌}
 use native.Mathlib.Omega.{arith}
-use borrow.Author.Rules.{rules}
-use lib.ListN.{length}
 use Rattle.services.specs.declared.Service.{Service}
 use Rattle.services.specs.Rows.{row_count}
-use Rattle.services.specs.Services.{services_from, services_of}
+use Rattle.services.specs.Services.{services_from}
 use Rattle.services.specs.Ways.{Next, next_found, next_gone}
-use Rattle.service_entries.specs.Room.{puts_in}
 use Rattle.service_entries.specs.Ways.{puts_none, puts_on}
-use Rattle.service_entries.specs.Front.{Ends}
 use Rattle.service_entries.proofs.put_all.Goals.{After-put_one-end, At-loop-service, Start}
 use Rattle.service_entries.proofs.put_all.Goals as goal
 

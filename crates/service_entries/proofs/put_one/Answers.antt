@@ -1,6 +1,5 @@
 -- `put_one` meets its contract.
 -- Assumes nothing.
-use borrow.Author.Rules.{rules}
 use Rattle.service_entries.specs.Ways.{puts_not, puts_one}
 use Rattle.service_entries.proofs.put_one.Goals as goal
 

@@ -13,7 +13,7 @@ use Rattle.service_entries.proofs.put_service.Goals as goal
 -- the slot that was found
 module _ (k : In-At) where
   fits : k.in-At.k * 140 + 140 ≤ length k.args.room.now
-  fits = found_fits k.args.room.now k.args.t2 k.find.result k.find.ensures k.in-At.k k.in-At.is
+  fits = found_fits k.args.room.now k.args.number k.find.result k.find.ensures k.in-At.k k.in-At.is
 
 pub overflow_mul-at : goal.overflow_mul-at
 overflow_mul-at c =
@@ -33,7 +33,7 @@ overflow_add-at-in-At c =
 -- the place where it would go
 module _ (k : In-Gap) where
   within : k.in-Gap.k * 140 ≤ length k.args.room.now
-  within = gap_fits k.args.room.now k.args.t2 k.find.result k.find.ensures k.in-Gap.k k.in-Gap.is
+  within = gap_fits k.args.room.now k.args.number k.find.result k.find.ensures k.in-Gap.k k.in-Gap.is
 
 pub overflow_mul-k : goal.overflow_mul-k
 overflow_mul-k c =
@@ -46,17 +46,17 @@ insert_slot-requires c =
 
 pub returns-in-At : goal.returns-in-At
 returns-in-At c =
-    let l : length c.args.t3 ≡ 65 = search rules in
+    let l : length c.args.entry ≡ 65 = search rules in
     record {
-      left = put_found c.args.room.now c.args.t2 c.find.result c.find.ensures c.in-At.k c.args.t3 c.put_bytes.new.out c.in-At.is c.put_bytes.ensures.1;
-      zeros = entry_put c.args.room.now c.args.end c.later.result c.requires (c.in-At.k * 140) c.args.t3 c.put_bytes.new.out (fits (goal.at.returns-in-At c).In-At) c.later.ensures l c.put_bytes.ensures.1;
+      left = put_found c.args.room.now c.args.number c.find.result c.find.ensures c.in-At.k c.args.entry c.put_bytes.new.out c.in-At.is c.put_bytes.ensures.1;
+      zeros = entry_put c.args.room.now c.args.end c.later.result c.requires (c.in-At.k * 140) c.args.entry c.put_bytes.new.out (fits (goal.at.returns-in-At c).In-At) c.later.ensures l c.put_bytes.ensures.1;
     }
 
 pub returns-in-Gap : goal.returns-in-Gap
 returns-in-Gap c =
     let a = c.args in
     record {
-      left = put_gap a.room.now a.t2 c.find.result c.find.ensures c.in-Gap.k a.t3 c.new_slot-slot.result c.insert_slot.new.room c.in-Gap.is c.new_slot-slot.ensures
+      left = put_gap a.room.now a.number c.find.result c.find.ensures c.in-Gap.k a.entry c.new_slot-slot.result c.insert_slot.new.room c.in-Gap.is c.new_slot-slot.ensures
           c.insert_slot.ensures.left;
       zeros = c.insert_slot.ensures.zeros;
     }

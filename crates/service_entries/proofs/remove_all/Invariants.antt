@@ -1,17 +1,11 @@
 -- `remove_all` meets its contract.
 -- Assumes nothing.
-use mathlib.Core.Path.{◌≡◌, refl, sym, ◌∙◌}
-use mathlib.Core.List.{List}
+use mathlib.Core.Path.{◌≡◌}
 use Prim.Native.Nat.{◌-◌}
-use native.Mathlib.Omega.{arith}
-use borrow.Author.Rules.{rules}
 use lib.ListN.{length}
-use Rattle.services.specs.declared.Service.{Service}
 use Rattle.services.specs.Rows.{row_count}
 use Rattle.services.specs.Services.{services_from, services_of}
-use Rattle.services.specs.Ways.{Next, next_found, next_gone}
 use Rattle.service_entries.specs.Room.{removes_in}
-use Rattle.service_entries.specs.Ways.{removes_none, removes_on}
 use Rattle.service_entries.proofs.remove_all.Given as goal
 
 abbrev pub invariant-loop-service : goal.invariant-loop-service

@@ -1,6 +1,5 @@
 -- `remove_at` meets its contract.
 -- Assumes nothing.
-use borrow.Author.Rules.{rules}
 use Rattle.service_entries.specs.Ways.{remove_dead, remove_live}
 use Rattle.service_entries.proofs.remove_at.Goals as goal
 

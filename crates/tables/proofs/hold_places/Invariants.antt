@@ -1,6 +1,5 @@
 -- `tables::hold_places` is safe and ends: the measure is what is left of the rows. Assumes nothing.
 use Prim.Native.Nat.{◌-◌}
-use borrow.Author.Rules.{rules}
 use Rattle.tables.proofs.hold_places.Given as goal
 
 abbrev pub invariant-loop-row : goal.invariant-loop-row

@@ -1,7 +1,6 @@
 -- `tables::print_table` is safe and ends: the measure is what is left of the table. Assumes nothing.
 use Prim.Native.Nat.{◌≤◌, ◌-◌}
 use lib.ListN.{length}
-use borrow.Author.Rules.{rules}
 use Rattle.tables.proofs.print_table.Given as goal
 
 abbrev pub invariant-loop-i : goal.invariant-loop-i

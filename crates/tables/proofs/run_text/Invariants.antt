@@ -1,10 +1,7 @@
 -- `tables::run_text` is safe and ends: past a line stands less of the text.
 -- Assumes nothing.
 use Prim.Native.Nat.{◌-◌}
-use native.Mathlib.Omega.{arith}
 use lib.ListN.{length}
-use borrow.Author.Rules.{rules}
-use Rattle.lines.specs.Lines.{past_forward}
 use Rattle.tables.proofs.run_text.Given as goal
 
 abbrev pub invariant-loop-at : goal.invariant-loop-at

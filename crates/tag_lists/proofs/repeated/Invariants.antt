@@ -1,6 +1,5 @@
 -- `tag_lists::repeated` is safe and ends: the measure is how many are left. Assumes nothing.
 use Prim.Native.Nat.{◌≤◌, ◌-◌}
-use borrow.Author.Rules.{rules}
 use Rattle.tag_lists.proofs.repeated.Given as goal
 
 abbrev pub invariant-loop-k : goal.invariant-loop-k

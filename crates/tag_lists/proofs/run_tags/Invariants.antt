@@ -1,10 +1,7 @@
 -- `tag_lists::run_tags` is safe and ends: past a word stands less of the line.
 -- Assumes nothing.
 use Prim.Native.Nat.{◌-◌}
-use native.Mathlib.Omega.{arith}
 use lib.ListN.{length}
-use borrow.Author.Rules.{rules}
-use Rattle.lines.specs.Lines.{past_forward}
 use Rattle.tag_lists.proofs.run_tags.Given as goal
 
 abbrev pub invariant-loop-at : goal.invariant-loop-at

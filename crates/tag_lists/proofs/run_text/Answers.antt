@@ -1,9 +1,6 @@
 -- `tag_lists::run_text` is safe and ends: past a line stands less of the text.
 -- Assumes nothing.
-use Prim.Native.Nat.{◌-◌}
 use native.Mathlib.Omega.{arith}
-use lib.ListN.{length}
-use borrow.Author.Rules.{rules}
 use Rattle.lines.specs.Lines.{past_forward}
 use Rattle.tag_lists.proofs.run_text.Goals as goal
 

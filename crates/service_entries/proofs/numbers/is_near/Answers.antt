@@ -1,7 +1,6 @@
 -- `is_near` meets its contract.
 -- Assumes nothing.
 use native.Mathlib.Omega.{arith}
-use borrow.Author.Rules.{rules}
 use borrow.Author.Tests.{leb-true}
 use Prim.Native.Nat.{◌-◌}
 use lib.ListN.{length}

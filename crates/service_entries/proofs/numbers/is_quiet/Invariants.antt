@@ -1,15 +1,11 @@
 -- `is_quiet` meets its contract: as long as nothing is counted, none of the bytes so far is the mark.
 -- Assumes nothing.
-use mathlib.Core.Path.{◌≡◌, refl}
+use mathlib.Core.Path.{◌≡◌}
 use mathlib.Core.Bool.{true}
 use Prim.Native.Nat.{◌-◌, ◌≤◌}
-use native.Mathlib.Omega.{arith}
-use borrow.Author.Rules.{rules}
-use borrow.Author.Tests.{eqb-true}
 use lib.ListN.{length, take}
 use Rattle.laws.specs.Choice.{all}
 use Rattle.free_texts.specs.Free.{quiet}
-use Rattle.service_entries.specs.Numbers.{quiet_on, quiet_whole}
 use Rattle.service_entries.proofs.numbers.is_quiet.Given as goal
 
 abbrev pub invariant-loop-i : goal.invariant-loop-i

@@ -1,6 +1,5 @@
 -- `number_of` meets its contract.
 -- Assumes nothing.
-use borrow.Author.Rules.{rules}
 use Rattle.service_entries.proofs.numbers.number_of.Goals as goal
 
 pub returns : goal.returns

@@ -1,6 +1,5 @@
 -- `plain_number` meets its contract.
 -- Assumes nothing.
-use borrow.Author.Rules.{rules}
 use Rattle.parts.specs.Places.{bytes_of}
 use Rattle.service_entries.specs.Ways.{number_copied}
 use Rattle.service_entries.proofs.numbers.plain_number.Goals as goal

@@ -1,8 +1,6 @@
 -- `read_number` meets its contract.
 -- Assumes nothing.
 use native.Mathlib.Omega.{arith}
-use borrow.Author.Rules.{rules}
-use borrow.Author.Tests.{not-false}
 use Rattle.service_entries.specs.Numbers.{number_quiet}
 use Rattle.service_entries.proofs.numbers.read_number.Goals as goal
 

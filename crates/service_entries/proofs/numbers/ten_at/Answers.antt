@@ -1,11 +1,6 @@
 -- `ten_at` meets its contract: so far as much of the text is put as there is.
 -- Assumes nothing.
-use mathlib.Core.Path.{◌≡◌}
-use Prim.Native.Nat.{◌-◌, min}
 use native.Mathlib.Omega.{arith}
-use borrow.Author.Rules.{rules}
-use lib.ListN.{take, drop, replicate}
-use lib.Seq.{paste}
 use Rattle.service_entries.specs.Numbers.{ten_start, ten_step, ten_done}
 use Rattle.service_entries.proofs.numbers.ten_at.Goals as goal
 

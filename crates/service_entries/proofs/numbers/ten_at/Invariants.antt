@@ -2,11 +2,8 @@
 -- Assumes nothing.
 use mathlib.Core.Path.{◌≡◌}
 use Prim.Native.Nat.{◌-◌, min}
-use native.Mathlib.Omega.{arith}
-use borrow.Author.Rules.{rules}
 use lib.ListN.{take, drop, replicate}
 use lib.Seq.{paste}
-use Rattle.service_entries.specs.Numbers.{ten_start, ten_step, ten_done}
 use Rattle.service_entries.proofs.numbers.ten_at.Given as goal
 
 abbrev pub invariant-loop-i : goal.invariant-loop-i

@@ -5,7 +5,6 @@ use native.Mathlib.Omega.{arith}
 use lib.Seq.{length-take-le}
 use Rattle.laws.specs.Lists.{rest_is}
 use Rattle.service_entries.specs.Orders.{order_not, order_puts}
-use borrow.Author.Rules.{rules}
 use Rattle.service_entries.proofs.orders.enter_order.Goals as goal
 
 pub returns-then-order-ne1 : goal.returns-then-order-ne1

@@ -12,14 +12,14 @@ use Rattle.service_entries.proofs.orders.put_order.Goals as goal
 pub returns-then-orders-k : goal.returns-then-orders-k
 returns-then-orders-k c =
     let a = c.args in
-    ordered_not a.orders.now a.k (a.t3 ++ (flag_of a.removal ∷ a.days)) c.if-orders-k.true
+    ordered_not a.orders.now a.k (a.number ++ (flag_of a.removal ∷ a.days)) c.if-orders-k.true
 
-ten : (i : Start) → length i.args.t3 ≡ 10
+ten : (i : Start) → length i.args.number ≡ 10
 ten i = search rules
 
 pub returns : goal.returns
 returns c =
     let a = c.args in
     let y : length c.entry_of-entry.result ≡ 65 = search rules in
-    ordered_is a.orders.now a.k a.t3 (flag_of a.removal ∷ a.days) c.if-orders-k.false
+    ordered_is a.orders.now a.k a.number (flag_of a.removal ∷ a.days) c.if-orders-k.false
     c.put_bytes.ensures.1 c.put_bytes-2.ensures.1 (c.entry_of-entry.ensures ∙ ap (λ (z : ℕ). z ∷ a.days) c.flag_of.ensures) (ten (goal.at.returns c).Start) y

@@ -3,9 +3,6 @@
 use mathlib.Core.Path.{◌≡◌, refl, sym, ap, ◌∙◌}
 use Prim.Native.Nat.{ℕ, ◌-◌}
 use native.Mathlib.Omega.{arith}
-use borrow.Author.Rules.{rules}
-use lib.ListN.{length}
-use Rattle.service_entries.specs.Front.{Ends}
 use Rattle.service_entries.specs.Orders.{put_orders, order_length, order_part, orders_none, orders_on}
 use Rattle.service_entries.proofs.orders.put_orders.Goals as goal
 

@@ -1,12 +1,10 @@
 -- `put_orders` meets its contract.
 -- Assumes nothing.
-use mathlib.Core.Path.{◌≡◌, refl, sym, ap, ◌∙◌}
-use Prim.Native.Nat.{ℕ, ◌-◌}
-use native.Mathlib.Omega.{arith}
-use borrow.Author.Rules.{rules}
+use mathlib.Core.Path.{◌≡◌}
+use Prim.Native.Nat.{◌-◌}
 use lib.ListN.{length}
 use Rattle.service_entries.specs.Front.{Ends}
-use Rattle.service_entries.specs.Orders.{put_orders, order_length, order_part, orders_none, orders_on}
+use Rattle.service_entries.specs.Orders.{put_orders}
 use Rattle.service_entries.proofs.orders.put_orders.Given as goal
 
 abbrev pub invariant-loop-k : goal.invariant-loop-k
