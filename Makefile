@@ -3,7 +3,7 @@ MAKEFLAGS += --no-print-directory
 .PHONY: help
 help:
 	@echo 'make read FILE=samples/skdupd.edi   prints the reading of an interchange; builds the printing program if need be'
-	@echo 'make test                           the gate: proves every crate from nothing, tries each must-fail edit, runs each program'
+	@echo 'make test                           the gate: proves every crate, tries each must-fail edit, runs each program'
 	@echo 'make test_read                      tries make read on good files and on files that cannot be read'
 	@echo 'make desk                           the desk program, target/desk/desk, with the library for C'
 	@echo 'make desk-test                      tests it: every command and status, a full disk, kills, two writers'

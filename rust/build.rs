@@ -1,4 +1,4 @@
-//! Finds the library: the archive that `DRUMCALLISTO_LIBRARY` names, or the one that `rt staticlib desk` leaves in the repository.
+//! Finds the library: the archive that `DRUMCALLISTO_LIBRARY` names, or the one that `make rust` leaves in the repository.
 
 use std::env;
 use std::path::{Path, PathBuf};

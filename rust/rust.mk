@@ -1,4 +1,4 @@
-# The crate for Rust (rust/README.md), from the repository's root: make rust; make rust-packages for an Arm machine without what it needs.
+# The crate for Rust (rust/README.md), from the repository's root: make rust; make rust-packages for a machine without cargo and rustc.
 .PHONY: rust rust-packages
 rust:
 	@MAKE='$(MAKE)' rust/test

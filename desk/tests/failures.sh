@@ -48,7 +48,6 @@ unchanged "disks"
 who=
 [ "$(id -u)" == 0 ] && who="setpriv --reuid=65534 --regid=65534 --clear-groups"
 cp "$DESK" "$work/desk" # where anyone may start it
-[ -e "$DESK.x86-64" ] && cp "$DESK.x86-64" "$work/desk.x86-64" && sed -i "s|'.*'|'$work/desk.x86-64'|" "$work/desk"
 if $who "$work/desk" --version > /dev/null 2>&1; then
     chmod 555 .
     $who "$work/desk" r release 3 > "$work/out" 2> "$work/words"
@@ -106,10 +105,7 @@ expect 3 "" "r.lock: Too many levels of symbolic links; nothing was changed" r r
 rm r.lock
 
 # the order of it, by the system's own record: the lock, the file flushed, renamed, the folder flushed, and only then the answer
-if grep -qs qemu-x86_64 "$DESK"; then
-    sed 's/qemu-x86_64 /&-strace /' "$DESK" > "$work/traced"
-    sh "$work/traced" r release 3 > /dev/null 2> "$work/trace"
-elif command -v strace > /dev/null; then
+if command -v strace > /dev/null; then
     strace -o "$work/trace" "$DESK" r release 3 > /dev/null
 else
     echo "failures: no strace here; the order of flushing was not tried"
