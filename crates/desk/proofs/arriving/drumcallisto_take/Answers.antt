@@ -6,4 +6,9 @@ use borrow.Author.Rules.{rules}
 use Rattle.desk.proofs.arriving.drumcallisto_take.Goals as goal
 
 pub returns : goal.returns
-returns c = record { told = ((c.taken.ensures ∙ ap told_reply c.take.ensures.told, (c.take.ensures.left.0, c.take.ensures.left.1))).0; left = ((c.taken.ensures ∙ ap told_reply c.take.ensures.told, (c.take.ensures.left.0, c.take.ensures.left.1))).1; out = ((c.taken.ensures ∙ ap told_reply c.take.ensures.told, (c.take.ensures.left.0, c.take.ensures.left.1))).2 }
+returns c =
+    record {
+      told = c.taken.ensures ∙ ap told_reply c.take.ensures.told;
+      left = c.take.ensures.left;
+      out = c.take.ensures.out;
+    }
