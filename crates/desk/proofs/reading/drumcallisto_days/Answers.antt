@@ -41,6 +41,6 @@ returns c =
     let q = ap number_of (sym c.date_of.ensures) ∙ sym c.day_number.ensures ∙ c.in-Day.is in
     let w = from_first a.wish s p (day_date a.first) a.days.now c.if-days-ne64.false _ q in
     record {
-      told = r.0 ∙ ap reply_of w.0;
-      left = r.1 ∙ w.1;
+      told = r.told ∙ ap reply_of w.0;
+      left = r.left ∙ w.1;
     }

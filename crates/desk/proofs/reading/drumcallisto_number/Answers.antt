@@ -11,6 +11,6 @@ returns c =
     let b = c.bytes_of.ensures in
     let w = c.copy_plain.ensures in
     record {
-      told = c.told.ensures ∙ ap reply_of (number_told a.s.now (part_from a.from a.to) a.out.now _ b _ w.0);
-      left = number_left a.s.now (part_from a.from a.to) a.out.now _ b _ w.1;
+      told = c.told.ensures ∙ ap reply_of (number_told a.s.now (part_from a.from a.to) a.out.now _ b _ w.told);
+      left = number_left a.s.now (part_from a.from a.to) a.out.now _ b _ w.left;
     }
