@@ -65,17 +65,21 @@ goes_past s rest none e = e
 goes_past s rest (more {at = at} {g = g} {gs = gs} ok q go) e =
     goes_past s rest go (after_segment s at g (segments_written gs ++ rest) (e ∙ append_assoc g (39 ∷ segments_written gs) rest))
 
-pub reading_goes_on : (f : ℕ) (s : List ℕ) {st last : State} {at end : ℕ} {gs : List (List ℕ)} {rs : List Row} (rest : List ℕ) → Goes s st at gs rs last end
+goes_from : (s : List ℕ) (f : ℕ) {st last : State} {at end : ℕ} {gs : List (List ℕ)} {rs : List Row} (rest : List ℕ) → Goes s st at gs rs last end
     → drop at s ≡ segments_written gs ++ rest → length s < at + f → read_on f s st at ≡ precede rs (read_on (f - length gs) s last end)
 unfolding segments_written
-reading_goes_on f s rest (none {st = st} {at = at}) e h =
+goes_from s f rest (none {st = st} {at = at}) e h =
     let z : f ≡ f - 0 = omega arith in
     ap (λ (x : ℕ). read_on x s st at) z
-reading_goes_on f s rest (more {st = st} {next = next} {last = last} {at = at} {end = end} {g = g} {gs = gs} {r = r} {rs = rs} ok q go) e h =
+goes_from s f rest (more {st = st} {next = next} {last = last} {at = at} {end = end} {g = g} {gs = gs} {r = r} {rs = rs} ok q go) e h =
     let w = e ∙ append_assoc g (39 ∷ segments_written gs) rest in
     let n = segment_fits s at g (segments_written gs ++ rest) w in
     let z : f - 1 - length gs ≡ f - suc (length gs) = omega arith in
     read_one s st at g (segments_written gs ++ rest) w ok next r q f h
     ∙ ap (before r)
-    (reading_goes_on (f - 1) s rest go (after_segment s at g (segments_written gs ++ rest) w) (omega arith)
+    (goes_from s (f - 1) rest go (after_segment s at g (segments_written gs ++ rest) w) (omega arith)
     ∙ ap (λ (x : ℕ). precede rs (read_on x s last end)) z)
+
+pub reading_goes_on : (f : ℕ) (s : List ℕ) {st last : State} {at end : ℕ} {gs : List (List ℕ)} {rs : List Row} (rest : List ℕ) → Goes s st at gs rs last end
+    → drop at s ≡ segments_written gs ++ rest → length s < at + f → read_on f s st at ≡ precede rs (read_on (f - length gs) s last end)
+reading_goes_on f s rest go e h = goes_from s f rest go e h

@@ -3,7 +3,11 @@
 // Holds the proved functions to another implementation of the calendar: data/dates has every date from 1990-01-01 to 2099-12-31 with
 // its day number and weekday, and data/refused has what is no date.
 use dates::{Date, Made, Number};
-use lines::{say, say_number};
+use lines::{read_input, say, say_number};
+use std::fs::File;
+use std::io;
+use std::io::Read;
+use std::rt::Files;
 
 fn digit(number: usize) -> u8 {
     48 + (number % 10) as u8
@@ -46,7 +50,7 @@ fn holds(line: &[u8]) -> bool {
         return false;
     };
     let made = line_of(again.text(), number, dates::weekday(number));
-    check::same(line, &made)
+    line == &made[..]
 }
 
 fn refused(line: &[u8]) -> bool {
@@ -56,12 +60,12 @@ fn refused(line: &[u8]) -> bool {
     }
 }
 
-fn print(name: &[u8], lines: usize, held: usize) {
-    say(name);
-    say_number(held);
-    say(b" of ");
-    say_number(lines);
-    say(b"\n");
+fn print(rt: &impl Print, name: &[u8], lines: usize, held: usize) -> io::Result<()> {
+    say(rt, name)?;
+    say_number(rt, held)?;
+    say(rt, b" of ")?;
+    say_number(rt, lines)?;
+    say(rt, b"\n")
 }
 
 // How many lines were read, and how many of them are as they should be.
@@ -78,68 +82,56 @@ fn counted(tally: Tally, ok: bool) -> Tally {
     }
 }
 
-fn next_date(fd: i32, tally: Tally) -> Tally {
+fn next_date(file: &mut impl Read, tally: Tally) -> io::Result<Tally> {
     let mut line = [0u8; 19];
-    if io::read_full(fd, &mut line) != 19 {
-        return tally;
+    if read_input(file, &mut line)? != 19 {
+        return Ok(tally);
     }
-    counted(tally, holds(&line))
+    Ok(counted(tally, holds(&line)))
 }
 
-fn next_refused(fd: i32, tally: Tally) -> Tally {
+fn next_refused(file: &mut impl Read, tally: Tally) -> io::Result<Tally> {
     let mut line = [0u8; 11];
-    if io::read_full(fd, &mut line) != 11 {
-        return tally;
+    if read_input(file, &mut line)? != 11 {
+        return Ok(tally);
     }
-    counted(tally, refused(&line))
+    Ok(counted(tally, refused(&line)))
 }
 
-fn next_line(fd: i32, dated: bool, tally: Tally) -> Tally {
+fn next_line(file: &mut impl Read, dated: bool, tally: Tally) -> io::Result<Tally> {
     if dated {
-        next_date(fd, tally)
+        next_date(file, tally)
     } else {
-        next_refused(fd, tally)
+        next_refused(file, tally)
     }
 }
 
 // All the lines of a file, of dates or of what is none: there are fewer lines than turns.
-fn all_lines(fd: i32, dated: bool) -> Tally {
+fn all_lines(file: &mut impl Read, dated: bool) -> io::Result<Tally> {
     let mut tally = Tally { lines: 0, held: 0 };
     let mut turn = 0usize;
     while turn < 50000 {
-        tally = next_line(fd, dated, tally);
+        tally = next_line(file, dated, tally)?;
         turn += 1;
     }
-    tally
+    Ok(tally)
 }
 
 // The first line of each file says where it is from.
-fn every_date() {
-    let path = b"dates";
-    let fd = os::open_read(path);
-    if fd < 0 {
-        os::fail(path);
-        return;
-    }
+fn every_date(rt: &(impl Files + Print)) -> io::Result<()> {
+    let mut file = File::open(rt, "dates")?;
     let mut header = [0u8; 95];
-    io::read_full(fd, &mut header);
-    let tally = all_lines(fd, true);
-    libc::close(fd);
-    print(b"dates that agree: ", tally.lines, tally.held);
+    read_input(&mut file, &mut header)?;
+    let tally = all_lines(&mut file, true)?;
+    print(rt, b"dates that agree: ", tally.lines, tally.held)
 }
 
-fn no_dates() {
-    let path = b"refused";
-    let fd = os::open_read(path);
-    if fd < 0 {
-        os::fail(path);
-        return;
-    }
+fn no_dates(rt: &(impl Files + Print)) -> io::Result<()> {
+    let mut file = File::open(rt, "refused")?;
     let mut header = [0u8; 99];
-    io::read_full(fd, &mut header);
-    let tally = all_lines(fd, false);
-    libc::close(fd);
-    print(b"refused: ", tally.lines, tally.held);
+    read_input(&mut file, &mut header)?;
+    let tally = all_lines(&mut file, false)?;
+    print(rt, b"refused: ", tally.lines, tally.held)
 }
 
 // Bytes that end before the tenth, and an offset past the end.
@@ -175,14 +167,14 @@ fn number_of(made: Made) -> usize {
     }
 }
 
-fn main() {
-    every_date();
-    no_dates();
-    print(b"refused for its length: ", 3, short());
-    print(b"refused past the last: ", 1, past_last());
-    say(b"first and last: ");
-    say_number(number_of(Made::Valid(Date::FIRST)));
-    say(b" ");
-    say_number(number_of(Made::Valid(Date::LAST)));
-    say(b"\n");
+fn main(rt: HostRuntime) -> io::Result<()> {
+    every_date(&rt)?;
+    no_dates(&rt)?;
+    print(&rt, b"refused for its length: ", 3, short())?;
+    print(&rt, b"refused past the last: ", 1, past_last())?;
+    say(&rt, b"first and last: ")?;
+    say_number(&rt, number_of(Made::Valid(Date::FIRST)))?;
+    say(&rt, b" ")?;
+    say_number(&rt, number_of(Made::Valid(Date::LAST)))?;
+    say(&rt, b"\n")
 }

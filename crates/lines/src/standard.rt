@@ -1,43 +1,52 @@
 //! What a program reads and writes. No contract can say which bytes those are.
 
 ghost use Rattle.std.specs.Prelude.{◌≡◌};
-ghost use Rattle.io.specs.Counts.{IsPrefixLen};
+ghost use Rattle.std.specs.Io.{ReadsAtMost};
 ghost use Rattle.lines.specs.Numbers.{letters_of, four_digit_text};
 
-use libc::{STDIN_FILENO, STDOUT_FILENO};
+use std::io;
+use std::io::Read;
 
-/// Reads standard input over the front of a buffer; how many bytes that are.
-pub fn read_input(buffer: &mut [u8]) -> usize
-    ensures { IsPrefixLen result buffer.new }
+/// Reads an input, as standard input or a file, over the front of a buffer, until that is full or the input ends; how many bytes that are.
+pub fn read_input<R: Read>(from: &mut R, buffer: &mut [u8]) -> io::Result<usize>
+    ensures { ReadsAtMost result buffer.new }
 {
-    io::read_full(STDIN_FILENO, buffer)
+    let mut done = 0;
+    while done < buffer.len() {
+        let n = from.read(&mut buffer[done..])?;
+        if n == 0 {
+            break;
+        }
+        done += n;
+    }
+    Ok(done)
 }
 
 /// Writes some bytes.
-pub fn say(words: &[u8]) {
-    io::write_all(STDOUT_FILENO, words);
+pub fn say(rt: &impl Print, words: &[u8]) -> io::Result<()> {
+    rt.write_all(words)
 }
 
 /// Writes some bytes and a newline.
-pub fn say_line(words: &[u8]) {
-    say(words);
-    say(b"\n");
+pub fn say_line(rt: &impl Print, words: &[u8]) -> io::Result<()> {
+    say(rt, words)?;
+    say(rt, b"\n")
 }
 
 /// Writes a number in decimal digits.
-pub fn say_number(n: usize) {
-    io::print_decimal(STDOUT_FILENO, n as u64);
+pub fn say_number(rt: &impl Print, n: usize) -> io::Result<()> {
+    rt.print(n)
 }
 
 /// Writes the line of a refusal: number, position and part.
-pub fn say_refusal(number: u8, position: usize, part: u8) {
-    say(b"refused ");
-    say_number(number as usize);
-    say(b" ");
-    say_number(position);
-    say(b" ");
-    say_number(part as usize);
-    say(b"\n");
+pub fn say_refusal(rt: &impl Print, number: u8, position: usize, part: u8) -> io::Result<()> {
+    say(rt, b"refused ")?;
+    say_number(rt, number as usize)?;
+    say(rt, b" ")?;
+    say_number(rt, position)?;
+    say(rt, b" ")?;
+    say_number(rt, part as usize)?;
+    say(rt, b"\n")
 }
 
 /// The three letters of a tag.

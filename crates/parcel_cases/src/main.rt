@@ -22,6 +22,7 @@ use lines::{decode, field, number, past, piece_at, read_input, say, say_line, sa
 use parcel_store::STORE;
 use parcels::{Parcel, begin, finish, take};
 use parts::{Part, bytes_of};
+use std::io;
 use text::{Written, write_refusal, write_table};
 
 // The bytes that a text says, behind those that are there, as far as there is room; where they end.
@@ -63,17 +64,17 @@ fn expand(notation: &[u8], out: &mut [u8]) -> usize {
     n
 }
 
-fn print(out: &[u8], from: usize, written: Written) {
+fn print(rt: &impl Print, out: &[u8], from: usize, written: Written) -> io::Result<()> {
     match written {
-        Written::Bytes(to) => say(bytes_of(out, Part { from, to })),
-        Written::NoRoom => say(b"no room\n"),
+        Written::Bytes(to) => say(rt, bytes_of(out, Part { from, to })),
+        Written::NoRoom => say(rt, b"no room\n"),
     }
 }
 
-fn print_refusal(refusal: Refusal) {
+fn print_refusal(rt: &impl Print, refusal: Refusal) -> io::Result<()> {
     let mut line = [0u8; 72];
     let written = write_refusal(refusal, &mut line);
-    print(&line, 0, written);
+    print(rt, &line, 0, written)
 }
 
 fn folded(r: usize, number: u32) -> usize {
@@ -96,18 +97,17 @@ fn fold(rows: &[u32], n: usize) -> usize {
 }
 
 // The rows as they are printed, without the heading.
-fn print_rows(rows: &[u32], n: usize) {
+fn print_rows(rt: &impl Print, rows: &[u32], n: usize) -> io::Result<()> {
     if 60 < n {
-        say(b"long\t");
-        say_number(n);
-        say(b"\t");
-        say_number(fold(rows, n));
-        say(b"\n");
-        return;
+        say(rt, b"long\t")?;
+        say_number(rt, n)?;
+        say(rt, b"\t")?;
+        say_number(rt, fold(rows, n))?;
+        return say(rt, b"\n");
     }
     let mut out = [0u8; 2777];
     let written = write_table(rows, n, &mut out);
-    print(&out, 17, written);
+    print(rt, &out, 17, written)
 }
 
 // How a reading went that asked or did not: how many numbers its rows are, its refusal (number 0 for none), and with which byte a parcel named it
@@ -129,12 +129,13 @@ fn told(number: u8, position: usize) -> Refusal {
     }
 }
 
-fn print_course(course: Course, rows: &[u32]) {
-    print_rows(rows, course.numbers / 3);
+fn print_course(rt: &impl Print, course: Course, rows: &[u32]) -> io::Result<()> {
+    print_rows(rt, rows, course.numbers / 3)?;
     let refusal = course.refusal;
     if refusal.number != 0 {
-        print_refusal(refusal);
+        print_refusal(rt, refusal)?;
     }
+    Ok(())
 }
 
 // Where the numbers of n rows end that stand from an index on.
@@ -327,185 +328,198 @@ fn first_other(
     at
 }
 
-fn print_differing(interchange: &[u8], wish: bool, at: usize, rows: &mut [u32]) {
-    say(b"differs\t");
-    say_number(at);
-    say(b"\n");
+fn print_differing(
+    rt: &impl Print,
+    interchange: &[u8],
+    wish: bool,
+    at: usize,
+    rows: &mut [u32],
+) -> io::Result<()> {
+    say(rt, b"differs\t")?;
+    say_number(rt, at)?;
+    say(rt, b"\n")?;
     let once = read_cut(interchange, wish, at, 0, rows);
-    print_course(once, rows);
+    print_course(rt, once, rows)?;
     let often = read_cut(interchange, wish, at, at, rows);
-    print_course(often, rows);
+    print_course(rt, often, rows)
 }
 
-fn print_same(from: usize, to: usize, named: usize) {
-    say(b"same\t");
-    say_number(from);
-    say(b"\t");
-    say_number(to);
+fn print_same(rt: &impl Print, from: usize, to: usize, named: usize) -> io::Result<()> {
+    say(rt, b"same\t")?;
+    say_number(rt, from)?;
+    say(rt, b"\t")?;
+    say_number(rt, to)?;
     if named == 0 {
-        say(b"\tend\n");
-        return;
+        return say(rt, b"\tend\n");
     }
-    say(b"\t");
-    say_number(named);
-    say(b"\n");
+    say(rt, b"\t")?;
+    say_number(rt, named)?;
+    say(rt, b"\n")
 }
 
 fn least(a: usize, b: usize) -> usize {
     if a < b { a } else { b }
 }
 
-fn answer_ways(interchange: &[u8], wish: bool, from: usize, to: usize) {
+fn answer_ways(
+    rt: &impl Print,
+    interchange: &[u8],
+    wish: bool,
+    from: usize,
+    to: usize,
+) -> io::Result<()> {
     let mut rows = [0u32; 45000];
     let whole = read_cut(interchange, wish, interchange.len(), 0, &mut rows);
-    print_course(whole, &rows);
+    print_course(rt, whole, &rows)?;
     let mut other = [0u32; 45000];
     let single = read_cut(interchange, wish, 1, 1, &mut other);
     if !is_same(whole, single, &rows, &other) {
-        print_differing(interchange, wish, 1, &mut other);
-        return;
+        return print_differing(rt, interchange, wish, 1, &mut other);
     }
     let end = least(to, interchange.len());
     let at = first_other(interchange, from, end, whole, &rows, &mut other);
     if at < end {
-        print_differing(interchange, wish, at, &mut other);
-        return;
+        return print_differing(rt, interchange, wish, at, &mut other);
     }
-    print_same(from, at, single.named);
+    print_same(rt, from, at, single.named)
 }
 
-fn answer_cuts(line: &[u8], wish: bool) {
+fn answer_cuts(rt: &impl Print, line: &[u8], wish: bool) -> io::Result<()> {
     let mut interchange = [0u8; 65536];
     let n = expand(piece_at(line, field(line, 3), b'\t'), &mut interchange);
     answer_ways(
+        rt,
         bytes_of(&interchange, Part { from: 0, to: n }),
         wish,
         number(line, field(line, 1)),
         number(line, field(line, 2)),
-    );
+    )
 }
 
-fn print_count(n: usize) {
-    say(b"rows\t");
-    say_number(n);
-    say(b"\n");
+fn print_count(rt: &impl Print, n: usize) -> io::Result<()> {
+    say(rt, b"rows\t")?;
+    say_number(rt, n)?;
+    say(rt, b"\n")
 }
 
-fn print_parcel(answer: Parcel, rows: &[u32]) {
+fn print_parcel(rt: &impl Print, answer: Parcel, rows: &[u32]) -> io::Result<()> {
     match answer {
         Parcel::Rows(n) => {
-            print_count(n);
-            print_rows(rows, n);
+            print_count(rt, n)?;
+            print_rows(rt, rows, n)
         }
         Parcel::Refused(n, refusal) => {
-            print_refusal(refusal);
-            print_rows(rows, n);
+            print_refusal(rt, refusal)?;
+            print_rows(rt, rows, n)
         }
     }
 }
 
-fn take_in(store: &mut [u8], parcel: &[u8], rows: &mut [u32], room: usize) {
+fn take_in(
+    rt: &impl Print,
+    store: &mut [u8],
+    parcel: &[u8],
+    rows: &mut [u32],
+    room: usize,
+) -> io::Result<()> {
     if rows.len() < room {
-        return;
+        return Ok(());
     }
     let from = rows.len() - room;
     let lent = &mut rows[from..];
     let answer = take(store, parcel, lent);
-    print_parcel(answer, lent);
+    print_parcel(rt, answer, lent)
 }
 
-fn call_take(word: &[u8], store: &mut [u8]) {
+fn call_take(rt: &impl Print, word: &[u8], store: &mut [u8]) -> io::Result<()> {
     let mut parcel = [0u8; 65536];
     let n = expand(piece_at(word, past(word, 0, b'|'), b'\t'), &mut parcel);
     let mut rows = [0u32; 45000];
-    say(b"take\t");
+    say(rt, b"take\t")?;
     take_in(
+        rt,
         store,
         bytes_of(&parcel, Part { from: 0, to: n }),
         &mut rows,
         number(word, 0),
-    );
+    )
 }
 
-fn call_begin(store: &mut [u8], wish: bool) {
-    say(b"begin\t");
+fn call_begin(rt: &impl Print, store: &mut [u8], wish: bool) -> io::Result<()> {
+    say(rt, b"begin\t")?;
     let answer = begin(store, wish);
-    print_parcel(answer, &[0]);
+    print_parcel(rt, answer, &[0])
 }
 
-fn call_finish(store: &mut [u8]) {
-    say(b"finish\t");
+fn call_finish(rt: &impl Print, store: &mut [u8]) -> io::Result<()> {
+    say(rt, b"finish\t")?;
     match finish(store) {
-        Reading::Rows(n) => print_count(n),
-        Reading::Refused(refusal) => print_refusal(refusal),
+        Reading::Rows(n) => print_count(rt, n),
+        Reading::Refused(refusal) => print_refusal(rt, refusal),
     }
 }
 
-fn call(word: &[u8], store: &mut [u8]) {
+fn call(rt: &impl Print, word: &[u8], store: &mut [u8]) -> io::Result<()> {
     if word.len() == 0 {
-        return;
+        return Ok(());
     }
     if word[0] == b'b' {
-        call_begin(store, true);
-        return;
+        return call_begin(rt, store, true);
     }
     if word[0] == b'n' {
-        call_begin(store, false);
-        return;
+        return call_begin(rt, store, false);
     }
     if word[0] == b'f' {
-        call_finish(store);
-        return;
+        return call_finish(rt, store);
     }
-    call_take(word, store);
+    call_take(rt, word, store)
 }
 
-fn call_all(line: &[u8], store: &mut [u8]) {
+fn call_all(rt: &impl Print, line: &[u8], store: &mut [u8]) -> io::Result<()> {
     let mut at = field(line, 2);
     while at < line.len() {
-        call(piece_at(line, at, b'\t'), store);
+        call(rt, piece_at(line, at, b'\t'), store)?;
         at = past(line, at, b'\t');
     }
+    Ok(())
 }
 
-fn answer_calls(line: &[u8], store: &mut [u8], length: usize) {
+fn answer_calls(rt: &impl Print, line: &[u8], store: &mut [u8], length: usize) -> io::Result<()> {
     if store.len() < length {
-        return;
+        return Ok(());
     }
     let from = store.len() - length;
-    call_all(line, &mut store[from..]);
+    call_all(rt, line, &mut store[from..])
 }
 
-fn answer_line(line: &[u8]) {
+fn answer_line(rt: &impl Print, line: &[u8]) -> io::Result<()> {
     if line.len() == 0 {
-        return;
+        return Ok(());
     }
     if line[0] == b'#' {
-        say_line(line);
-        return;
+        return say_line(rt, line);
     }
     if line[0] == b'c' {
-        answer_cuts(line, true);
-        return;
+        return answer_cuts(rt, line, true);
     }
     if line[0] == b'g' {
-        answer_cuts(line, false);
-        return;
+        return answer_cuts(rt, line, false);
     }
     let mut store = [0u8; 12329];
-    answer_calls(line, &mut store, number(line, field(line, 1)));
+    answer_calls(rt, line, &mut store, number(line, field(line, 1)))
 }
 
-fn answer_all(text: &[u8]) {
+fn answer_all(rt: &impl Print, text: &[u8]) -> io::Result<()> {
     let mut at = 0;
     while at < text.len() {
-        answer_line(piece_at(text, at, b'\n'));
+        answer_line(rt, piece_at(text, at, b'\n'))?;
         at = past(text, at, b'\n');
     }
+    Ok(())
 }
 
-fn main() {
+fn main(rt: HostRuntime) -> io::Result<()> {
     let mut buffer = [0u8; 65536];
-    let n = read_input(&mut buffer);
-    answer_all(&buffer[..n]);
+    let n = read_input(&mut rt.stdin(), &mut buffer)?;
+    answer_all(&rt, &buffer[..n])
 }

@@ -8,7 +8,6 @@ use Rattle.laws.specs.Put.{put_at, put_none}
 use Rattle.syntax.specs.Pieces.{first_piece}
 use Rattle.cuts.specs.Cuts.{released_after}
 use Rattle.answers.specs.Answers.{refused}
-use Rattle.arrival.specs.Arrived as arrival
 use Rattle.arrival.specs.Arrived.{Stand, only}
 use Rattle.arrival.specs.Folded.{lengthened, arrived_stays}
 use Rattle.parcel_store.specs.declared.Final.{Final}

@@ -1,6 +1,6 @@
 -- UIH, UIT, UIB and UIZ in a message of any of the tables. Assumes nothing.
 -- "UIH is the first place of a message and UIT the last. Inside a message a further UIH, UIB or UIZ is out of place" (01)
-use Rattle.std.specs.Prelude.{◌≡◌, refl, Bool, true, false, List, [], ◌∷◌, ℕ, ◌+◌, ◌≤◌, T, eqb, leb}
+use Rattle.std.specs.Prelude.{◌≡◌, Bool, true, false, List, [], ◌∷◌, ℕ, ◌+◌, ◌≤◌, T, eqb, leb}
 use Rattle.std.proofs.Common.{ap, arith, eqb→eq}
 use borrow.Author.Tests.{le-ltb}
 use Rattle.laws.specs.Choice.{either}

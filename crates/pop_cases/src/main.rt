@@ -12,30 +12,31 @@ use joining::Joined;
 use lines::{past, piece_at, read_input, say, say_number};
 use parts::Part;
 use period::{Fault, Period};
+use std::io;
 use syntax::segment::{Scanned, read_segment};
 
-fn print_date(number: usize) {
+fn print_date(rt: &impl Print, number: usize) -> io::Result<()> {
     let Made::Valid(date) = Date::from_number(number) else {
-        return;
+        return Ok(());
     };
     let text = date.text();
-    say(&text);
+    say(rt, &text)
 }
 
 // The first and the last of n days.
-fn print_span(first: usize, n: usize) {
+fn print_span(rt: &impl Print, first: usize, n: usize) -> io::Result<()> {
     if 65536 < first {
-        return;
+        return Ok(());
     }
     if 512 < n {
-        return;
+        return Ok(());
     }
     if n == 0 {
-        return;
+        return Ok(());
     }
-    print_date(first);
-    say(b" ");
-    print_date(first + n - 1);
+    print_date(rt, first)?;
+    say(rt, b" ")?;
+    print_date(rt, first + n - 1)
 }
 
 fn digit(yes: bool) -> u8 {
@@ -52,27 +53,33 @@ fn days_text(s: &[u8], segment: Part, period: Period) -> [u8; 512] {
     text
 }
 
-fn print_days(s: &[u8], segment: Part, period: Period, n: usize) {
+fn print_days(
+    rt: &impl Print,
+    s: &[u8],
+    segment: Part,
+    period: Period,
+    n: usize,
+) -> io::Result<()> {
     if 512 < n {
-        return;
+        return Ok(());
     }
     let text = days_text(s, segment, period);
-    say(parts::bytes_of(&text, Part { from: 0, to: n }));
+    say(rt, parts::bytes_of(&text, Part { from: 0, to: n }))
 }
 
-fn refuse(fault: Fault) {
-    say(b"refused 10 ");
-    say_number(fault.number() as usize);
+fn refuse(rt: &impl Print, fault: Fault) -> io::Result<()> {
+    say(rt, b"refused 10 ")?;
+    say_number(rt, fault.number() as usize)
 }
 
-fn answer_period(line: &[u8], segment: Part, wish: bool) {
+fn answer_period(rt: &impl Print, line: &[u8], segment: Part, wish: bool) -> io::Result<()> {
     let period = period::read_period(line, segment, wish);
     match period {
-        Period::Wrong(fault) => refuse(fault),
+        Period::Wrong(fault) => refuse(rt, fault),
         Period::Good(first, n, _) => {
-            print_span(first, n);
-            say(b" ");
-            print_days(line, segment, period, n);
+            print_span(rt, first, n)?;
+            say(rt, b" ")?;
+            print_days(rt, line, segment, period, n)
         }
     }
 }
@@ -89,14 +96,14 @@ fn segment_at(line: &[u8], from: usize) -> Part
     }
 }
 
-fn answer_joined(joined: Joined) {
+fn answer_joined(rt: &impl Print, joined: Joined) -> io::Result<()> {
     match joined {
-        Joined::Done => say(b"done "),
+        Joined::Done => say(rt, b"done "),
         Joined::WrongPeriod(fault) => {
-            refuse(fault);
-            say(b" ");
+            refuse(rt, fault)?;
+            say(rt, b" ")
         }
-        Joined::Outside => say(b"refused 13 "),
+        Joined::Outside => say(rt, b"refused 13 "),
     }
 }
 
@@ -111,51 +118,58 @@ fn window_text(days: [u8; 64]) -> [u8; 512] {
     text
 }
 
-fn print_window(days: [u8; 64]) {
+fn print_window(rt: &impl Print, days: [u8; 64]) -> io::Result<()> {
     let text = window_text(days);
-    say(&text);
+    say(rt, &text)
 }
 
 // Joins the POPs that stand one behind the other from an offset on.
-fn join_all(days: &mut [u8], origin: usize, line: &[u8], from: usize, wish: bool) {
+fn join_all(
+    rt: &impl Print,
+    days: &mut [u8],
+    origin: usize,
+    line: &[u8],
+    from: usize,
+    wish: bool,
+) -> io::Result<()> {
     let mut at = from;
     while at < line.len() {
         let segment = segment_at(line, at);
         let to = segment.to;
-        answer_joined(joining::join_period(days, origin, line, segment, wish));
+        answer_joined(rt, joining::join_period(days, origin, line, segment, wish))?;
         if to < at {
-            return;
+            return Ok(());
         }
         if line.len() <= to {
-            return;
+            return Ok(());
         }
         at = to + 1;
     }
+    Ok(())
 }
 
-fn answer_join(line: &[u8], origin: usize, wish: bool) {
+fn answer_join(rt: &impl Print, line: &[u8], origin: usize, wish: bool) -> io::Result<()> {
     let mut days = [0u8; 64];
-    join_all(&mut days, origin, line, 16, wish);
-    print_window(days);
+    join_all(rt, &mut days, origin, line, 16, wish)?;
+    print_window(rt, days)
 }
 
-fn answer_pop(line: &[u8], wish: bool) {
+fn answer_pop(rt: &impl Print, line: &[u8], wish: bool) -> io::Result<()> {
     if line.len() == 0 {
-        return;
+        return Ok(());
     }
     if line[0] == b'p' {
-        answer_period(line, segment_at(line, 7), wish);
-        say(b"\n");
-        return;
+        answer_period(rt, line, segment_at(line, 7), wish)?;
+        return say(rt, b"\n");
     }
     let Made::Valid(date) = dates::read_date(line, 5) else {
-        return;
+        return Ok(());
     };
     let Number::Day(origin) = date.day_number() else {
-        return;
+        return Ok(());
     };
-    answer_join(line, origin, wish);
-    say(b"\n");
+    answer_join(rt, line, origin, wish)?;
+    say(rt, b"\n")
 }
 
 // Whether the lines below a line ask.
@@ -169,19 +183,20 @@ fn wish_after(line: &[u8], wish: bool) -> bool {
     line[4] == b'1'
 }
 
-fn answer_all(text: &[u8]) {
+fn answer_all(rt: &impl Print, text: &[u8]) -> io::Result<()> {
     let mut wish = true;
     let mut at = 0;
     while at < text.len() {
         let line = piece_at(text, at, b'\n');
-        answer_pop(line, wish);
+        answer_pop(rt, line, wish)?;
         wish = wish_after(line, wish);
         at = past(text, at, b'\n');
     }
+    Ok(())
 }
 
-fn main() {
+fn main(rt: HostRuntime) -> io::Result<()> {
     let mut buffer = [0u8; 60000];
-    let n = read_input(&mut buffer);
-    answer_all(&buffer[..n]);
+    let n = read_input(&mut rt.stdin(), &mut buffer)?;
+    answer_all(&rt, &buffer[..n])
 }

@@ -7,35 +7,36 @@ use answers::Refusal;
 use interchange::reader::{Reading, read};
 use lines::{read_input, say};
 use parts::{Part, bytes_of};
+use std::io;
 use text::{Written, write_refusal, write_table};
 
-fn print(out: &[u8], n: usize) {
-    say(bytes_of(out, Part { from: 0, to: n }));
+fn print(rt: &impl Print, out: &[u8], n: usize) -> io::Result<()> {
+    say(rt, bytes_of(out, Part { from: 0, to: n }))
 }
 
 // 15,000 rows of at most 13 bytes and a heading fit.
-fn print_rows(rows: &[u32], n: usize) {
+fn print_rows(rt: &impl Print, rows: &[u32], n: usize) -> io::Result<()> {
     let mut out = [0u8; 250000];
     match write_table(rows, n, &mut out) {
-        Written::Bytes(k) => print(&out, k),
-        Written::NoRoom => {}
+        Written::Bytes(k) => print(rt, &out, k),
+        Written::NoRoom => Ok(()),
     }
 }
 
-fn print_refusal(refusal: Refusal) {
+fn print_refusal(rt: &impl Print, refusal: Refusal) -> io::Result<()> {
     let mut out = [0u8; 72];
     match write_refusal(refusal, &mut out) {
-        Written::Bytes(k) => print(&out, k),
-        Written::NoRoom => {}
+        Written::Bytes(k) => print(rt, &out, k),
+        Written::NoRoom => Ok(()),
     }
 }
 
-fn main() {
+fn main(rt: HostRuntime) -> io::Result<()> {
     let mut input = [0u8; 60001];
-    let n = read_input(&mut input);
+    let n = read_input(&mut rt.stdin(), &mut input)?;
     let mut rows = [0u32; 45000];
     match read(&input[..n], true, &mut rows) {
-        Reading::Rows(k) => print_rows(&rows, k),
-        Reading::Refused(refusal) => print_refusal(refusal),
+        Reading::Rows(k) => print_rows(&rt, &rows, k),
+        Reading::Refused(refusal) => print_refusal(&rt, refusal),
     }
 }

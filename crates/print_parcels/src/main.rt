@@ -5,97 +5,103 @@
 
 use answers::Refusal;
 use interchange::reader::Reading;
-use libc::STDIN_FILENO;
 use lines::say;
 use parcel_store::STORE;
 use parcels::{Parcel, begin, finish, take};
 use parts::{Part, bytes_of};
+use std::io;
+use std::io::Read;
 use text::{Written, write_refusal, write_table};
 
 // A text from an index on, in one write; whether there was room for it.
-fn print(out: &[u8], from: usize, written: Written) -> bool {
+fn print(rt: &impl Print, out: &[u8], from: usize, written: Written) -> io::Result<bool> {
     match written {
         Written::Bytes(to) => {
-            say(bytes_of(out, Part { from, to }));
-            true
+            say(rt, bytes_of(out, Part { from, to }))?;
+            Ok(true)
         }
-        Written::NoRoom => false,
+        Written::NoRoom => Ok(false),
     }
 }
 
-fn print_refusal(refusal: Refusal) {
+fn print_refusal(rt: &impl Print, refusal: Refusal) -> io::Result<()> {
     let mut line = [0u8; 72];
     let written = write_refusal(refusal, &mut line);
-    print(&line, 0, written);
+    print(rt, &line, 0, written)?;
+    Ok(())
 }
 
 // The rows that a parcel brought, without the heading; whether there was room for their text. There is: 4,096 bytes and 4,096 held ones
 // end 2,048 segments at most, whose rows have 13 bytes each at most.
-fn print_rows(rows: &[u32], n: usize) -> bool {
+fn print_rows(rt: &impl Print, rows: &[u32], n: usize) -> io::Result<bool> {
     if n == 0 {
-        return true;
+        return Ok(true);
     }
     let mut out = [0u8; 26641];
     let written = write_table(rows, n, &mut out);
-    if print(&out, 17, written) {
-        return true;
+    if print(rt, &out, 17, written)? {
+        return Ok(true);
     }
-    print_refusal(Refusal {
-        number: 17,
-        position: 0,
-        part: 0,
-    });
-    false
+    print_refusal(
+        rt,
+        Refusal {
+            number: 17,
+            position: 0,
+            part: 0,
+        },
+    )?;
+    Ok(false)
 }
 
-fn print_last(rows: &[u32], n: usize, refusal: Refusal) {
-    if print_rows(rows, n) {
-        print_refusal(refusal);
+fn print_last(rt: &impl Print, rows: &[u32], n: usize, refusal: Refusal) -> io::Result<()> {
+    if print_rows(rt, rows, n)? {
+        print_refusal(rt, refusal)?;
     }
+    Ok(())
 }
 
 // Whether the reading goes on after a parcel.
-fn print_parcel(store: &mut [u8], parcel: &[u8]) -> bool {
+fn print_parcel(rt: &impl Print, store: &mut [u8], parcel: &[u8]) -> io::Result<bool> {
     let mut rows = [0u32; 6144];
     match take(store, parcel, &mut rows) {
-        Parcel::Rows(n) => print_rows(&rows, n),
+        Parcel::Rows(n) => print_rows(rt, &rows, n),
         Parcel::Refused(n, refusal) => {
-            print_last(&rows, n, refusal);
-            false
+            print_last(rt, &rows, n, refusal)?;
+            Ok(false)
         }
     }
 }
 
-fn print_end(store: &mut [u8]) {
+fn print_end(rt: &impl Print, store: &mut [u8]) -> io::Result<()> {
     match finish(store) {
-        Reading::Rows(_) => {}
-        Reading::Refused(refusal) => print_refusal(refusal),
+        Reading::Rows(_) => Ok(()),
+        Reading::Refused(refusal) => print_refusal(rt, refusal),
     }
 }
 
-// One read; whether another is to follow. A read of no bytes, or one that fails, is the end.
-fn read_parcel(store: &mut [u8]) -> bool {
-    let mut buffer = io::buffer();
-    let got = libc::read(STDIN_FILENO, &mut buffer);
-    let n = io::count(got, &buffer);
+// One read; whether another is to follow. A read of no bytes is the end.
+fn read_parcel(rt: &impl Print, from: &mut impl Read, store: &mut [u8]) -> io::Result<bool> {
+    let mut buffer = [0u8; 4096];
+    let n = from.read(&mut buffer)?;
     if n == 0 {
-        print_end(store);
-        return false;
+        print_end(rt, store)?;
+        return Ok(false);
     }
-    print_parcel(store, &buffer[..n])
+    print_parcel(rt, store, &buffer[..n])
 }
 
 // A parcel has a byte at least, and with byte 60,001 the final answer is there.
-fn read_all(store: &mut [u8]) {
+fn read_all(rt: &impl Print, from: &mut impl Read, store: &mut [u8]) -> io::Result<()> {
     let mut left: usize = 60001;
-    while 0 < left && read_parcel(store) {
+    while 0 < left && read_parcel(rt, from, store)? {
         left -= 1;
     }
+    Ok(())
 }
 
-fn main() {
-    say(b"offset\tgroup\ttag\n");
+fn main(rt: HostRuntime) -> io::Result<()> {
+    say(&rt, b"offset\tgroup\ttag\n")?;
     let mut store = [0u8; STORE];
     begin(&mut store, true);
-    read_all(&mut store);
+    read_all(&rt, &mut rt.stdin(), &mut store)
 }

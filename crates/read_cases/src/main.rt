@@ -13,6 +13,7 @@ use answers::Refusal;
 use interchange::reader::{Reading, read};
 use lines::{number, past, piece_at, read_input, say, say_line, say_number, sign_at};
 use parts::{Part, bytes_of};
+use std::io;
 use text::{Written, write_refusal, write_table};
 
 // Where the notation goes on past the sign at an index.
@@ -123,93 +124,108 @@ fn remainder(text: &[u8]) -> usize {
     r
 }
 
-fn print_table(text: &[u8], rows: usize) {
+fn print_table(rt: &impl Print, text: &[u8], rows: usize) -> io::Result<()> {
     if text.len() <= 1000 {
-        say(text);
-        return;
+        return say(rt, text);
     }
-    say(b"long\t");
-    say_number(rows);
-    say(b"\t");
-    say_number(text.len());
-    say(b"\t");
-    say_number(remainder(text));
-    say(b"\n");
+    say(rt, b"long\t")?;
+    say_number(rt, rows)?;
+    say(rt, b"\t")?;
+    say_number(rt, text.len())?;
+    say(rt, b"\t")?;
+    say_number(rt, remainder(text))?;
+    say(rt, b"\n")
 }
 
-fn answer_rows(rows: &[u32], n: usize) {
+fn answer_rows(rt: &impl Print, rows: &[u32], n: usize) -> io::Result<()> {
     let mut out = [0u8; 250000];
     match write_table(rows, n, &mut out) {
-        Written::Bytes(k) => print_table(bytes_of(&out, Part { from: 0, to: k }), n),
-        Written::NoRoom => say(b"no room\n"),
+        Written::Bytes(k) => print_table(rt, bytes_of(&out, Part { from: 0, to: k }), n),
+        Written::NoRoom => say(rt, b"no room\n"),
     }
 }
 
-fn answer_refusal(refusal: Refusal) {
+fn answer_refusal(rt: &impl Print, refusal: Refusal) -> io::Result<()> {
     let mut out = [0u8; 72];
     match write_refusal(refusal, &mut out) {
-        Written::Bytes(k) => say(bytes_of(&out, Part { from: 0, to: k })),
-        Written::NoRoom => say(b"no room\n"),
+        Written::Bytes(k) => say(rt, bytes_of(&out, Part { from: 0, to: k })),
+        Written::NoRoom => say(rt, b"no room\n"),
     }
 }
 
-fn answer_case(interchange: &[u8], wish: bool, rows: &mut [u32]) {
+fn answer_case(
+    rt: &impl Print,
+    interchange: &[u8],
+    wish: bool,
+    rows: &mut [u32],
+) -> io::Result<()> {
     match read(interchange, wish, rows) {
-        Reading::Rows(n) => answer_rows(rows, n),
-        Reading::Refused(refusal) => answer_refusal(refusal),
+        Reading::Rows(n) => answer_rows(rt, rows, n),
+        Reading::Refused(refusal) => answer_refusal(rt, refusal),
     }
 }
 
-fn answer_in(interchange: &[u8], wish: bool, rows: &mut [u32], room: usize) {
+fn answer_in(
+    rt: &impl Print,
+    interchange: &[u8],
+    wish: bool,
+    rows: &mut [u32],
+    room: usize,
+) -> io::Result<()> {
     if rows.len() < room {
-        return;
+        return Ok(());
     }
     let from = rows.len() - room;
-    answer_case(interchange, wish, &mut rows[from..]);
+    answer_case(rt, interchange, wish, &mut rows[from..])
 }
 
 // Whether the lines below ask.
-fn answer_line(line: &[u8], wish: bool) -> bool {
+fn answer_line(rt: &impl Print, line: &[u8], wish: bool) -> io::Result<bool> {
     if line.len() == 0 {
-        return wish;
+        return Ok(wish);
     }
     if line[0] == b'#' {
-        say_line(line);
-        return wish;
+        say_line(rt, line)?;
+        return Ok(wish);
     }
     if line[0] == b'a' {
-        return number(line, past(line, 0, b'\t')) == 1;
+        return Ok(number(line, past(line, 0, b'\t')) == 1);
     }
     let mut interchange = [0u8; 60001];
     let n = expand(line, past(line, 0, b'\t'), &mut interchange);
     let mut rows = [0u32; 45000];
     answer_in(
+        rt,
         bytes_of(&interchange, Part { from: 0, to: n }),
         wish,
         &mut rows,
         number(line, 0),
-    );
-    wish
+    )?;
+    Ok(wish)
 }
 
-fn answer_all(text: &[u8]) {
+fn answer_all(rt: &impl Print, text: &[u8]) -> io::Result<()> {
     let mut wish = true;
     let mut at = 0;
     while at < text.len() {
-        wish = answer_line(piece_at(text, at, b'\n'), wish);
+        wish = answer_line(rt, piece_at(text, at, b'\n'), wish)?;
         at = past(text, at, b'\n');
     }
+    Ok(())
 }
 
-fn main() {
+fn main(rt: HostRuntime) -> io::Result<()> {
     let mut buffer = [0u8; 131072];
-    let n = read_input(&mut buffer);
-    answer_all(&buffer[..n]);
+    let n = read_input(&mut rt.stdin(), &mut buffer)?;
+    answer_all(&rt, &buffer[..n])?;
     // The largest numbers that are printed; and rows that the buffer does not hold are none.
-    answer_refusal(Refusal {
-        number: 255,
-        position: 18446744073709551615,
-        part: 255,
-    });
-    answer_rows(&[55, 0, 0x55495A, 63], 15000);
+    answer_refusal(
+        &rt,
+        Refusal {
+            number: 255,
+            position: 18446744073709551615,
+            part: 255,
+        },
+    )?;
+    answer_rows(&rt, &[55, 0, 0x55495A, 63], 15000)
 }

@@ -17,6 +17,7 @@ use lines::{decode, field, past, piece_at, read_input, say, say_line, say_number
 use parts::{Part, bytes_of};
 use register::{Opened, Released, Shown, Withdrawn};
 use staging::Staged;
+use std::io;
 
 // What a command comes to, in document 01's numbers.
 #[derive(Clone, Copy)]
@@ -197,16 +198,16 @@ fn fill_noise(store: &mut [u8], line: &[u8]) {
 
 // ---- what is written
 
-fn print_told(told: Told, store: &[u8]) {
-    say_number(told.number);
-    say(b"\t");
-    say_number(told.position);
-    say(b"\t");
-    say_number(told.part);
-    say(b"\t");
-    say_number(told.value);
-    say(b"\t");
-    say_number(digest(store));
+fn print_told(rt: &impl Print, told: Told, store: &[u8]) -> io::Result<()> {
+    say_number(rt, told.number)?;
+    say(rt, b"\t")?;
+    say_number(rt, told.position)?;
+    say(rt, b"\t")?;
+    say_number(rt, told.part)?;
+    say(rt, b"\t")?;
+    say_number(rt, told.value)?;
+    say(rt, b"\t")?;
+    say_number(rt, digest(store))
 }
 
 fn show_part(b: &[u8], line: &[u8], out: &mut [u8]) -> Told {
@@ -217,15 +218,15 @@ fn show_part(b: &[u8], line: &[u8], out: &mut [u8]) -> Told {
     show(b, number(line, 1), number(line, 2), &mut out[..room])
 }
 
-fn answer_show(store: &[u8], lent: usize, line: &[u8]) {
+fn answer_show(rt: &impl Print, store: &[u8], lent: usize, line: &[u8]) -> io::Result<()> {
     let mut out = [b'.'; 2000];
     let told = show_part(bytes_of(store, Part { from: 0, to: lent }), line, &mut out);
     let n = told.value;
-    print_told(told, store);
-    say(b"\t");
-    say_number(digest(&out));
-    say(b"\n");
-    say(bytes_of(&out, Part { from: 0, to: n }));
+    print_told(rt, told, store)?;
+    say(rt, b"\t")?;
+    say_number(rt, digest(&out))?;
+    say(rt, b"\n")?;
+    say(rt, bytes_of(&out, Part { from: 0, to: n }))
 }
 
 fn call(b: &mut [u8], line: &[u8], command: u8) -> Told {
@@ -252,46 +253,59 @@ fn call_lent(store: &mut [u8], lent: usize, line: &[u8], command: u8) -> Told {
     call(&mut store[..lent], line, command)
 }
 
-fn answer_call(store: &mut [u8], lent: usize, line: &[u8], command: u8) {
+fn answer_call(
+    rt: &impl Print,
+    store: &mut [u8],
+    lent: usize,
+    line: &[u8],
+    command: u8,
+) -> io::Result<()> {
     let told = call_lent(store, lent, line, command);
-    print_told(told, store);
-    say(b"\n");
+    print_told(rt, told, store)?;
+    say(rt, b"\n")
 }
 
 // Runs a command; how many bytes are lent from then on.
-fn answer_command(store: &mut [u8], lent: usize, line: &[u8], command: u8) -> usize {
+fn answer_command(
+    rt: &impl Print,
+    store: &mut [u8],
+    lent: usize,
+    line: &[u8],
+    command: u8,
+) -> io::Result<usize> {
     match command {
         b'#' => {
-            say_line(line);
-            return lent;
+            say_line(rt, line)?;
+            return Ok(lent);
         }
         b'p' => {
-            answer_show(store, lent, line);
-            return lent;
+            answer_show(rt, store, lent, line)?;
+            return Ok(lent);
         }
         b'b' => put(store, number(line, 1), small(number(line, 2))),
         b'n' => fill_noise(store, line),
         b'l' => {
-            return number(line, 1);
+            return Ok(number(line, 1));
         }
-        _ => answer_call(store, lent, line, command),
+        _ => answer_call(rt, store, lent, line, command)?,
     }
-    lent
+    Ok(lent)
 }
 
-fn answer_all(text: &[u8], store: &mut [u8]) {
+fn answer_all(rt: &impl Print, text: &[u8], store: &mut [u8]) -> io::Result<()> {
     let mut lent = 35858;
     let mut at = 0;
     while at < text.len() {
         let command = text[at];
-        lent = answer_command(store, lent, piece_at(text, at, b'\n'), command);
+        lent = answer_command(rt, store, lent, piece_at(text, at, b'\n'), command)?;
         at = past(text, at, b'\n');
     }
+    Ok(())
 }
 
-fn main() {
+fn main(rt: HostRuntime) -> io::Result<()> {
     let mut store = [0u8; 35860];
     let mut buffer = [0u8; 120000];
-    let n = read_input(&mut buffer);
-    answer_all(&buffer[..n], &mut store);
+    let n = read_input(&mut rt.stdin(), &mut buffer)?;
+    answer_all(&rt, &buffer[..n], &mut store)
 }

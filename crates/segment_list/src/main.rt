@@ -5,52 +5,53 @@
 
 use lent::{Found, found_past};
 use lines::{letters, past, piece_at, read_input, say, say_line, say_number, say_refusal};
+use std::io;
 
-fn answer_segment(at: usize, tag: u32) {
-    say_number(at);
-    say(b" ");
-    say_line(&letters(tag));
+fn answer_segment(rt: &impl Print, at: usize, tag: u32) -> io::Result<()> {
+    say_number(rt, at)?;
+    say(rt, b" ")?;
+    say_line(rt, &letters(tag))
 }
 
-fn answer_over(at: usize) {
-    say(b"over ");
-    say_number(at);
-    say(b"\n");
+fn answer_over(rt: &impl Print, at: usize) -> io::Result<()> {
+    say(rt, b"over ")?;
+    say_number(rt, at)?;
+    say(rt, b"\n")
 }
 
 // A segment has at least four bytes, so the walk ends within a quarter as many passes as the line has bytes.
-fn walk(line: &[u8]) {
+fn walk(rt: &impl Print, line: &[u8]) -> io::Result<()> {
     let mut at = 0;
     let mut n = 0;
     while n <= line.len() / 4 {
         match found_past(line, n) {
             Found::Segment(tag, after) => {
-                answer_segment(at, tag);
+                answer_segment(rt, at, tag)?;
                 at = after;
             }
             Found::Over => {
-                answer_over(at);
-                return;
+                return answer_over(rt, at);
             }
             Found::Refused(refusal) => {
-                say_refusal(refusal.number, refusal.position, refusal.part);
-                return;
+                return say_refusal(rt, refusal.number, refusal.position, refusal.part);
             }
         }
         n += 1;
     }
+    Ok(())
 }
 
-fn answer_all(text: &[u8]) {
+fn answer_all(rt: &impl Print, text: &[u8]) -> io::Result<()> {
     let mut at = 0;
     while at < text.len() {
-        walk(piece_at(text, at, b'\n'));
+        walk(rt, piece_at(text, at, b'\n'))?;
         at = past(text, at, b'\n');
     }
+    Ok(())
 }
 
-fn main() {
+fn main(rt: HostRuntime) -> io::Result<()> {
     let mut buffer = [0u8; 60000];
-    let n = read_input(&mut buffer);
-    answer_all(&buffer[..n]);
+    let n = read_input(&mut rt.stdin(), &mut buffer)?;
+    answer_all(&rt, &buffer[..n])
 }

@@ -8,95 +8,109 @@ use interchange::reader::{Reading, read};
 use lines::{past, piece_at, read_input, say, say_number, say_refusal};
 use parts::bytes_of;
 use services::{Counted, Found, FoundPeriod, Service, next_period, next_service, test_services};
+use std::io;
 
-fn print_periods(rows: &[u32], from: usize, to: usize) {
+fn print_periods(rt: &impl Print, rows: &[u32], from: usize, to: usize) -> io::Result<()> {
     let mut i = from;
     while i < to {
         match next_period(rows, i, to) {
             FoundPeriod::Pop(k, offset) => {
-                say(b" ");
-                say_number(offset);
+                say(rt, b" ")?;
+                say_number(rt, offset)?;
                 if k < i {
-                    return;
+                    return Ok(());
                 }
                 if to <= k {
-                    return;
+                    return Ok(());
                 }
                 i = k + 1;
             }
             FoundPeriod::NoMore => {
-                return;
+                return Ok(());
             }
         }
     }
+    Ok(())
 }
 
-fn print_service(s: &[u8], rows: &[u32], service: Service) {
-    say_number(service.prd);
-    say(b" ");
+fn print_service(rt: &impl Print, s: &[u8], rows: &[u32], service: Service) -> io::Result<()> {
+    say_number(rt, service.prd)?;
+    say(rt, b" ")?;
     let number = service.number;
-    say(bytes_of(s, number));
+    say(rt, bytes_of(s, number))?;
     if service.removal {
-        say(b" del");
+        say(rt, b" del")?;
     } else {
-        say(b" put");
+        say(rt, b" put")?;
     }
-    print_periods(rows, service.from, service.to);
-    say(b"\n");
+    print_periods(rt, rows, service.from, service.to)?;
+    say(rt, b"\n")
 }
 
-fn print_services(s: &[u8], rows: &[u32], n: usize) {
+fn print_services(rt: &impl Print, s: &[u8], rows: &[u32], n: usize) -> io::Result<()> {
     let mut i = 0;
     while i < n {
         match next_service(s, rows, n, i) {
             Found::At(service) => {
-                print_service(s, rows, service);
+                print_service(rt, s, rows, service)?;
                 let k = service.from;
                 if k < i {
-                    return;
+                    return Ok(());
                 }
                 if n <= k {
-                    return;
+                    return Ok(());
                 }
                 i = k + 1;
             }
             Found::NoMore => {
-                return;
+                return Ok(());
             }
         }
     }
+    Ok(())
 }
 
-fn answer_rows(s: &[u8], rows: &[u32], n: usize) {
-    print_services(s, rows, n);
+fn answer_rows(rt: &impl Print, s: &[u8], rows: &[u32], n: usize) -> io::Result<()> {
+    print_services(rt, s, rows, n)?;
     match test_services(s, rows, n) {
         Counted::Services(k) => {
-            say(b"services ");
-            say_number(k);
-            say(b"\n");
+            say(rt, b"services ")?;
+            say_number(rt, k)?;
+            say(rt, b"\n")
         }
-        Counted::Refused(refusal) => say_refusal(refusal.number, refusal.position, refusal.part),
+        Counted::Refused(refusal) => say_refusal(
+            rt,
+            refusal.number,
+            refusal.position,
+            refusal.part,
+        ),
     }
 }
 
-fn answer_interchange(s: &[u8]) {
+fn answer_interchange(rt: &impl Print, s: &[u8]) -> io::Result<()> {
     let mut rows = [0u32; 45000];
     match read(s, true, &mut rows) {
-        Reading::Rows(n) => answer_rows(s, &rows, n),
-        Reading::Refused(refusal) => say_refusal(refusal.number, refusal.position, refusal.part),
+        Reading::Rows(n) => answer_rows(rt, s, &rows, n),
+        Reading::Refused(refusal) => say_refusal(
+            rt,
+            refusal.number,
+            refusal.position,
+            refusal.part,
+        ),
     }
 }
 
-fn answer_all(text: &[u8]) {
+fn answer_all(rt: &impl Print, text: &[u8]) -> io::Result<()> {
     let mut at = 0;
     while at < text.len() {
-        answer_interchange(piece_at(text, at, b'\n'));
+        answer_interchange(rt, piece_at(text, at, b'\n'))?;
         at = past(text, at, b'\n');
     }
+    Ok(())
 }
 
-fn main() {
+fn main(rt: HostRuntime) -> io::Result<()> {
     let mut buffer = [0u8; 60000];
-    let n = read_input(&mut buffer);
-    answer_all(&buffer[..n]);
+    let n = read_input(&mut rt.stdin(), &mut buffer)?;
+    answer_all(&rt, &buffer[..n])
 }

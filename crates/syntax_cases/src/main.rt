@@ -8,6 +8,7 @@ use lines::{
     decode, field, number, past, piece_at, read_input, say, say_line, say_number, say_refusal,
 };
 use parts::{Part, bytes_of, is_repeated, part_at};
+use std::io;
 use syntax::segment::{Scanned, read_segment};
 use values::{plain_length, same};
 
@@ -29,54 +30,52 @@ fn read_number(line: &[u8], k: usize) -> usize {
     number(line, field(line, k))
 }
 
-fn answer(yes: bool) {
+fn answer(rt: &impl Print, yes: bool) -> io::Result<()> {
     if yes {
-        say_line(b"yes");
+        say_line(rt, b"yes")
     } else {
-        say_line(b"no");
+        say_line(rt, b"no")
     }
 }
 
-fn answer_segment(t: Text, at: usize) {
+fn answer_segment(rt: &impl Print, t: Text, at: usize) -> io::Result<()> {
     let bytes = t.bytes;
     let to = t.length;
     let s: &[u8] = &bytes;
     let found = read_segment(bytes_of(s, Part { from: 0, to }), at);
     if let Scanned::End(end) = found {
-        say(b"end ");
-        say_number(end);
-        say(b"\n");
-        return;
+        say(rt, b"end ")?;
+        say_number(rt, end)?;
+        return say(rt, b"\n");
     }
     let refusal = found.refusal(at);
-    say_refusal(refusal.number, refusal.position, refusal.part);
+    say_refusal(rt, refusal.number, refusal.position, refusal.part)
 }
 
-fn answer_part(t: Text, e: usize, o: usize, c: usize) {
+fn answer_part(rt: &impl Print, t: Text, e: usize, o: usize, c: usize) -> io::Result<()> {
     let bytes = t.bytes;
     let to = t.length;
     let s: &[u8] = &bytes;
     let part = part_at(s, Part { from: 0, to }, e, o, c);
     if part.is_absent() {
-        say_line(b"absent");
-        return;
+        return say_line(rt, b"absent");
     }
-    say_number(part.from);
-    say(b" ");
-    say_number(part.to);
-    say(b" ");
-    say_number(plain_length(bytes_of(s, part)));
-    say(b"\n");
+    say_number(rt, part.from)?;
+    say(rt, b" ")?;
+    say_number(rt, part.to)?;
+    say(rt, b" ")?;
+    say_number(rt, plain_length(bytes_of(s, part)))?;
+    say(rt, b"\n")
 }
 
-fn answer_repeated(t: Text, e: usize) {
+fn answer_repeated(rt: &impl Print, t: Text, e: usize) -> io::Result<()> {
     let bytes = t.bytes;
     let to = t.length;
     let s: &[u8] = &bytes;
-    answer(is_repeated(s, Part { from: 0, to }, e));
+    answer(rt, is_repeated(s, Part { from: 0, to }, e))
 }
 
-fn answer_same(t: Text, u: Text) {
+fn answer_same(rt: &impl Print, t: Text, u: Text) -> io::Result<()> {
     let a = t.bytes;
     let b = u.bytes;
     let first: &[u8] = &a;
@@ -95,42 +94,40 @@ fn answer_same(t: Text, u: Text) {
             to: u.length,
         },
     );
-    answer(same(one, other));
+    answer(rt, same(one, other))
 }
 
-fn answer_case(line: &[u8]) {
+fn answer_case(rt: &impl Print, line: &[u8]) -> io::Result<()> {
     if line.len() == 0 {
-        return;
+        return Ok(());
     }
     let kind = line[0];
     if kind == b's' {
-        answer_segment(read_text(line, 2), read_number(line, 1));
-        return;
+        return answer_segment(rt, read_text(line, 2), read_number(line, 1));
     }
     if kind == b'p' {
         let e = read_number(line, 1);
         let o = read_number(line, 2);
         let c = read_number(line, 3);
-        answer_part(read_text(line, 4), e, o, c);
-        return;
+        return answer_part(rt, read_text(line, 4), e, o, c);
     }
     if kind == b'r' {
-        answer_repeated(read_text(line, 2), read_number(line, 1));
-        return;
+        return answer_repeated(rt, read_text(line, 2), read_number(line, 1));
     }
-    answer_same(read_text(line, 1), read_text(line, 2));
+    answer_same(rt, read_text(line, 1), read_text(line, 2))
 }
 
-fn answer_all(text: &[u8]) {
+fn answer_all(rt: &impl Print, text: &[u8]) -> io::Result<()> {
     let mut at = 0;
     while at < text.len() {
-        answer_case(piece_at(text, at, b'\n'));
+        answer_case(rt, piece_at(text, at, b'\n'))?;
         at = past(text, at, b'\n');
     }
+    Ok(())
 }
 
-fn main() {
+fn main(rt: HostRuntime) -> io::Result<()> {
     let mut buffer = [0u8; 60000];
-    let n = read_input(&mut buffer);
-    answer_all(&buffer[..n]);
+    let n = read_input(&mut rt.stdin(), &mut buffer)?;
+    answer_all(&rt, &buffer[..n])
 }

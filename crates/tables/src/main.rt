@@ -8,6 +8,7 @@ use lines::{four_digits, letters, number, past, piece_at, read_input, say, say_l
 use messages::MessageType;
 use placing::entry;
 use segment_tables::{table_of, tsdupd_12b};
+use std::io;
 
 // The columns of a row that are held to a line; column 0 is the position.
 const TAG: usize = 1;
@@ -21,45 +22,45 @@ const GROUP: usize = 4;
 const HELD: usize = 6;
 
 // The three letters of a tag; document 000 has a dashed line where a group stands.
-fn print_tag(tag: u32) {
+fn print_tag(rt: &impl Print, tag: u32) -> io::Result<()> {
     if tag == 0 {
-        say(b"-----");
-        return;
+        return say(rt, b"-----");
     }
-    say(&letters(tag));
+    say(rt, &letters(tag))
 }
 
-fn print_status(mandatory: u32) {
+fn print_status(rt: &impl Print, mandatory: u32) -> io::Result<()> {
     if mandatory == 0 {
-        say(b"C");
+        say(rt, b"C")
     } else {
-        say(b"M");
+        say(rt, b"M")
     }
 }
 
-fn print_count(n: u32) {
-    say_number(n as usize);
+fn print_count(rt: &impl Print, n: u32) -> io::Result<()> {
+    say_number(rt, n as usize)
 }
 
-fn print_row(row: [u32; 8]) {
-    say(&four_digits(row[0]));
-    say(b"\t");
-    print_tag(row[TAG]);
-    say(b"\t");
-    print_status(row[MANDATORY]);
-    say(b"\t");
-    print_count(row[NUMBER]);
-    say(b"\t");
-    print_count(row[GROUP]);
-    say(b"\n");
+fn print_row(rt: &impl Print, row: [u32; 8]) -> io::Result<()> {
+    say(rt, &four_digits(row[0]))?;
+    say(rt, b"\t")?;
+    print_tag(rt, row[TAG])?;
+    say(rt, b"\t")?;
+    print_status(rt, row[MANDATORY])?;
+    say(rt, b"\t")?;
+    print_count(rt, row[NUMBER])?;
+    say(rt, b"\t")?;
+    print_count(rt, row[GROUP])?;
+    say(rt, b"\n")
 }
 
-fn print_table(table: &[[u32; 8]]) {
+fn print_table(rt: &impl Print, table: &[[u32; 8]]) -> io::Result<()> {
     let mut i = 0;
     while i < table.len() {
-        print_row(table[i]);
+        print_row(rt, table[i])?;
         i += 1;
     }
+    Ok(())
 }
 
 fn is_tag(word: &[u8], tag: u32) -> bool {
@@ -121,30 +122,37 @@ fn past_place(line: &[u8], at: usize) -> usize {
     past(line, past(line, past(line, at, b';'), b';'), b';')
 }
 
-fn say_left(line: &[u8], at: usize) {
+fn say_left(rt: &impl Print, line: &[u8], at: usize) -> io::Result<()> {
     if at < line.len() {
-        say(b"not here\t");
-        say_line(&line[at..]);
+        say(rt, b"not here\t")?;
+        say_line(rt, &line[at..])?;
     }
+    Ok(())
 }
 
 // The places of a group, from one row up to another, held to those of a line.
-fn hold_places(table: &[[u32; 8]], from: usize, to: usize, line: &[u8]) {
+fn hold_places(
+    rt: &impl Print,
+    table: &[[u32; 8]],
+    from: usize,
+    to: usize,
+    line: &[u8],
+) -> io::Result<()> {
     let mut row = from;
     let mut at = past(line, past(line, 0, b';'), b';');
     while row < to {
         if table.len() <= row {
-            return;
+            return Ok(());
         }
         if is_place(table[row], line, at) {
             at = past_place(line, at);
         } else {
-            say(b"not there\t");
-            print_row(table[row]);
+            say(rt, b"not there\t")?;
+            print_row(rt, table[row])?;
         }
         row = row + 1 + entry(table, row, HELD) as usize;
     }
-    say_left(line, at);
+    say_left(rt, line, at)
 }
 
 // The row of a group, or the end.
@@ -166,22 +174,22 @@ fn group_named(line: &[u8]) -> usize {
     number(piece_at(line, past(line, 0, b';'), b';'), 2)
 }
 
-fn hold_line(table: &[[u32; 8]], line: &[u8]) {
+fn hold_line(rt: &impl Print, table: &[[u32; 8]], line: &[u8]) -> io::Result<()> {
     let group = group_named(line);
     if group == 0 {
-        hold_places(table, 0, table.len(), line);
-        return;
+        return hold_places(rt, table, 0, table.len(), line);
     }
     let row = row_of(table, group);
     if row < table.len() {
         hold_places(
+            rt,
             table,
             row + 1,
             row + 1 + entry(table, row, HELD) as usize,
             line,
-        );
+        )
     } else {
-        say(b"no such group\n");
+        say(rt, b"no such group\n")
     }
 }
 
@@ -195,40 +203,42 @@ fn is_earlier(line: &[u8]) -> bool {
 }
 
 // A line is copied and, where it is no remark, held to its table. The lines of TSDUPD end with D.08A; the table of D.12B is held to those.
-fn run_line(line: &[u8], tables: &[[u32; 8]]) {
-    say_line(line);
+fn run_line(rt: &impl Print, line: &[u8], tables: &[[u32; 8]]) -> io::Result<()> {
+    say_line(rt, line)?;
     if line.len() == 0 {
-        return;
+        return Ok(());
     }
     if line[0] == b'S' {
-        hold_line(table_of(tables, MessageType::Skdupd), line);
+        hold_line(rt, table_of(tables, MessageType::Skdupd), line)?;
     }
     if line[0] == b'T' {
         if is_earlier(line) {
-            hold_line(table_of(tables, MessageType::Tsdupd), line);
+            hold_line(rt, table_of(tables, MessageType::Tsdupd), line)?;
         } else {
-            hold_line(&tsdupd_12b(), line);
+            hold_line(rt, &tsdupd_12b(), line)?;
         }
     }
+    Ok(())
 }
 
-fn run_text(text: &[u8], tables: &[[u32; 8]]) {
+fn run_text(rt: &impl Print, text: &[u8], tables: &[[u32; 8]]) -> io::Result<()> {
     let mut at = 0;
     while at < text.len() {
-        run_line(piece_at(text, at, b'\n'), tables);
+        run_line(rt, piece_at(text, at, b'\n'), tables)?;
         at = past(text, at, b'\n');
     }
+    Ok(())
 }
 
-fn main() {
+fn main(rt: HostRuntime) -> io::Result<()> {
     let mut buffer = [0u8; 65536];
-    let n = read_input(&mut buffer);
+    let n = read_input(&mut rt.stdin(), &mut buffer)?;
     let all = segment_tables::tables();
-    say(b"SKDUPD\nPos\tTag\tS\tR\tGroup\n");
-    print_table(table_of(&all, MessageType::Skdupd));
-    say(b"TSDUPD\nPos\tTag\tS\tR\tGroup\n");
-    print_table(table_of(&all, MessageType::Tsdupd));
-    say(b"TSDUPD, D.12B\nPos\tTag\tS\tR\tGroup\n");
-    print_table(&tsdupd_12b());
-    run_text(&buffer[..n], &all);
+    say(&rt, b"SKDUPD\nPos\tTag\tS\tR\tGroup\n")?;
+    print_table(&rt, table_of(&all, MessageType::Skdupd))?;
+    say(&rt, b"TSDUPD\nPos\tTag\tS\tR\tGroup\n")?;
+    print_table(&rt, table_of(&all, MessageType::Tsdupd))?;
+    say(&rt, b"TSDUPD, D.12B\nPos\tTag\tS\tR\tGroup\n")?;
+    print_table(&rt, &tsdupd_12b())?;
+    run_text(&rt, &buffer[..n], &all)
 }

@@ -11,6 +11,7 @@ use lines::{four_digits, letters, number, past, piece_at, read_input, say, say_l
 use messages::{MessageType, UIH, UIT};
 use placing::{Place, Stepped};
 use segment_tables::{table_of, tsdupd_12b};
+use std::io;
 
 #[derive(Clone, Copy)]
 enum Run {
@@ -82,76 +83,89 @@ fn repeated(place: Place, table: &[[u32; 8]], tag: u32, times: usize) -> Run {
 }
 
 // The position of a row, in the four digits of document 000; document 003 has a zero before them.
-fn print_position(table: &[[u32; 8]], row: usize) {
+fn print_position(rt: &impl Print, table: &[[u32; 8]], row: usize) -> io::Result<()> {
     if row < table.len() {
-        say(&four_digits(table[row][0]));
+        say(rt, &four_digits(table[row][0]))?;
     }
+    Ok(())
 }
 
-fn print_place(place: Place, table: &[[u32; 8]]) {
-    say(b" ");
-    say_number(place.group(table) as usize);
-    say(b"/");
+fn print_place(rt: &impl Print, place: Place, table: &[[u32; 8]]) -> io::Result<()> {
+    say(rt, b" ")?;
+    say_number(rt, place.group(table) as usize)?;
+    say(rt, b"/")?;
     let row = place.row;
-    print_position(table, row);
+    print_position(rt, table, row)?;
     if place.may_end(table) {
-        say(b".");
+        say(rt, b".")?;
     }
-    say(b"\n");
+    say(rt, b"\n")
 }
 
-fn run_tags(line: &[u8], table: &[[u32; 8]]) {
+fn run_tags(rt: &impl Print, line: &[u8], table: &[[u32; 8]]) -> io::Result<()> {
     let mut place = Place::start();
     let mut at = past(line, 0, b' ');
     while at < line.len() {
         let word = piece_at(line, at, b' ');
         let tag = tag_of(word);
-        say(&letters(tag));
+        say(rt, &letters(tag))?;
         match repeated(place, table, tag, times(word)) {
             Run::All(q) => {
-                print_place(q, table);
+                print_place(rt, q, table)?;
                 place = q;
                 at = past(line, at, b' ');
             }
             Run::Out(k) => {
-                say(b" out ");
-                say_number(k);
-                say(b"\n");
-                return;
+                say(rt, b" out ")?;
+                say_number(rt, k)?;
+                return say(rt, b"\n");
             }
         }
     }
+    Ok(())
 }
 
-fn run_line(line: &[u8], tables: &[[u32; 8]], other: &[[u32; 8]]) {
-    say_line(line);
+fn run_line(
+    rt: &impl Print,
+    line: &[u8],
+    tables: &[[u32; 8]],
+    other: &[[u32; 8]],
+) -> io::Result<()> {
+    say_line(rt, line)?;
     if line.len() == 0 {
-        return;
+        return Ok(());
     }
     if line[0] == b'S' {
-        run_tags(line, table_of(tables, MessageType::Skdupd));
+        run_tags(rt, line, table_of(tables, MessageType::Skdupd))?;
     }
     if line[0] == b'T' {
-        run_tags(line, table_of(tables, MessageType::Tsdupd));
+        run_tags(rt, line, table_of(tables, MessageType::Tsdupd))?;
     }
     if line[0] == b'B' {
-        run_tags(line, &tsdupd_12b());
+        run_tags(rt, line, &tsdupd_12b())?;
     }
     if line[0] == b'X' {
-        run_tags(line, other);
+        run_tags(rt, line, other)?;
     }
+    Ok(())
 }
 
-fn run_text(text: &[u8], tables: &[[u32; 8]], other: &[[u32; 8]]) {
+fn run_text(
+    rt: &impl Print,
+    text: &[u8],
+    tables: &[[u32; 8]],
+    other: &[[u32; 8]],
+) -> io::Result<()> {
     let mut at = 0;
     while at < text.len() {
-        run_line(piece_at(text, at, b'\n'), tables, other);
+        run_line(rt, piece_at(text, at, b'\n'), tables, other)?;
         at = past(text, at, b'\n');
     }
+    Ok(())
 }
 
-fn main() {
+fn main(rt: HostRuntime) -> io::Result<()> {
     let mut buffer = [0u8; 65536];
-    let n = read_input(&mut buffer);
-    run_text(&buffer[..n], &segment_tables::tables(), &made_up());
+    let n = read_input(&mut rt.stdin(), &mut buffer)?;
+    run_text(&rt, &buffer[..n], &segment_tables::tables(), &made_up())
 }

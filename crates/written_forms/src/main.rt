@@ -7,6 +7,7 @@ ghost use Rattle.std.specs.Prelude.{◌≤◌};
 use calendar::Written;
 use dates::Date;
 use lines::{number, past, piece_at, read_input, say, say_line, say_number};
+use std::io;
 
 // The date as it is written, whether it is one or not.
 fn date(line: &[u8], at: usize) -> Date
@@ -34,71 +35,86 @@ fn mark_all(days: &mut [u8], line: &[u8]) {
     }
 }
 
-fn refused(number: usize) {
-    say(b"refused ");
-    say_number(number);
-    say(b"\n");
+fn refused(rt: &impl Print, number: usize) -> io::Result<()> {
+    say(rt, b"refused ")?;
+    say_number(rt, number)?;
+    say(rt, b"\n")
 }
 
-fn print(out: &[u8], n: usize) {
+fn print(rt: &impl Print, out: &[u8], n: usize) -> io::Result<()> {
     if out.len() < n {
-        return;
+        return Ok(());
     }
-    say_line(&out[..n]);
+    say_line(rt, &out[..n])
 }
 
 // What was written, or document 01's number.
-fn show(written: Written, out: &[u8]) {
+fn show(rt: &impl Print, written: Written, out: &[u8]) -> io::Result<()> {
     match written {
-        Written::Bytes(n) => print(out, n),
-        Written::BadCalendar => refused(19),
-        Written::NoWeekdayForm => refused(20),
-        Written::NoRoom => refused(17),
+        Written::Bytes(n) => print(rt, out, n),
+        Written::BadCalendar => refused(rt, 19),
+        Written::NoWeekdayForm => refused(rt, 20),
+        Written::NoRoom => refused(rt, 17),
     }
 }
 
-fn day_string(days: &[u8], first: Date, last: Date, short: bool, out: &mut [u8]) {
+fn day_string(
+    rt: &impl Print,
+    days: &[u8],
+    first: Date,
+    last: Date,
+    short: bool,
+    out: &mut [u8],
+) -> io::Result<()> {
     show(
+        rt,
         calendar::write_day_string(days, first, last, short, out),
         out,
-    );
+    )
 }
 
-fn weekdays(days: &[u8], first: Date, last: Date, out: &mut [u8]) {
-    show(calendar::write_weekdays(days, first, last, out), out);
+fn weekdays(
+    rt: &impl Print,
+    days: &[u8],
+    first: Date,
+    last: Date,
+    out: &mut [u8],
+) -> io::Result<()> {
+    show(rt, calendar::write_weekdays(days, first, last, out), out)
 }
 
 // All characters, the short form and the weekdays into 544 bytes, which every form fits; then into 44, 39 and 33.
-fn forms(days: &[u8], first: Date, last: Date) {
+fn forms(rt: &impl Print, days: &[u8], first: Date, last: Date) -> io::Result<()> {
     let mut out = [0u8; 544];
-    day_string(days, first, last, false, &mut out);
-    day_string(days, first, last, true, &mut out);
-    weekdays(days, first, last, &mut out);
+    day_string(rt, days, first, last, false, &mut out)?;
+    day_string(rt, days, first, last, true, &mut out)?;
+    weekdays(rt, days, first, last, &mut out)?;
     let mut all = [0u8; 44];
-    day_string(days, first, last, false, &mut all);
+    day_string(rt, days, first, last, false, &mut all)?;
     let mut short = [0u8; 39];
-    day_string(days, first, last, true, &mut short);
+    day_string(rt, days, first, last, true, &mut short)?;
     let mut named = [0u8; 33];
-    weekdays(days, first, last, &mut named);
+    weekdays(rt, days, first, last, &mut named)
 }
 
-fn handle(line: &[u8]) {
+fn handle(rt: &impl Print, line: &[u8]) -> io::Result<()> {
     let mut days = [0u8; 64];
     mark_all(&mut days, line);
-    forms(&days, date(line, 0), date(line, 11));
+    forms(rt, &days, date(line, 0), date(line, 11))
 }
 
-fn all_lines(text: &[u8]) {
+fn all_lines(rt: &impl Print, text: &[u8]) -> io::Result<()> {
     let mut at = 0;
     while at < text.len() {
-        handle(piece_at(text, at, b'\n'));
+        handle(rt, piece_at(text, at, b'\n'))?;
         at = past(text, at, b'\n');
     }
+    Ok(())
 }
 
-fn main() {
+fn main(rt: HostRuntime) -> io::Result<()> {
     let mut buffer = [0u8; 65536];
-    let n = read_input(&mut buffer);
-    all_lines(&buffer[..n]);
-    forms(b"", Date::FIRST, Date::FIRST);
+    let n = read_input(&mut rt.stdin(), &mut buffer)?;
+    all_lines(&rt, &buffer[..n])?;
+    forms(&rt, b"", Date::FIRST, Date::FIRST)
 }

@@ -1,7 +1,6 @@
 -- `load` meets its contract.
 -- Assumes nothing.
 use Rattle.parcel_store.specs.Store.{kept_in}
-use borrow.Author.Rules.{rules}
 use Rattle.parcel_store.proofs.load.Goals as goal
 
 pub returns : goal.returns

@@ -1,6 +1,5 @@
 -- `other_head` meets its contract.
 -- Assumes nothing.
-use borrow.Author.Rules.{rules}
 use Rattle.parcel_store.proofs.other_head.Goals as goal
 
 pub returns : goal.returns

@@ -1,6 +1,5 @@
 -- `place_in` meets its contract.
 -- Assumes nothing.
-use borrow.Author.Rules.{rules}
 use Rattle.parcel_store.proofs.place_in.Goals as goal
 
 pub returns : goal.returns

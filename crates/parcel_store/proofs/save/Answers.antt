@@ -1,6 +1,5 @@
 -- `save` meets its contract.
 -- Assumes nothing.
-use borrow.Author.Rules.{rules}
 use Rattle.parcel_store.proofs.save.Goals as goal
 
 pub returns : goal.returns

@@ -1,6 +1,5 @@
 -- `state_in` meets its contract.
 -- Assumes nothing.
-use borrow.Author.Rules.{rules}
 use Rattle.parcel_store.proofs.state_in.Goals as goal
 
 pub returns : goal.returns

@@ -2,11 +2,14 @@
 -- Assumes nothing.
 use Rattle.parcels.specs.Calls.{parcel_told}
 use Rattle.parcels.specs.CallLaws.{begin_other, begun}
-use borrow.Author.Rules.{rules}
 use Rattle.parcels.proofs.begin.Goals as goal
 
 pub returns-then-store-ne-STORE : goal.returns-then-store-ne-STORE
-returns-then-store-ne-STORE c = record { told = (begin_other c.args.wish c.args.store.now (parcel_told c.refused.result) c.if-store-ne-STORE.true c.refused.ensures).0; left = (begin_other c.args.wish c.args.store.now (parcel_told c.refused.result) c.if-store-ne-STORE.true c.refused.ensures).1 }
+returns-then-store-ne-STORE c =
+    let t = begin_other c.args.wish c.args.store.now (parcel_told c.refused.result) c.if-store-ne-STORE.true c.refused.ensures in
+    record { told = t.0; left = t.1 }
 
 pub returns : goal.returns
-returns c = record { told = (begun c.args.wish c.args.store.now c.opening-state.result c.save.new.store c.if-store-ne-STORE.false c.opening-state.ensures c.save.ensures).0; left = (begun c.args.wish c.args.store.now c.opening-state.result c.save.new.store c.if-store-ne-STORE.false c.opening-state.ensures c.save.ensures).1 }
+returns c =
+    let t = begun c.args.wish c.args.store.now c.opening-state.result c.save.new.store c.if-store-ne-STORE.false c.opening-state.ensures c.save.ensures in
+    record { told = t.0; left = t.1 }

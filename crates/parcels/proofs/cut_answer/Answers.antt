@@ -1,7 +1,6 @@
 -- `parcels::cut_answer` meets its contract.
 -- Assumes nothing.
 use Rattle.parcels.specs.CallLaws.{cut_bad, cut_good}
-use borrow.Author.Rules.{rules}
 use Rattle.parcels.proofs.cut_answer.Goals as goal
 
 pub returns-then-run-body : goal.returns-then-run-body

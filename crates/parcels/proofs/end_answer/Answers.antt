@@ -8,7 +8,6 @@ use lib.ListN.{length}
 use Rattle.syntax.specs.Segment.{body_answer}
 use Rattle.answers.specs.Answers.{refused}
 use Rattle.parcels.specs.CallLaws.{length_body, end_none, end_cut, end_closed, end_early}
-use borrow.Author.Rules.{rules}
 use Rattle.parcels.proofs.end_answer.Goals as goal
 
 pub returns-then-kept-eq0 : goal.returns-then-kept-eq0

@@ -5,7 +5,6 @@ use Rattle.laws.specs.Choice.{false≢true}
 use Rattle.parcel_store.specs.declared.Final.{Final}
 use Rattle.parcel_store.specs.Store.{final_by}
 use Rattle.parcels.specs.Whole.{is_awaited}
-use borrow.Author.Rules.{rules}
 use Rattle.parcels.proofs.final_reading.Goals as goal
 
 pub returns-in-Awaited : goal.returns-in-Awaited

@@ -2,24 +2,25 @@
 -- Assumes nothing.
 use mathlib.Core.Path.{sym, ◌∙◌}
 use native.Mathlib.Omega.{arith}
-use borrow.Author.Tests.{not-true, not-false}
 use Rattle.interchange.specs.Reader.{read_answer}
 use Rattle.arrival.specs.Arrived.{awaited_end}
 use Rattle.parcel_store.specs.Store.{stand_of}
 use Rattle.parcels.specs.CallLaws.{finish_other, finish_given, finish_open, sized_loaded, awaited_is, given_final}
-use borrow.Author.Rules.{rules}
 use Rattle.parcels.proofs.finish.Goals as goal
 
 pub returns-then-store-ne-STORE : goal.returns-then-store-ne-STORE
-returns-then-store-ne-STORE c = record { told = (finish_other c.args.store.now c.if-store-ne-STORE.true).0; left = (finish_other c.args.store.now c.if-store-ne-STORE.true).1 }
+returns-then-store-ne-STORE c =
+    let t = finish_other c.args.store.now c.if-store-ne-STORE.true in
+    record { told = t.0; left = t.1 }
 
 pub final_reading-requires : goal.final_reading-requires
 final_reading-requires c = sym c.is_awaited.ensures ∙ c.if-not-is_awaited.true
 
 pub returns-then-not-is_awaited : goal.returns-then-not-is_awaited
-returns-then-not-is_awaited c = record { told = (finish_given c.args.store.now c.load-kept.result (read_answer c.final_reading.result) c.if-store-ne-STORE.false c.load-kept.ensures
-    (sym c.is_awaited.ensures ∙ c.if-not-is_awaited.true) c.final_reading.ensures).0; left = (finish_given c.args.store.now c.load-kept.result (read_answer c.final_reading.result) c.if-store-ne-STORE.false c.load-kept.ensures
-    (sym c.is_awaited.ensures ∙ c.if-not-is_awaited.true) c.final_reading.ensures).1 }
+returns-then-not-is_awaited c =
+    let t = finish_given c.args.store.now c.load-kept.result (read_answer c.final_reading.result) c.if-store-ne-STORE.false c.load-kept.ensures
+    (sym c.is_awaited.ensures ∙ c.if-not-is_awaited.true) c.final_reading.ensures in
+    record { told = t.0; left = t.1 }
 
 pub end_answer-last-requires : goal.end_answer-last-requires
 end_answer-last-requires c =
@@ -32,8 +33,8 @@ final_reading-requires-2 c =
 pub returns : goal.returns
 returns c =
     let b = c.args.store.now in
-    let g = sized_loaded b c.load-kept.result c.load-kept.ensures (λ i. omega (arith, c.slice_known-1.given i)) in record { told = (finish_open b c.load-kept.result c.end_answer-last.result c.answered.result c.save.new.store (read_answer c.final_reading-2.result) c.if-store-ne-STORE.false c.load-kept.ensures
+    let g = sized_loaded b c.load-kept.result c.load-kept.ensures (λ i. omega (arith, c.slice_known-1.given i)) in
+    let t = finish_open b c.load-kept.result c.end_answer-last.result c.answered.result c.save.new.store (read_answer c.final_reading-2.result) c.if-store-ne-STORE.false c.load-kept.ensures
     (awaited_is c.load-kept.result.answer (sym c.is_awaited.ensures ∙ c.if-not-is_awaited.false))
-    g c.end_answer-last.ensures c.answered.ensures c.save.ensures c.final_reading-2.ensures).0; left = (finish_open b c.load-kept.result c.end_answer-last.result c.answered.result c.save.new.store (read_answer c.final_reading-2.result) c.if-store-ne-STORE.false c.load-kept.ensures
-    (awaited_is c.load-kept.result.answer (sym c.is_awaited.ensures ∙ c.if-not-is_awaited.false))
-    g c.end_answer-last.ensures c.answered.ensures c.save.ensures c.final_reading-2.ensures).1 }
+    g c.end_answer-last.ensures c.answered.ensures c.save.ensures c.final_reading-2.ensures in
+    record { told = t.0; left = t.1 }

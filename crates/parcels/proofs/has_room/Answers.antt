@@ -4,7 +4,6 @@ use mathlib.Core.Path.{sym, ◌∙◌}
 use Prim.Native.Nat.{ℕ}
 use lib.ListN.{replicate, length-replicate}
 use Rattle.parcels.specs.CallLaws.{room_quick, room_read}
-use borrow.Author.Rules.{rules}
 use Rattle.parcels.proofs.has_room.Goals as goal
 
 pub returns-then-kept-parcel : goal.returns-then-kept-parcel

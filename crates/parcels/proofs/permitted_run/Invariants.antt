@@ -2,13 +2,8 @@
 -- Assumes nothing.
 use mathlib.Core.Path.{◌≡◌}
 use Prim.Native.Nat.{◌+◌, ◌-◌}
-use native.Mathlib.Omega.{arith}
-use native.Mathlib.Nat.{zero-add}
 use lib.ListN.{length, drop}
-use borrow.Author.Rules.{rules}
-use borrow.Author.Tests.{not-true, not-false}
 use Rattle.syntax.specs.Segment.{permitted_run}
-use Rattle.parcels.specs.CallLaws.{run_more, run_stops, run_whole}
 use Rattle.parcels.proofs.permitted_run.Given as goal
 
 abbrev pub invariant-loop-i : goal.invariant-loop-i

@@ -2,51 +2,45 @@
 -- Assumes nothing.
 use mathlib.Core.Path.{sym, ◌∙◌}
 use native.Mathlib.Omega.{arith}
-use borrow.Author.Tests.{not-true, not-false}
 use Rattle.parcels.specs.Calls.{parcel_told}
 use Rattle.parcels.specs.CallLaws.{take_other, take_given, take_crowded, take_open, sized_loaded, awaited_is}
-use borrow.Author.Rules.{rules}
 use Rattle.parcels.proofs.take.Goals as goal
 
 pub returns-then-store-ne-STORE : goal.returns-then-store-ne-STORE
-returns-then-store-ne-STORE c = record { told = (take_other c.args.store.now c.args.parcel.now c.args.rows.now (parcel_told c.refused.result) c.if-store-ne-STORE.true c.refused.ensures).0; left = (take_other c.args.store.now c.args.parcel.now c.args.rows.now (parcel_told c.refused.result) c.if-store-ne-STORE.true c.refused.ensures).1; out = (take_other c.args.store.now c.args.parcel.now c.args.rows.now (parcel_told c.refused.result) c.if-store-ne-STORE.true c.refused.ensures).2 }
+returns-then-store-ne-STORE c =
+    let t = take_other c.args.store.now c.args.parcel.now c.args.rows.now (parcel_told c.refused.result) c.if-store-ne-STORE.true c.refused.ensures in
+    record { told = t.0; left = t.1.0; out = t.1.1 }
 
 pub returns-then-not-is_awaited : goal.returns-then-not-is_awaited
-returns-then-not-is_awaited c = record { told = (take_given c.args.store.now c.args.parcel.now c.args.rows.now c.load-kept.result (parcel_told c.told.result) c.if-store-ne-STORE.false c.load-kept.ensures
-    (sym c.is_awaited.ensures ∙ c.if-not-is_awaited.true) c.told.ensures).0; left = (take_given c.args.store.now c.args.parcel.now c.args.rows.now c.load-kept.result (parcel_told c.told.result) c.if-store-ne-STORE.false c.load-kept.ensures
-    (sym c.is_awaited.ensures ∙ c.if-not-is_awaited.true) c.told.ensures).1; out = (take_given c.args.store.now c.args.parcel.now c.args.rows.now c.load-kept.result (parcel_told c.told.result) c.if-store-ne-STORE.false c.load-kept.ensures
-    (sym c.is_awaited.ensures ∙ c.if-not-is_awaited.true) c.told.ensures).2 }
+returns-then-not-is_awaited c =
+    let t = take_given c.args.store.now c.args.parcel.now c.args.rows.now c.load-kept.result (parcel_told c.told.result) c.if-store-ne-STORE.false c.load-kept.ensures
+    (sym c.is_awaited.ensures ∙ c.if-not-is_awaited.true) c.told.ensures in
+    record { told = t.0; left = t.1.0; out = t.1.1 }
 
 pub has_room-requires : goal.has_room-requires
-has_room-requires c =
-    (
-      c.if-store-ne-STORE.false,
-      sized_loaded c.args.store.now c.load-kept.result c.load-kept.ensures (λ j. omega (arith, c.slice_known-1.given j)),
-      awaited_is c.load-kept.result.answer (sym c.is_awaited.ensures ∙ c.if-not-is_awaited.false),
-    )
+has_room-requires c = (
+  c.if-store-ne-STORE.false,
+  sized_loaded c.args.store.now c.load-kept.result c.load-kept.ensures (λ j. omega (arith, c.slice_known-1.given j)),
+  awaited_is c.load-kept.result.answer (sym c.is_awaited.ensures ∙ c.if-not-is_awaited.false),
+)
 
 pub returns-then-not-has_room : goal.returns-then-not-has_room
-returns-then-not-has_room c = record { told = (take_crowded c.args.store.now c.args.parcel.now c.args.rows.now c.load-kept.result (parcel_told c.refused-then-not-has_room.result) c.has_room.result c.if-store-ne-STORE.false c.load-kept.ensures
-    c.has_room.ensures (c.if-not-has_room.true) c.refused-then-not-has_room.ensures).0; left = (take_crowded c.args.store.now c.args.parcel.now c.args.rows.now c.load-kept.result (parcel_told c.refused-then-not-has_room.result) c.has_room.result c.if-store-ne-STORE.false c.load-kept.ensures
-    c.has_room.ensures (c.if-not-has_room.true) c.refused-then-not-has_room.ensures).1; out = (take_crowded c.args.store.now c.args.parcel.now c.args.rows.now c.load-kept.result (parcel_told c.refused-then-not-has_room.result) c.has_room.result c.if-store-ne-STORE.false c.load-kept.ensures
-    c.has_room.ensures (c.if-not-has_room.true) c.refused-then-not-has_room.ensures).2 }
+returns-then-not-has_room c =
+    let t = take_crowded c.args.store.now c.args.parcel.now c.args.rows.now c.load-kept.result (parcel_told c.refused-then-not-has_room.result) c.has_room.result c.if-store-ne-STORE.false c.load-kept.ensures
+    c.has_room.ensures (c.if-not-has_room.true) c.refused-then-not-has_room.ensures in
+    record { told = t.0; left = t.1.0; out = t.1.1 }
 
 pub advance-x-requires : goal.advance-x-requires
-advance-x-requires c =
-    (
-      c.if-store-ne-STORE.false,
-      sized_loaded c.args.store.now c.load-kept.result c.load-kept.ensures (λ j. omega (arith, c.slice_known-1.given j)),
-      awaited_is c.load-kept.result.answer (sym c.is_awaited.ensures ∙ c.if-not-is_awaited.false),
-    )
+advance-x-requires c = (
+  c.if-store-ne-STORE.false,
+  sized_loaded c.args.store.now c.load-kept.result c.load-kept.ensures (λ j. omega (arith, c.slice_known-1.given j)),
+  awaited_is c.load-kept.result.answer (sym c.is_awaited.ensures ∙ c.if-not-is_awaited.false),
+)
 
 pub returns : goal.returns
-returns c = record { told = (take_open c.args.store.now c.args.parcel.now c.args.rows.now c.load-kept.result c.advance-x.result c.advance-x.new.store c.advance-x.new.rows c.save.new.store
+returns c =
+    let t = take_open c.args.store.now c.args.parcel.now c.args.rows.now c.load-kept.result c.advance-x.result c.advance-x.new.store c.advance-x.new.rows c.save.new.store
     (parcel_told c.told-2.result) c.has_room.result c.if-store-ne-STORE.false c.load-kept.ensures
     (awaited_is c.load-kept.result.answer (sym c.is_awaited.ensures ∙ c.if-not-is_awaited.false))
-    c.has_room.ensures (c.if-not-has_room.false) c.advance-x.ensures c.save.ensures c.told-2.ensures).0; left = (take_open c.args.store.now c.args.parcel.now c.args.rows.now c.load-kept.result c.advance-x.result c.advance-x.new.store c.advance-x.new.rows c.save.new.store
-    (parcel_told c.told-2.result) c.has_room.result c.if-store-ne-STORE.false c.load-kept.ensures
-    (awaited_is c.load-kept.result.answer (sym c.is_awaited.ensures ∙ c.if-not-is_awaited.false))
-    c.has_room.ensures (c.if-not-has_room.false) c.advance-x.ensures c.save.ensures c.told-2.ensures).1; out = (take_open c.args.store.now c.args.parcel.now c.args.rows.now c.load-kept.result c.advance-x.result c.advance-x.new.store c.advance-x.new.rows c.save.new.store
-    (parcel_told c.told-2.result) c.has_room.result c.if-store-ne-STORE.false c.load-kept.ensures
-    (awaited_is c.load-kept.result.answer (sym c.is_awaited.ensures ∙ c.if-not-is_awaited.false))
-    c.has_room.ensures (c.if-not-has_room.false) c.advance-x.ensures c.save.ensures c.told-2.ensures).2 }
+    c.has_room.ensures (c.if-not-has_room.false) c.advance-x.ensures c.save.ensures c.told-2.ensures in
+    record { told = t.0; left = t.1.0; out = t.1.1 }

@@ -4,7 +4,6 @@ use mathlib.Core.Path.{sym, ap}
 use Rattle.parcel_store.specs.declared.Final.{Final}
 use Rattle.parcel_store.specs.Store.{final_by}
 use Rattle.parcels.specs.Calls.{telling, verdict_by}
-use borrow.Author.Rules.{rules}
 use Rattle.parcels.proofs.told.Goals as goal
 
 pub returns-in-Awaited : goal.returns-in-Awaited

@@ -1,6 +1,5 @@
 -- The cycle of calls of `at_group` and `in_group`: each meets its contract, the depth left falling.
 use Rattle.std.proofs.Common.{◌≡◌, ℕ, ◌+◌, ◌-◌, ◌<◌, ◌∷◌, length, sym, ap, ◌∙◌, arith, rules}
-use Rattle.placing.specs.declared.Fit.{Fit}
 use Rattle.placing.specs.declared.Fit.TheVariants.{Nowhere}
 use Rattle.placing.specs.declared.Reading.{Reading}
 use Rattle.placing.specs.declared.Reading.TheVariants.{Found, Barred, Past}
@@ -66,8 +65,8 @@ nowhere t j =
     let e = j.entry-own.ensures in
     let d = j.args.depth - 1 in
     elim j.if-own-eq0.branch [
-      in_group-then-own-eq0+in_default w ↦ place_group d j.args.table.now j.args.tag j.loop-row.row (sym e ∙ w.if-own-eq0.true) ∙ sym w.at_group-h.ensures ∙ w.in_default.is
-    | in_group-else-own-eq0+else-own-tag w ↦ place_other d j.args.table.now j.args.tag j.loop-row.row (λ z. w.if-own-eq0.false (e ∙ z)) (λ z. w.if-own-tag.false (e ∙ z))
+      | in_group-then-own-eq0+in_default w ↦ place_group d j.args.table.now j.args.tag j.loop-row.row (sym e ∙ w.if-own-eq0.true) ∙ sym w.at_group-h.ensures ∙ w.in_default.is
+      | in_group-else-own-eq0+else-own-tag w ↦ place_other d j.args.table.now j.args.tag j.loop-row.row (λ z. w.if-own-eq0.false (e ∙ z)) (λ z. w.if-own-tag.false (e ∙ z))
     ]
 
 pub in_group-returns-in-At : goal.in_group-returns-in-At

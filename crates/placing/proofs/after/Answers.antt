@@ -2,7 +2,6 @@
 use mathlib.Core.Path.{sym}
 use Rattle.placing.specs.Walks.{after_next, after_last}
 use native.Mathlib.Omega.{arith}
-use borrow.Author.Rules.{rules}
 use Rattle.placing.proofs.after.Goals as goal
 
 pub returns-then-next-rows : goal.returns-then-next-rows

@@ -2,7 +2,6 @@
 use mathlib.Core.Path.{ap, ◌∙◌}
 use borrow.Author.Tests.{eq-eqb, ne_eqb}
 use Rattle.placing.specs.Table.{after_of, end_of}
-use borrow.Author.Rules.{rules}
 use Rattle.placing.proofs.end.Goals as goal
 
 pub returns-then-level-eq0 : goal.returns-then-level-eq0

@@ -1,6 +1,5 @@
 -- `placing::entry` meets its contract. Assumes nothing.
 use mathlib.Core.Path.{sym}
-use borrow.Author.Rules.{rules}
 use Rattle.placing.specs.Walks.{entry_in, entry_wide, entry_past}
 use Rattle.placing.proofs.entry.Goals as goal
 

@@ -1,7 +1,6 @@
 -- `placing::level_of` meets its contract. Assumes nothing.
 use mathlib.Core.Path.{sym}
 use borrow.Author.Tests.{lt-ltb, le-ltb}
-use borrow.Author.Rules.{rules}
 use Rattle.placing.proofs.level_of.Goals as goal
 
 pub returns-then-level-lt4 : goal.returns-then-level-lt4

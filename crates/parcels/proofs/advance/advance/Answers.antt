@@ -2,7 +2,7 @@
 -- Assumes nothing.
 use mathlib.Core.Path.{refl}
 use borrow.Author.Tests.{not-true, not-false}
-use Rattle.parcels.specs.Advancing.{Upto, left_of, upto_start, upto_size, upto_within, upto_standing, upto_on, upto_less, upto_held, advanced}
+use Rattle.parcels.specs.Advancing.{upto_start, upto_size, upto_within, upto_standing, upto_on, upto_less, upto_held, advanced}
 use Rattle.parcels.proofs.advance.advance.Goals as goal
 
 pub loop-x-init : goal.loop-x-init
@@ -13,11 +13,11 @@ loop-x-init c =
 
 pub go_on-x-requires : goal.go_on-x-requires
 go_on-x-requires c =
-    (upto_standing _ _ _ _ _ _ _ c.loop-x.invariant (c.loop-x-test.true), upto_within _ _ _ _ _ _ _ c.loop-x.invariant)
+    (upto_standing _ _ _ _ _ _ _ c.loop-x.invariant (not-true _ c.loop-x-test.true), upto_within _ _ _ _ _ _ _ c.loop-x.invariant)
 
 pub loop-x-smaller : goal.loop-x-smaller
 loop-x-smaller c =
-    upto_less _ _ _ _ _ _ _ c.loop-x.invariant _ _ _ c.go_on-x.ensures (c.loop-x-test.true)
+    upto_less _ _ _ _ _ _ _ c.loop-x.invariant _ _ _ c.go_on-x.ensures (not-true _ c.loop-x-test.true)
 
 pub loop-x-preserved : goal.loop-x-preserved
 loop-x-preserved c =
@@ -25,7 +25,7 @@ loop-x-preserved c =
 
 pub hold-requires : goal.hold-requires
 hold-requires c =
-    (upto_size _ _ _ _ _ _ _ c.loop-x.invariant, c.loop-x.invariant.onward.sized, upto_within _ _ _ _ _ _ _ c.loop-x.invariant, c.loop-x.invariant.last (c.loop-x-test.false))
+    (upto_size _ _ _ _ _ _ _ c.loop-x.invariant, c.loop-x.invariant.onward.sized, upto_within _ _ _ _ _ _ _ c.loop-x.invariant, c.loop-x.invariant.last (not-false _ c.loop-x-test.false))
 
 pub shape_of-store : goal.shape_of-store
 shape_of-store c =

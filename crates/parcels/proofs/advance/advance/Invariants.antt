@@ -1,8 +1,6 @@
 -- `parcels::advance::advance` reads a parcel part by part; what is left of it grows less.
 -- Assumes nothing.
-use mathlib.Core.Path.{refl}
-use borrow.Author.Tests.{not-true, not-false}
-use Rattle.parcels.specs.Advancing.{Upto, left_of, upto_start, upto_size, upto_within, upto_standing, upto_on, upto_less, upto_held, advanced}
+use Rattle.parcels.specs.Advancing.{Upto, left_of}
 use Rattle.parcels.proofs.advance.advance.Given as goal
 
 abbrev pub invariant-loop-x : goal.invariant-loop-x

@@ -3,11 +3,9 @@
 use Prim.Native.Nat.{◌-◌}
 use mathlib.Core.Path.{sym, ◌∙◌}
 use native.Mathlib.Omega.{arith}
-use borrow.Author.Tests.{not-true, not-false}
 use lib.ListN.{length, take, drop}
 use Rattle.laws.specs.Lists.{rest_is}
 use Rattle.parcels.specs.Holding.{awaited_is, tail_fits, held_final, held_on}
-use borrow.Author.Rules.{rules}
 use Rattle.parcels.proofs.advance.hold.Goals as goal
 
 pub returns-then-not-is_awaited : goal.returns-then-not-is_awaited

@@ -1,7 +1,6 @@
 use Rattle.placing.specs.Tables.{tables}
 use Rattle.parcel_store.specs.Store.{stand_of}
 use Rattle.parcels.specs.OneSegment.{turn_lent}
-use borrow.Author.Rules.{rules}
 use Rattle.parcels.proofs.passing.lent_turn.Goals as goal
 
 pub returns : goal.returns

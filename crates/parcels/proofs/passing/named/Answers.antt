@@ -1,6 +1,5 @@
 -- `parcels::passing::named` gives the refusal as the final answer.
 -- Assumes nothing.
-use borrow.Author.Rules.{rules}
 use Rattle.parcels.proofs.passing.named.Goals as goal
 
 pub returns : goal.returns

@@ -6,9 +6,8 @@ use lib.ListN.{length, take}
 use lib.Seq.{length-take-le}
 use Rattle.parcel_store.specs.Store.{stand_of}
 use Rattle.parcels.specs.Onward.{Onward}
-use Rattle.parcels.specs.Passing.{ReadyPiece, Faster}
+use Rattle.parcels.specs.Passing.{Faster}
 use Rattle.parcels.specs.OneSegment.{cut_short, cut_room, cut_is, cut_ready, cut_rest}
-use borrow.Author.Rules.{rules}
 use Rattle.parcels.proofs.passing.pass_cut.Goals.{After-bytes_of, After-put_bytes, After-put_bytes-2, Start}
 use Rattle.parcels.proofs.passing.pass_cut.Goals as goal
 

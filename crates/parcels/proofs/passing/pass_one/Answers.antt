@@ -1,15 +1,9 @@
 use mathlib.Core.Path.{◌≡◌, sym}
-use Prim.Native.Nat.{ℕ, ◌+◌, ◌-◌, ◌≤◌}
+use Prim.Native.Nat.{◌+◌, ◌-◌, ◌≤◌}
 use native.Mathlib.Omega.{arith}
 use lib.ListN.{length, take}
-use Rattle.answers.specs.declared.Refusal.{Refusal}
-use Rattle.steps.specs.declared.state.State.{State}
-use Rattle.steps.specs.declared.state.Row.{Row}
-use Rattle.interchange.specs.declared.turn.Turn.TheVariants.{On, Stop}
 use Rattle.parcel_store.specs.Store.{part_size}
-use Rattle.parcels.specs.Passing.{Ready}
 use Rattle.parcels.specs.OneSegment.{length_whole, good_within, length_good, short_good, good_onward, good_faster, bad_within, bad_onward}
-use borrow.Author.Rules.{rules}
 use Rattle.parcels.proofs.passing.pass_one.Goals.{After-lent_turn, In-On, In-Stop, Start}
 use Rattle.parcels.proofs.passing.pass_one.Goals as goal
 

@@ -17,7 +17,6 @@ use Rattle.parcels.specs.declared.passing.Progress.{Progress}
 use Rattle.parcels.specs.Onward.{Onward}
 use Rattle.parcels.specs.Passing.{Faster}
 use Rattle.parcels.specs.Stretches.{within, most, placed, stretch_sound, stretch_faulted}
-use borrow.Author.Rules.{rules}
 use Rattle.parcels.proofs.passing.pass_stretch.Goals.{After-read_stretch-stretch, Start}
 use Rattle.parcels.proofs.passing.pass_stretch.Goals as goal
 

@@ -1,5 +1,4 @@
 use Rattle.parcels.specs.OneSegment.{passed_is, passed_left}
-use borrow.Author.Rules.{rules}
 use Rattle.parcels.proofs.passing.passed.Goals as goal
 
 pub returns : goal.returns

@@ -1,7 +1,6 @@
 use mathlib.Core.Path.{ap, ◌∙◌}
 use Rattle.laws.specs.Put.{put_at}
 use Rattle.parcels.specs.OneSegment.{put_zeros}
-use borrow.Author.Rules.{rules}
 use Rattle.parcels.proofs.passing.put_part.Goals as goal
 
 pub returns : goal.returns

@@ -2,16 +2,13 @@
 -- Assumes nothing.
 use mathlib.Core.Path.{◌≡◌, sym, ap, ◌∙◌}
 use mathlib.Core.Bool.{false}
-use mathlib.Core.List.{List}
-use Prim.Native.Nat.{ℕ, ◌-◌, ◌<◌, min}
+use Prim.Native.Nat.{◌-◌, min}
 use native.Mathlib.Omega.{arith}
 use lib.ListN.{length}
 use Rattle.interchange.specs.Reader.{is_closed}
-use Rattle.parcels.specs.declared.passing.Progress.{Progress}
 use Rattle.parcels.specs.Onward.{named_at}
 use Rattle.parcels.specs.NextPiece.{Taken, most_taken, went_none, went_three, went_closed, went_unended, next_ready, went_on}
-use borrow.Author.Rules.{rules}
-use Rattle.parcels.proofs.pieces.go_on.Goals.{After-is_closed, After-least-n, Start}
+use Rattle.parcels.proofs.pieces.go_on.Goals.{After-least-n}
 use Rattle.parcels.proofs.pieces.go_on.Goals as goal
 
 -- the piece that is looked at
@@ -23,8 +20,6 @@ module _ (m : After-least-n) where
   most =
       most_taken m.args.parcel.now m.args.x m.args.store.now m.args.rows.now m.requires.0 m.if-left-eq0.false m.if-arrived-ge-INTERCHANGE.false m.least-n.result
       (m.least-n.ensures ∙ ap (min (length m.args.parcel.now - m.args.x.at)) m.least.ensures)
-
-
 
 pub returns-then-left-eq0 : goal.returns-then-left-eq0
 returns-then-left-eq0 c =
@@ -46,7 +41,6 @@ returns-then-is_closed c =
 pub overflow_add-piece : goal.overflow_add-piece
 overflow_add-piece c =
     let i = (most (goal.at.overflow_add-piece c).After-least-n).inside in
-    let h = c.good.1.1.0.0 in
     omega arith
 
 pub unended-requires : goal.unended-requires
@@ -60,7 +54,7 @@ returns-then-end-n c =
 pub pass_piece-requires : goal.pass_piece-requires
 pass_piece-requires c =
     next_ready c.args.parcel.now c.args.x c.args.store.now c.args.rows.now c.requires.0 c.if-left-eq0.false (opened (goal.at.pass_piece-requires c).After-least-n) c.least-n.result (most (goal.at.pass_piece-requires c).After-least-n)
-    c.find_terminator-end.result.at c.find_terminator-end.ensures.0 c.if-end-n.false c.good.1.1.0.0
+    c.find_terminator-end.result.at c.find_terminator-end.ensures.0 c.if-end-n.false (omega arith)
 
 pub returns : goal.returns
 returns c =

@@ -3,7 +3,6 @@
 use mathlib.Core.Path.{sym, ◌∙◌}
 use Prim.Native.Nat.{◌+◌}
 use Rattle.parcels.specs.NextPiece.{onward_front, piece_long, piece_ready, one_ready, one_onward, stretch_ready}
-use borrow.Author.Rules.{rules}
 use Rattle.parcels.proofs.pieces.pass_piece.Goals as goal
 
 pub slice_bounds-pass_cut-end : goal.slice_bounds-pass_cut-end
@@ -20,7 +19,7 @@ pub returns-then-kept-gt0 : goal.returns-then-kept-gt0
 returns-then-kept-gt0 c =
     let a = c.args in
     let r = c.pass_cut in
-    (onward_front (a.end + 1) a.piece.now a.x a.store.now a.rows.now r.result r.new.0 r.new.1.1.1.0 r.ensures.0, r.ensures.1)
+    (onward_front (a.end + 1) a.piece.now a.x a.store.now a.rows.now r.result r.new.store r.new.rows r.ensures.0, r.ensures.1)
 
 pub slice_bounds-pass_cut-end-then-kept : goal.slice_bounds-pass_cut-end-then-kept
 slice_bounds-pass_cut-end-then-kept c =
@@ -36,7 +35,7 @@ pub returns-then-kept : goal.returns-then-kept
 returns-then-kept c =
     let a = c.args in
     let r = c.pass_cut-then-kept in
-    (onward_front (a.end + 1) a.piece.now a.x a.store.now a.rows.now r.result r.new.0 r.new.1.1.1.0 r.ensures.0, r.ensures.1)
+    (onward_front (a.end + 1) a.piece.now a.x a.store.now a.rows.now r.result r.new.store r.new.rows r.ensures.0, r.ensures.1)
 
 pub pass_stretch-requires : goal.pass_stretch-requires
 pass_stretch-requires c =
@@ -57,4 +56,4 @@ pub returns : goal.returns
 returns c =
     let a = c.args in
     let r = c.pass_one in
-    (one_onward a.x a.store.now a.piece.now a.end c.requires c.if-kept-gt0.false a.rows.now r.result r.new.0 r.new.1.1.1.0 r.ensures.0, r.ensures.1)
+    (one_onward a.x a.store.now a.piece.now a.end c.requires c.if-kept-gt0.false a.rows.now r.result r.new.store r.new.rows r.ensures.0, r.ensures.1)

@@ -3,7 +3,6 @@
 use mathlib.Core.Path.{sym, ap, ◌∙◌}
 use Rattle.parcels.specs.Onward.{named_at}
 use Rattle.parcels.specs.NextPiece.{unended_halted, unended_three, unended_long}
-use borrow.Author.Rules.{rules}
 use Rattle.parcels.proofs.pieces.unended.Goals as goal
 
 pub returns-then-left-n : goal.returns-then-left-n

@@ -1,11 +1,9 @@
 -- `parcels::rows::put_rows` copies a row in each turn, its offset raised.
 -- Assumes nothing.
-use Prim.Native.Nat.{◌+◌, ◌-◌, ◌%◌, ◌≤◌, ◌<◌}
-use mathlib.Core.Path.{◌≡◌, refl, sym, ◌∙◌}
+use mathlib.Core.Path.{refl, sym, ◌∙◌}
 use native.Mathlib.Omega.{arith}
-use lib.ListN.{length, take, length-set}
-use Rattle.laws.specs.Put.{put_at}
-use Rattle.parcels.specs.Rows.{raised, left_from, raise_none, raise_start, raise_step, raise_done}
+use lib.ListN.{length-set}
+use Rattle.parcels.specs.Rows.{raise_none, raise_start, raise_step, raise_done}
 use Rattle.parcels.proofs.rows.put_rows.Goals as goal
 
 pub returns-then-rows-n : goal.returns-then-rows-n

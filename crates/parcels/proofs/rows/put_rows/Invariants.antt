@@ -1,11 +1,10 @@
 -- `parcels::rows::put_rows` copies a row in each turn, its offset raised.
 -- Assumes nothing.
 use Prim.Native.Nat.{◌+◌, ◌-◌, ◌%◌, ◌≤◌, ◌<◌}
-use mathlib.Core.Path.{◌≡◌, refl, sym, ◌∙◌}
-use native.Mathlib.Omega.{arith}
-use lib.ListN.{length, take, length-set}
+use mathlib.Core.Path.{◌≡◌}
+use lib.ListN.{length, take}
 use Rattle.laws.specs.Put.{put_at}
-use Rattle.parcels.specs.Rows.{raised, left_from, raise_none, raise_start, raise_step, raise_done}
+use Rattle.parcels.specs.Rows.{raised, left_from}
 use Rattle.parcels.proofs.rows.put_rows.Given as goal
 
 abbrev pub invariant-loop-i : goal.invariant-loop-i

@@ -1,7 +1,6 @@
 -- `placing::Place::may_end` meets its contract. Assumes nothing.
 use mathlib.Core.Path.{sym, ap, ◌∙◌}
 use Rattle.placing.specs.Rule.{is_placed}
-use borrow.Author.Rules.{rules}
 use Rattle.placing.proofs.Place.may_end.Goals as goal
 
 pub returns-in-Placed : goal.returns-in-Placed

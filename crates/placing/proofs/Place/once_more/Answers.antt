@@ -5,7 +5,6 @@ use Rattle.placing.specs.declared.Fit.TheVariants.{At, Nowhere}
 use Rattle.placing.specs.declared.Stepped.TheVariants.{Placed}
 use Rattle.placing.specs.Place.{reached_of}
 use Rattle.placing.specs.Walks.{more_fits, more_none}
-use borrow.Author.Rules.{rules}
 use Rattle.placing.proofs.Place.once_more.Goals as goal
 
 pub returns-in-At : goal.returns-in-At

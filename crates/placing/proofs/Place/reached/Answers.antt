@@ -1,5 +1,4 @@
 -- `placing::Place::reached` meets its contract. Assumes nothing.
-use borrow.Author.Rules.{rules}
 use Rattle.placing.proofs.Place.reached.Goals as goal
 
 pub returns : goal.returns

@@ -1,9 +1,6 @@
 -- `placing::Place::step` meets its contract. Assumes nothing.
-use mathlib.Core.Path.{◌≡◌, sym, ◌∙◌}
-use borrow.Author.Rules.{rules}
+use mathlib.Core.Path.{◌≡◌}
 use Rattle.placing.specs.Rule.{choices_from, first_of, step_of}
-use Rattle.placing.specs.Said.{step_said}
-use Rattle.placing.specs.Walks.{turn_here, turn_out, turn_last, turn_up, step_start}
 use Rattle.placing.proofs.Place.step.Given as goal
 
 abbrev pub invariant-loop-q : goal.invariant-loop-q

@@ -1,0 +1,10 @@
+-- `days_text` is safe and ends.
+-- Assumes nothing.
+use Prim.Native.Nat.{◌-◌, ◌≤◌}
+use Rattle.pop_cases.proofs.days_text.Given as goal
+
+abbrev pub invariant-loop-k : goal.invariant-loop-k
+invariant-loop-k l = l.k ≤ 512
+
+abbrev pub decreases-loop-k : goal.decreases-loop-k
+decreases-loop-k l = 512 - l.k

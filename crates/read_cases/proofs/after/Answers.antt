@@ -1,0 +1,22 @@
+-- `read_cases::after` stands past the sign.
+-- Assumes nothing.
+use mathlib.Core.Path.{ap}
+use native.Mathlib.Omega.{arith}
+use Rattle.lines.specs.declared.coded.Sign.{Sign}
+use Rattle.lines.specs.Lines.{past_forward}
+use Rattle.lines.specs.Coded.{sign_forward}
+use Rattle.read_cases.proofs.after.Goals as goal
+
+pub returns-then-line-i-eq123 : goal.returns-then-line-i-eq123
+returns-then-line-i-eq123 c =
+    let a = c.args in
+    let h = past_forward a.line.now a.i 124 c.requires in
+    let e = c.past.ensures in
+    omega arith
+
+pub returns : goal.returns
+returns c =
+    let a = c.args in
+    let h = sign_forward a.line.now a.i c.requires in
+    let e = ap (λ (x : Sign). x.next) c.sign_at.ensures in
+    omega arith
