@@ -1,2 +1,1 @@
 pub mod OneArrangement
-pub mod Messages

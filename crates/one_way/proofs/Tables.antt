@@ -12,7 +12,7 @@ use Rattle.placing.specs.Tsdupd12B.{tsdupd_12b_table}
 use Rattle.placing.specs.Tables.{table_of, skdupd_own, tsdupd_own, tsdupd_12b_own}
 use Rattle.one_way.specs.Placings.{first_choices}
 use Rattle.one_way.specs.Test.{OneFits, differ, one_way}
-use Rattle.one_way.specs.Theorems.{tested}
+use Rattle.one_way.proofs.Theorems.{tested}
 
 -- what the theorems ask of a table of messages
 pub record OneWayTable (t : Table) : Type 0 where

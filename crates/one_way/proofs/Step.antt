@@ -15,8 +15,8 @@ use Rattle.placing.specs.WellFormed.{well_formed}
 use Rattle.placing.specs.Formed.{trigger, trigger_in, segment_fits, group_fits}
 use Rattle.placing.specs.Message.{kept_inner, level_most}
 use Rattle.one_way.specs.Test.{fitting_tag}
-use Rattle.one_way.specs.Reach.{Reach, level, Found, at, nowhere, entered, held_trigger}
-use Rattle.one_way.specs.Levels.{levels, reach_of, above, Open, OpenAbove, Inside, levels_here, open_here}
+use Rattle.one_way.proofs.Reach.{Reach, level, Found, at, nowhere, entered, held_trigger}
+use Rattle.one_way.proofs.Levels.{levels, reach_of, above, Open, OpenAbove, Inside, levels_here, open_here}
 
 -- the two answers are the same
 abbrev pub Same : Table → Stepped → Found → Type 0

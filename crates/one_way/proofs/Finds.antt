@@ -8,10 +8,10 @@ use Rattle.placing.specs.Table.{Table, is_group, most}
 use Rattle.placing.specs.WellFormed.{well_formed}
 use Rattle.one_way.specs.Arrangement.{segment, group, Times, nothing, ◌&◌, Arrangement, end, ◌▸◌, tags_of, where_in}
 use Rattle.one_way.specs.Test.{fitting_tag}
-use Rattle.one_way.specs.Reach.{Reach, outside, level, path, ways, ways_in, fitting, at, first_fit, may_pass, entered, ends_in, may_end, placed, behind, onward, put, fit_first, fit_later, here, passed, inner, way_in, ways_pass, tag_segment, entered_segment, ways_inner}
-use Rattle.one_way.specs.Left.{Left, tags_left, where_left, by_moves, tags_group, where_next, where_group, segment_at_lem, group_at}
-use Rattle.one_way.specs.Begins.{inside, begins, tags_headed}
-use Rattle.one_way.specs.Clear.{Clear, clear_pass, goes_in, clear_segment, clear_inner}
+use Rattle.one_way.proofs.Reach.{Reach, outside, level, path, ways, ways_in, fitting, at, first_fit, may_pass, entered, ends_in, may_end, placed, behind, onward, put, fit_first, fit_later, here, passed, inner, way_in, ways_pass, tag_segment, entered_segment, ways_inner}
+use Rattle.one_way.proofs.Left.{Left, tags_left, where_left, by_moves, tags_group, where_next, where_group, segment_at_lem, group_at}
+use Rattle.one_way.proofs.Begins.{inside, begins, tags_headed}
+use Rattle.one_way.proofs.Clear.{Clear, clear_pass, goes_in, clear_segment, clear_inner}
 
 put_end : (t : Table) (n : ℕ) (r : Reach) (w : List ℕ) → put t (level [] n r) w ≡ put t r w
 unfolding put ways ways_in may_end ends_in

@@ -5,7 +5,7 @@ use borrow.Author.Tests.{eqb-true, lt-ltb, le-leb, ltb-true, leb-true, not-true}
 use Rattle.laws.specs.Choice.{both, both_parts, false≢true}
 use Rattle.placing.specs.Table.{Table, tag_at, is_group, most, held}
 use Rattle.one_way.specs.Arrangement.{Standing, segment, group, Times, nothing, ◌&◌, Arrangement, end, ◌▸◌, times_of, may_stand, stands_at, all_stand, is_arranged, tags_all, tags_of, Where, where_all, where_in}
-use Rattle.one_way.specs.Reach.{Reach, outside, level, path, may_pass, pass_some}
+use Rattle.one_way.proofs.Reach.{Reach, outside, level, path, may_pass, pass_some}
 
 -- what is left at a place that came n times already
 abbrev pub Fills : Times → Table → ℕ → ℕ → Type 0

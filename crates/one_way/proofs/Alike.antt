@@ -22,9 +22,9 @@ use Rattle.placing.specs.Message.{Stands, next_stands}
 use Rattle.one_way.specs.Arrangement.{outermost}
 use Rattle.one_way.specs.Placings.{before_all, first_choices, first_place}
 use Rattle.one_way.specs.Test.{fitting_tag, tag_of, choices_fitting}
-use Rattle.one_way.specs.Reach.{Reach, Way, to, more, Found, at, nowhere, first_fit, fitting, may_pass, pass_some, entered, ways_in, ways, start}
-use Rattle.one_way.specs.Levels.{levels, reach_of, above, Open, OpenAbove, Inside}
-use Rattle.one_way.specs.Step.{Same, Leads, one_same}
+use Rattle.one_way.proofs.Reach.{Reach, Way, to, more, Found, at, nowhere, first_fit, fitting, may_pass, pass_some, entered, ways_in, ways, start}
+use Rattle.one_way.proofs.Levels.{levels, reach_of, above, Open, OpenAbove, Inside}
+use Rattle.one_way.proofs.Step.{Same, Leads, one_same}
 
 same_or : (t : Table) (a c : Stepped) (b : Bool) (r : Reach) (f : Found) → Same t a (pick b (at r) nowhere) → Same t c f → Same t (or_stepped a c) (pick b (at r) f)
 same_or t (Placed q) c true r f h k = h

@@ -11,12 +11,12 @@ use Rattle.placing.specs.WellFormed.{well_formed}
 use Rattle.placing.specs.Formed.{standing}
 use Rattle.one_way.specs.Placings.{first_place}
 use Rattle.one_way.specs.Test.{Reached, first, next, OneFits}
-use Rattle.one_way.specs.Reach.{Reach, at, first_fit, fitting, ways, Sane, places_in, start}
-use Rattle.one_way.specs.Clear.{Clear}
-use Rattle.one_way.specs.Levels.{levels, reach_of}
-use Rattle.one_way.specs.Step.{Same}
-use Rattle.one_way.specs.Alike.{step_same, fits_same, first_same, first_fits_same}
-use Rattle.one_way.specs.Tested.{reached_inside}
+use Rattle.one_way.proofs.Reach.{Reach, at, first_fit, fitting, ways, Sane, places_in, start}
+use Rattle.one_way.proofs.Clear.{Clear}
+use Rattle.one_way.proofs.Levels.{levels, reach_of}
+use Rattle.one_way.proofs.Step.{Same}
+use Rattle.one_way.proofs.Alike.{step_same, fits_same, first_same, first_fits_same}
+use Rattle.one_way.proofs.Tested.{reached_inside}
 
 sane_levels : (t : Table) (good : T (well_formed t)) (p : Place) (l row : ℕ) → row < rows t → level_of t row ≡ l → Sane t (levels l t p row)
 unfolding levels

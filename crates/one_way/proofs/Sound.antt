@@ -12,8 +12,8 @@ use Rattle.placing.specs.WellFormed.{well_formed}
 use Rattle.placing.specs.Formed.{trigger}
 use Rattle.one_way.specs.Arrangement.{segment, group, nothing, ◌&◌, Arrangement, end, ◌▸◌, stands_at, is_arranged, tags_of, Where, where_in}
 use Rattle.one_way.specs.Test.{fitting_tag}
-use Rattle.one_way.specs.Reach.{Reach, outside, level, path, Way, to, more, Found, at, nowhere, first_fit, may_pass, entered, ways, ways_in, ends_in, may_end, placed, refused, onward, put, placed_parts, here, passed, inner, Sane, held_in, held_trigger}
-use Rattle.one_way.specs.Left.{Left, tags_left, where_left, where_next, tags_group, where_group, from_left}
+use Rattle.one_way.proofs.Reach.{Reach, outside, level, path, Way, to, more, Found, at, nowhere, first_fit, may_pass, entered, ways, ways_in, ends_in, may_end, placed, refused, onward, put, placed_parts, here, passed, inner, Sane, held_in, held_trigger}
+use Rattle.one_way.proofs.Left.{Left, tags_left, where_left, where_next, tags_group, where_group, from_left}
 
 -- what is left may be arranged so that these are its tags and its places
 pub record Has (t : Table) (r : Reach) (w : List ℕ) (p : List Where) : Type 0 where

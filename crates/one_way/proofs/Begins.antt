@@ -9,8 +9,8 @@ use Rattle.placing.specs.WellFormed.{well_formed}
 use Rattle.placing.specs.Formed.{trigger}
 use Rattle.one_way.specs.Arrangement.{segment, group, Times, nothing, ◌&◌, Arrangement, end, ◌▸◌, stands_at, is_arranged, tags_all, tags_of}
 use Rattle.one_way.specs.Test.{fitting_tag}
-use Rattle.one_way.specs.Reach.{Reach, outside, level, ways, ways_in, fitting, may_pass, entered, fit_alone, more_fitting, here, passed, inner, way_in, ways_pass, ways_again, tag_segment, Sane, held_trigger, held_in, ways_inner}
-use Rattle.one_way.specs.Left.{LeftIn, Left, tags_left, by_moves, tags_group, segment_at_lem, group_at, to_left}
+use Rattle.one_way.proofs.Reach.{Reach, outside, level, ways, ways_in, fitting, may_pass, entered, fit_alone, more_fitting, here, passed, inner, way_in, ways_pass, ways_again, tag_segment, Sane, held_trigger, held_in, ways_inner}
+use Rattle.one_way.proofs.Left.{LeftIn, Left, tags_left, by_moves, tags_group, segment_at_lem, group_at, to_left}
 
 module _ (t : Table) (good : T (well_formed t)) where
   -- what is left inside a group that is entered

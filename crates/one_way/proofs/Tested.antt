@@ -17,10 +17,10 @@ use Rattle.placing.specs.WellFormed.{well_formed}
 use Rattle.placing.specs.Message.{level_most}
 use Rattle.one_way.specs.Placings.{before_all, first_choices}
 use Rattle.one_way.specs.Test.{Reached, first, next, choices_fitting, OneFits, first_time, fitting_tag, tag_of, differ, one_way}
-use Rattle.one_way.specs.Reach.{Reach, outside, Way, to, more, Found, at as found, nowhere, first_fit, fitting, may_pass, entered, ways_in, ways, start}
-use Rattle.one_way.specs.Levels.{levels, reach_of, Open, Inside}
-use Rattle.one_way.specs.Step.{Same}
-use Rattle.one_way.specs.Alike.{Alike, choices_alike, step_same, fits_same, first_alike, first_same, first_fits_same}
+use Rattle.one_way.proofs.Reach.{Reach, outside, Way, to, more, Found, at as found, nowhere, first_fit, fitting, may_pass, entered, ways_in, ways, start}
+use Rattle.one_way.proofs.Levels.{levels, reach_of, Open, Inside}
+use Rattle.one_way.proofs.Step.{Same}
+use Rattle.one_way.proofs.Alike.{Alike, choices_alike, step_same, fits_same, first_alike, first_same, first_fits_same}
 
 -- Every place reached is inside
 

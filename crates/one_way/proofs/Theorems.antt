@@ -10,13 +10,13 @@ use Rattle.placing.specs.Envelope.{MessageTable}
 use Rattle.one_way.specs.Arrangement.{Arrangement, tags_of, outermost, is_arrangement, standings}
 use Rattle.one_way.specs.Placings.{all_placed, where_placed, uih_to_uit}
 use Rattle.one_way.specs.Test.{OneFits, one_way}
-use Rattle.one_way.specs.Reach.{start}
-use Rattle.one_way.specs.Left.{tags_left, to_left}
-use Rattle.one_way.specs.Only.{only}
-use Rattle.one_way.specs.Tested.{one_fits}
-use Rattle.one_way.specs.Begun.{Fine, clear, clear_start}
-use Rattle.one_way.specs.Walked.{put_placings, placings_put}
-use Rattle.one_way.specs.Whole.{put_arranged, put_has}
+use Rattle.one_way.proofs.Reach.{start}
+use Rattle.one_way.proofs.Left.{tags_left, to_left}
+use Rattle.one_way.proofs.Only.{only}
+use Rattle.one_way.proofs.Tested.{one_fits}
+use Rattle.one_way.proofs.Begun.{Fine, clear, clear_start}
+use Rattle.one_way.proofs.Walked.{put_placings, placings_put}
+use Rattle.one_way.proofs.Whole.{put_arranged, put_has}
 
 module _ (t : Table) (good : T (well_formed t)) where
   -- the computed test is enough for what the theorems ask

@@ -7,7 +7,7 @@ use Rattle.laws.specs.Choice.{pick}
 use Rattle.placing.specs.Table.{Table, is_group, most}
 use Rattle.placing.specs.WellFormed.{well_formed}
 use Rattle.one_way.specs.Test.{fitting_tag}
-use Rattle.one_way.specs.Reach.{Reach, level, Way, more, ways, fitting, at, first_fit, may_pass, entered, fit_some, fit_first, fit_alone, alone_fits, more_fitting, fit_later, not_both, here, passed, inner, way_in, ways_pass, ways_again, entered_segment, Sane, held_in, ways_inner}
+use Rattle.one_way.proofs.Reach.{Reach, level, Way, more, ways, fitting, at, first_fit, may_pass, entered, fit_some, fit_first, fit_alone, alone_fits, more_fitting, fit_later, not_both, here, passed, inner, way_in, ways_pass, ways_again, entered_segment, Sane, held_in, ways_inner}
 
 module _ (t : Table) (Fine : Reach → Type 0) where
   pub record Clear (r : Reach) : Type 0 where

@@ -9,10 +9,10 @@ use Rattle.placing.specs.Table.{Table}
 use Rattle.placing.specs.WellFormed.{well_formed}
 use Rattle.one_way.specs.Arrangement.{segment, group, Times, nothing, ◌&◌, Arrangement, end, ◌▸◌, tags_of}
 use Rattle.one_way.specs.Test.{fitting_tag}
-use Rattle.one_way.specs.Reach.{Reach, outside, level, ways, ways_in, passed, inner, tag_segment}
-use Rattle.one_way.specs.Begins.{inside, begins, tags_headed}
-use Rattle.one_way.specs.Clear.{Clear, clear_pass, clear_segment, clear_inner, apart}
-use Rattle.one_way.specs.Left.{Left, tags_left, by_moves, tags_group, segment_at_lem, group_at}
+use Rattle.one_way.proofs.Reach.{Reach, outside, level, ways, ways_in, passed, inner, tag_segment}
+use Rattle.one_way.proofs.Begins.{inside, begins, tags_headed}
+use Rattle.one_way.proofs.Clear.{Clear, clear_pass, clear_segment, clear_inner, apart}
+use Rattle.one_way.proofs.Left.{Left, tags_left, by_moves, tags_group, segment_at_lem, group_at}
 
 next_tags : (a : Arrangement) (m : List Arrangement) → tags_left (a ∷ m) ≡ tags_left ((nothing ▸ a) ∷ m)
 unfolding tags_of tags_left

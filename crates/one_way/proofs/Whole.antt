@@ -16,12 +16,12 @@ use Rattle.placing.specs.Envelope.{MessageTable}
 use Rattle.one_way.specs.Arrangement.{Arrangement, Where, tags_of, outermost, is_arrangement, standings}
 use Rattle.one_way.specs.Placings.{before_all, first_choices, first_place}
 use Rattle.one_way.specs.Test.{OneFits}
-use Rattle.one_way.specs.Reach.{path, start, placed, put}
-use Rattle.one_way.specs.Left.{Left, tags_left, where_left, where_from_lem, to_left, from_left}
-use Rattle.one_way.specs.Finds.{finds}
-use Rattle.one_way.specs.Sound.{has}
-use Rattle.one_way.specs.Alike.{flat}
-use Rattle.one_way.specs.Begun.{start_sane, Fine, clear, clear_start}
+use Rattle.one_way.proofs.Reach.{path, start, placed, put}
+use Rattle.one_way.proofs.Left.{Left, tags_left, where_left, where_from_lem, to_left, from_left}
+use Rattle.one_way.proofs.Finds.{finds}
+use Rattle.one_way.proofs.Sound.{has}
+use Rattle.one_way.proofs.Alike.{flat}
+use Rattle.one_way.proofs.Begun.{start_sane, Fine, clear, clear_start}
 
 module _ (t : Table) (good : T (well_formed t)) where
   pub put_arranged : OneFits t → (a : Arrangement) → is_arrangement t a ≡ true → put t (start t) (tags_of a) ≡ placed (standings t a)

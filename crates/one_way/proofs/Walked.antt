@@ -15,10 +15,10 @@ use Rattle.placing.specs.WellFormed.{well_formed}
 use Rattle.placing.specs.Laws.{only_at, only_there}
 use Rattle.one_way.specs.Arrangement.{Where}
 use Rattle.one_way.specs.Placings.{walked, first_place, placings, all_placed, where_on, where_of, where_placed}
-use Rattle.one_way.specs.Reach.{Reach, outside, level, path, Found, at, nowhere, first_fit, ways, start, pass_some, ends_in, may_end, placed, refused, behind, onward, put, placed_parts}
-use Rattle.one_way.specs.Levels.{levels, reach_of, Open, Inside}
-use Rattle.one_way.specs.Step.{Same}
-use Rattle.one_way.specs.Alike.{step_same, first_same}
+use Rattle.one_way.proofs.Reach.{Reach, outside, level, path, Found, at, nowhere, first_fit, ways, start, pass_some, ends_in, may_end, placed, refused, behind, onward, put, placed_parts}
+use Rattle.one_way.proofs.Levels.{levels, reach_of, Open, Inside}
+use Rattle.one_way.proofs.Step.{Same}
+use Rattle.one_way.proofs.Alike.{step_same, first_same}
 
 path_levels : (t : Table) (p : Place) (l row : ℕ) → path (levels l t p row) ≡ where_on l t p row
 unfolding levels path where_on

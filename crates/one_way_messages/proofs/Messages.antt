@@ -17,10 +17,10 @@ use Rattle.acceptance.specs.Within.{to_parts}
 use Rattle.acceptance.specs.Theorems.{only_when}
 use Rattle.one_way.specs.Arrangement.{Arrangement, is_arrangement, tags_of, standings}
 use Rattle.one_way.specs.Placings.{walked, placings, all_placed, where_on, where_of}
-use Rattle.one_way.specs.Theorems.{at_most_one, arranged_when, exactly_when}
-use Rattle.one_way.specs.Whole.{uih_free, uih_first}
+use Rattle.one_way.proofs.Theorems.{at_most_one, arranged_when, exactly_when}
+use Rattle.one_way.proofs.Whole.{uih_free, uih_first}
 use Rattle.one_way_messages.specs.OneArrangement.{table_for, tags_in, places_read, row_in, group_standing, OneArrangement, EachOneWay}
-use Rattle.one_way.specs.Tables.{own_one_way}
+use Rattle.one_way.proofs.Tables.{own_one_way}
 
 -- The reader's walk is the walk of the tags
 
