@@ -6,7 +6,7 @@ use Rattle.std.proofs.Common.{sym, ap, ◌∙◌, add-zero, zero-add}
 use mathlib.Core.List.{List, [], ◌∷◌, ◌++◌, map, append-nil}
 use native.Mathlib.Omega.{arith}
 use Rattle.std.proofs.Math.ListN.{length, length-append}
-use Rattle.laws.specs.Choice.{both, all, both_comm, both_parts}
+use Rattle.laws.specs.Choice.{pick, both, all, both_comm, both_parts}
 use Rattle.syntax.specs.Segment.{tag_number}
 use Rattle.placing.specs.declared.Place.{Place}
 use Rattle.placing.specs.declared.Stepped.{Stepped}
@@ -100,14 +100,21 @@ module _ (t : Table) (none : NoService t) where
 
 -- a message, then those behind it
 module _ (at : ℕ) (m : Message) where
-  message_begins : beginnings at (groups_in m) ≡ groups_at at m
+  -- one whose table has no service begins none
+  other_begins : (t : Table) → NoService t → table_of (message_type_of m) ≡ t → is_skdupd (message_type_of m) ≡ false → beginnings at (groups_in m) ≡ groups_at at m
   unfolding beginnings
+  other_begins t none e k =
+      ap (λ (x : Table). beginnings (at + length m.heading + 1) (map (with_group x) (places_from x (Placed start_place) (m.within ++ (m.trailer ∷ []))))) e
+      ∙ table_none t none (at + length m.heading + 1) (Placed start_place) (m.within ++ (m.trailer ∷ []))
+      ∙ sym (ap (λ (b : Bool). pick b (beginnings at (groups_in m)) []) k)
+
+  message_begins : beginnings at (groups_in m) ≡ groups_at at m
   message_begins = by_type (message_type_of m) refl
     where
       by_type : (t : MessageType) → message_type_of m ≡ t → beginnings at (groups_in m) ≡ groups_at at m
       by_type Skdupd q = rw q
-      by_type Tsdupd q = rw (q, tsdupd_own) (table_none tsdupd_table tsdupd_none (at + length m.heading + 1) (Placed start_place) (m.within ++ (m.trailer ∷ [])))
-      by_type Tsdupd12B q = rw (q, tsdupd_12b_own) (table_none tsdupd_12b_table tsdupd_12b_none (at + length m.heading + 1) (Placed start_place) (m.within ++ (m.trailer ∷ [])))
+      by_type Tsdupd q = other_begins tsdupd_table tsdupd_none (ap table_of q ∙ tsdupd_own) (ap is_skdupd q)
+      by_type Tsdupd12B q = other_begins tsdupd_12b_table tsdupd_12b_none (ap table_of q ∙ tsdupd_12b_own) (ap is_skdupd q)
 
   message_size : at + size (groups_in m) ≡ at + length (segments_written (segments_in m))
   unfolding size segments_written

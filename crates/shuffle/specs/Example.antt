@@ -2,7 +2,6 @@
 -- theorem does not speak of nothing.
 -- Assumes nothing.
 use Rattle.std.specs.Prelude.{◌≡◌, refl, true, false, List, [], ◌∷◌, ℕ, replicate}
-use Prim.Native.String.{String}
 use Rattle.laws.specs.Text.{bytes}
 use Rattle.laws.specs.Joined as lists
 use Rattle.answers.specs.Answers.{Answer, done, refused, naming, wrong_period}

@@ -1,23 +1,23 @@
 -- Demand 3, and what stands beside it: nothing is learnt, nothing is touched, and the calls of a run are the public functions.
 -- Assumes nothing.
-use Rattle.std.specs.Prelude.{◌≡◌, refl, Bool, true, false, List, [], ◌∷◌, ℕ, ◌-◌, ◌<◌, length, take, drop}
+use Rattle.std.specs.Prelude.{◌≡◌, refl, true, false, List, [], ◌∷◌, ℕ, ◌-◌, take, drop}
 use Rattle.std.proofs.Common.{sym, ◌∙◌, ap, arith, get_or-set_same}
 use Rattle.std.proofs.Math.Option.{Option, none, some}
 use Rattle.laws.specs.Choice.{pick, both, choose}
-use Rattle.answers.specs.Answers.{Answer, not_register}
-use Rattle.contents.specs.Contents.{Record, Contents, good, good_account}
+use Rattle.answers.specs.Answers.{not_register}
+use Rattle.contents.specs.Contents.{Record, Contents, good}
 use Rattle.contents.specs.Written.{written, held, is_register}
 use Rattle.contents.specs.Calls.{View, is_account, view_of, with_records, answer_on, bytes_after, output_after}
 use Rattle.rooms.specs.Registers.{good_eight, good_accounts_lem, held_written, register_told, register_when}
 use Rattle.rooms.specs.Slots.{account_fits, account_records}
 use Rattle.rooms.specs.Layout.{good_at, good_lengths, good_with}
 use Rattle.rooms.specs.Views.{room_start, room_end, account_number, view_good, untouched}
-use Rattle.shuffle.specs.Calls.{own, SameForEach, replies, left, Apart, AnyOrder}
-use Rattle.shuffle.specs.Buffer.{on_state, on_buffer, buffer_apart, buffer_any_order}
+use Rattle.shuffle.specs.Calls.{replies, Apart, AnyOrder}
+use Rattle.shuffle.specs.Buffer.{on_buffer, buffer_apart}
 use Rattle.shuffle.specs.Order.{any_order}
-use Rattle.shuffle.specs.Register.{Ask, Reply, asked_answer, records_by, lent_by, output_by, called}
+use Rattle.shuffle.specs.Register.{Ask, Reply, records_by, lent_by, called}
 use Rattle.shuffle.specs.Kept.{keeps}
-use Rattle.shuffle.specs.InContents.{in_contents, by_view, no_account, in_yes, in_no, in_apart}
+use Rattle.shuffle.specs.InContents.{in_contents, by_view, in_yes, in_no, in_apart}
 
 -- what a buffer holds, where it is a register
 unfoldable register_in : List ℕ → Option Contents
