@@ -4,7 +4,5 @@ pub mod SkdupdHints
 pub mod TsdupdHints
 pub mod Hints
 pub mod Told
-pub mod Right
 pub mod Laws
 pub mod Packing
-pub mod Onward

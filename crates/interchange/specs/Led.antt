@@ -7,7 +7,7 @@ use Rattle.syntax.specs.declared.segment.Scanned.TheVariants.{End}
 use Rattle.syntax.specs.Segment.{body_at, tag_number, segment_at}
 use Rattle.period.specs.Period.{is_good, period_of}
 use Rattle.placing.specs.Table.{Table, rows, tag_at}
-use Rattle.hints.specs.Onward.{Onward}
+use Rattle.hints.proofs.Onward.{Onward}
 use Rattle.interchange.specs.Heads.{capital_tag}
 use Rattle.interchange.specs.declared.led.PeriodRow.{PeriodRow}
 use Rattle.interchange.specs.declared.led.Led.{Led}

@@ -10,7 +10,7 @@ use Rattle.placing.specs.Table.{Table, rows, entry_of, tag_at, level_of}
 use Rattle.placing.specs.Place.{count_at}
 use Rattle.hints.specs.Laws.{Stood}
 use Rattle.hints.specs.Packing.{place_of, packed, made, place_packed, five}
-use Rattle.hints.specs.Onward.{Onward, more_fits, onward_row, onward}
+use Rattle.hints.proofs.Onward.{Onward, more_fits, onward_row, onward}
 use Rattle.hints.specs.Told.{right}
 use Rattle.hints.specs.Kinds.{kind_in, kept_bits, kept_mask, bound_of, more_of}
 

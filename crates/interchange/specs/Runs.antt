@@ -21,16 +21,16 @@ use Rattle.placing.specs.Tables as placing
 use Rattle.placing.specs.Skdupd.{skdupd_table}
 use Rattle.placing.specs.Tsdupd.{tsdupd_table}
 use Rattle.placing.specs.Tsdupd12B.{tsdupd_12b_table}
-use Rattle.placing.specs.Laws.{placed_row_lem, placed_tag, placed_segment}
+use Rattle.placing.proofs.Laws.{placed_row_lem, placed_tag, placed_segment}
 use Rattle.hints.specs.Hints.{hints, hints_in, hints_of}
 use Rattle.hints.specs.Hints as hinting
 use Rattle.hints.specs.Hint.{laid_out}
 use Rattle.hints.specs.SkdupdHints.{skdupd_onward, skdupd_hints}
 use Rattle.hints.specs.TsdupdHints.{tsdupd_onward, tsdupd_hints}
 use Rattle.hints.specs.Told.{right}
-use Rattle.hints.specs.Laws.{own_right}
+use Rattle.hints.proofs.Laws.{own_right}
 use Rattle.hints.specs.Packing.{place_of}
-use Rattle.hints.specs.Onward.{Onward}
+use Rattle.hints.proofs.Onward.{Onward}
 use Rattle.period.specs.declared.Period.{Period}
 use Rattle.period.specs.declared.Period.TheVariants as period
 use Rattle.period.specs.Period.{is_good, period_of}

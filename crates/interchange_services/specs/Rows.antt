@@ -20,8 +20,8 @@ use Rattle.placing.specs.Tsdupd12B.{tsdupd_12b_table}
 use Rattle.placing.specs.Tables.{table_of, tsdupd_own, tsdupd_12b_own}
 use Rattle.placing.specs.Place.{start_place}
 use Rattle.placing.specs.Rule.{step_of, place_after}
-use Rattle.placing.specs.Walks.{entry_in}
-use Rattle.placing.specs.Laws.{placed_tag, placed_row_lem}
+use Rattle.placing.proofs.Walks.{entry_in}
+use Rattle.placing.proofs.Laws.{placed_tag, placed_row_lem}
 use Rattle.steps.specs.declared.state.Row.{Row}
 use Rattle.acceptance.specs.Interchange.{segments_written, Message, segments_in, Interchange, each_of, message_type_of, places_from, group_in, with_group, groups_in, rows_from, rows_of}
 use Rattle.services.specs.Rows.{keep}

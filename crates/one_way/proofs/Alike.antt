@@ -15,10 +15,10 @@ use Rattle.placing.specs.declared.Stepped.TheVariants.{Placed, OutOfPlace}
 use Rattle.placing.specs.Table.{Table, rows, conditional, most, level_of, outer, after_of, end_of, places, later}
 use Rattle.placing.specs.Place.{count_at}
 use Rattle.placing.specs.Rule.{reachable, none_left, Choice, go, again, later_ones, choices_from, choices, chosen, or_stepped, first_of, step_of, is_placed}
-use Rattle.placing.specs.Walks.{after_grows, places_end, places_past, places_step}
+use Rattle.placing.proofs.Walks.{after_grows, places_end, places_past, places_step}
 use Rattle.placing.specs.WellFormed.{well_formed}
-use Rattle.placing.specs.Formed.{some_number, standing, unbound}
-use Rattle.placing.specs.Message.{Stands, next_stands}
+use Rattle.placing.proofs.Formed.{some_number, standing, unbound}
+use Rattle.placing.proofs.Message.{Stands, next_stands}
 use Rattle.one_way.specs.Arrangement.{outermost}
 use Rattle.one_way.specs.Placings.{before_all, first_choices, first_place}
 use Rattle.one_way.specs.Test.{fitting_tag, tag_of, choices_fitting}

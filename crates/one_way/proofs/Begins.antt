@@ -6,7 +6,7 @@ use mathlib.Core.List.{List, [], ◌∷◌, ◌++◌}
 use Rattle.laws.specs.Choice.{pick, either, false≢true}
 use Rattle.placing.specs.Table.{Table, rows, tag_at, is_group, conditional, most, after_of, places, held}
 use Rattle.placing.specs.WellFormed.{well_formed}
-use Rattle.placing.specs.Formed.{trigger}
+use Rattle.placing.proofs.Formed.{trigger}
 use Rattle.one_way.specs.Arrangement.{segment, group, Times, nothing, ◌&◌, Arrangement, end, ◌▸◌, stands_at, is_arranged, tags_all, tags_of}
 use Rattle.one_way.specs.Test.{fitting_tag}
 use Rattle.one_way.proofs.Reach.{Reach, outside, level, ways, ways_in, fitting, may_pass, entered, fit_alone, more_fitting, here, passed, inner, way_in, ways_pass, ways_again, tag_segment, Sane, held_trigger, held_in, ways_inner}

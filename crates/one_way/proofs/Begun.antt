@@ -8,7 +8,7 @@ use Rattle.placing.specs.declared.Stepped.TheVariants.{Placed, OutOfPlace}
 use Rattle.placing.specs.Table.{Table, rows, level_of, outer, after_of, end_of}
 use Rattle.placing.specs.Rule.{step_of}
 use Rattle.placing.specs.WellFormed.{well_formed}
-use Rattle.placing.specs.Formed.{standing}
+use Rattle.placing.proofs.Formed.{standing}
 use Rattle.one_way.specs.Placings.{first_place}
 use Rattle.one_way.specs.Test.{Reached, first, next, OneFits}
 use Rattle.one_way.proofs.Reach.{Reach, at, first_fit, fitting, ways, Sane, places_in, start}

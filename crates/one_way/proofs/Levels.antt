@@ -6,7 +6,7 @@ use Rattle.std.proofs.Common.{arith}
 use Rattle.placing.specs.declared.Place.{Place}
 use Rattle.placing.specs.Table.{is_group, Table, rows, level_of, outer, later}
 use Rattle.placing.specs.Place.{count_at, reached_of}
-use Rattle.placing.specs.Message.{kept_above, kept_here}
+use Rattle.placing.proofs.Message.{kept_above, kept_here}
 use Rattle.one_way.proofs.Reach.{Reach, outside, level}
 
 -- the open levels down to a row's own

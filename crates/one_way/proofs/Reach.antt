@@ -3,9 +3,9 @@ use Rattle.std.specs.Prelude.{◌≡◌, refl, Bool, true, false, List, [], ◌�
 use Rattle.std.proofs.Common.{sym, ◌∙◌, ap, arith, eqb-true, eq-eqb, ne_eqb, ltb-true, lt-ltb}
 use Rattle.laws.specs.Choice.{pick, both, either, choose, either_true}
 use Rattle.placing.specs.Table.{Table, rows, tag_at, is_group, conditional, most, after_of, places_on, places, held}
-use Rattle.placing.specs.Walks.{places_step}
+use Rattle.placing.proofs.Walks.{places_step}
 use Rattle.placing.specs.WellFormed.{well_formed}
-use Rattle.placing.specs.Formed.{trigger, trigger_in}
+use Rattle.placing.proofs.Formed.{trigger, trigger_in}
 use Rattle.one_way.specs.Arrangement.{Where, outermost}
 use Rattle.one_way.specs.Test.{fitting_tag}
 

@@ -9,7 +9,7 @@ use borrow.Author.Tests.{eqb-true, eq-eqb, ne_eqb}
 use Rattle.laws.specs.Choice.{pick, both, choose, both_parts}
 use Rattle.placing.specs.Table.{Table, tag_at, is_group, most, after_of, places, held}
 use Rattle.placing.specs.WellFormed.{well_formed}
-use Rattle.placing.specs.Formed.{trigger}
+use Rattle.placing.proofs.Formed.{trigger}
 use Rattle.one_way.specs.Arrangement.{segment, group, nothing, ◌&◌, Arrangement, end, ◌▸◌, stands_at, is_arranged, tags_of, Where, where_in}
 use Rattle.one_way.specs.Test.{fitting_tag}
 use Rattle.one_way.proofs.Reach.{Reach, outside, level, path, Way, to, more, Found, at, nowhere, first_fit, may_pass, entered, ways, ways_in, ends_in, may_end, placed, refused, onward, put, placed_parts, here, passed, inner, Sane, held_in, held_trigger}

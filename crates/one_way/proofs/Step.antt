@@ -12,8 +12,8 @@ use Rattle.placing.specs.Table.{Table, rows, tag_at, is_group, level_of, outer, 
 use Rattle.placing.specs.Place.{reached_of}
 use Rattle.placing.specs.Rule.{Choice, fits, go, placed_at, chosen}
 use Rattle.placing.specs.WellFormed.{well_formed}
-use Rattle.placing.specs.Formed.{trigger, trigger_in, segment_fits, group_fits}
-use Rattle.placing.specs.Message.{kept_inner, level_most}
+use Rattle.placing.proofs.Formed.{trigger, trigger_in, segment_fits, group_fits}
+use Rattle.placing.proofs.Message.{kept_inner, level_most}
 use Rattle.one_way.specs.Test.{fitting_tag}
 use Rattle.one_way.proofs.Reach.{Reach, level, Found, at, nowhere, entered, held_trigger}
 use Rattle.one_way.proofs.Levels.{levels, reach_of, above, Open, OpenAbove, Inside, levels_here, open_here}

@@ -5,7 +5,7 @@ use Rattle.messages.specs.declared.MessageType.{MessageType}
 use Rattle.messages.specs.declared.MessageType.TheVariants.{Skdupd, Tsdupd, Tsdupd12B}
 use Rattle.placing.specs.Table.{Table, entry_of, after_of, end_of, places_on}
 use Rattle.placing.specs.Rule.{reachable, again, later_ones, choices_from}
-use Rattle.placing.specs.Envelope.{MessageTable, skdupd_messages, tsdupd_messages, tsdupd_12b_messages}
+use Rattle.placing.proofs.Envelope.{MessageTable, skdupd_messages, tsdupd_messages, tsdupd_12b_messages}
 use Rattle.placing.specs.Skdupd.{skdupd_table}
 use Rattle.placing.specs.Tsdupd.{tsdupd_table}
 use Rattle.placing.specs.Tsdupd12B.{tsdupd_12b_table}

@@ -14,7 +14,7 @@ use Rattle.placing.specs.Table.{Table, rows, is_group, conditional, most, level_
 use Rattle.placing.specs.Place.{count_at, reached_of, start_place}
 use Rattle.placing.specs.Rule.{Choice, choices}
 use Rattle.placing.specs.WellFormed.{well_formed}
-use Rattle.placing.specs.Message.{level_most}
+use Rattle.placing.proofs.Message.{level_most}
 use Rattle.one_way.specs.Placings.{before_all, first_choices}
 use Rattle.one_way.specs.Test.{Reached, first, next, choices_fitting, OneFits, first_time, fitting_tag, tag_of, differ, one_way}
 use Rattle.one_way.proofs.Reach.{Reach, outside, Way, to, more, Found, at as found, nowhere, first_fit, fitting, may_pass, entered, ways_in, ways, start}

@@ -6,7 +6,7 @@ use Rattle.laws.specs.Lists.{cons_parts}
 use Rattle.messages.specs.Tags.{UIH, UIT}
 use Rattle.placing.specs.Table.{Table}
 use Rattle.placing.specs.WellFormed.{well_formed}
-use Rattle.placing.specs.Envelope.{MessageTable}
+use Rattle.placing.proofs.Envelope.{MessageTable}
 use Rattle.one_way.specs.Arrangement.{Arrangement, tags_of, outermost, is_arrangement, standings}
 use Rattle.one_way.specs.Placings.{all_placed, where_placed, uih_to_uit}
 use Rattle.one_way.specs.Test.{OneFits, one_way}

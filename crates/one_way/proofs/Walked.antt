@@ -10,9 +10,9 @@ use Rattle.placing.specs.declared.Stepped.TheVariants.{Placed, OutOfPlace}
 use Rattle.placing.specs.Table.{Table, rows, level_of, outer, after_of, end_of, later}
 use Rattle.placing.specs.Place.{count_at}
 use Rattle.placing.specs.Rule.{step_of, is_placed}
-use Rattle.placing.specs.Walks.{after_grows, places_past}
+use Rattle.placing.proofs.Walks.{after_grows, places_past}
 use Rattle.placing.specs.WellFormed.{well_formed}
-use Rattle.placing.specs.Laws.{only_at, only_there}
+use Rattle.placing.proofs.Laws.{only_at, only_there}
 use Rattle.one_way.specs.Arrangement.{Where}
 use Rattle.one_way.specs.Placings.{walked, first_place, placings, all_placed, where_on, where_of, where_placed}
 use Rattle.one_way.proofs.Reach.{Reach, outside, level, path, Found, at, nowhere, first_fit, ways, start, pass_some, ends_in, may_end, placed, refused, behind, onward, put, placed_parts}

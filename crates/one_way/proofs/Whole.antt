@@ -9,10 +9,10 @@ use Rattle.placing.specs.declared.Stepped.TheVariants.{Placed}
 use Rattle.placing.specs.Table.{Table, rows, tag_at, group_at}
 use Rattle.placing.specs.Place.{start_place}
 use Rattle.placing.specs.Rule.{reachable, go, first_of}
-use Rattle.placing.specs.Walks.{places_step}
+use Rattle.placing.proofs.Walks.{places_step}
 use Rattle.placing.specs.WellFormed.{well_formed}
-use Rattle.placing.specs.Formed.{group_none, segment_fits}
-use Rattle.placing.specs.Envelope.{MessageTable}
+use Rattle.placing.proofs.Formed.{group_none, segment_fits}
+use Rattle.placing.proofs.Envelope.{MessageTable}
 use Rattle.one_way.specs.Arrangement.{Arrangement, Where, tags_of, outermost, is_arrangement, standings}
 use Rattle.one_way.specs.Placings.{before_all, first_choices, first_place}
 use Rattle.one_way.specs.Test.{OneFits}

@@ -20,7 +20,7 @@ use Rattle.placing.specs.Tsdupd12B.{tsdupd_12b_table}
 use Rattle.placing.specs.Tables.{tables, table_in}
 use Rattle.placing.specs.Place.{count_at, kept_of}
 use Rattle.placing.specs.Rule.{reachable, none_left, fits, Choice, go, again, later_ones, if_none_left, choices_from, choices, placed_at, chosen, or_stepped, first_of, step_of}
-use Rattle.placing.specs.Laws.{placed_row_lem}
+use Rattle.placing.proofs.Laws.{placed_row_lem}
 use Rattle.parcel_store.specs.Bounds.{Counted}
 
 module _ (k : ℕ) where

@@ -8,10 +8,4 @@ pub mod Skdupd
 pub mod Tsdupd
 pub mod Tsdupd12B
 pub mod Tables
-pub mod Walks
-pub mod Laws
 pub mod WellFormed
-pub mod Formed
-pub mod Message
-pub mod Envelope
-pub mod End

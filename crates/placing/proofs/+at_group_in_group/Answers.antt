@@ -6,7 +6,7 @@ use Rattle.placing.specs.declared.Reading.TheVariants.{Found, Barred, Past}
 use Rattle.placing.specs.Table.{Table, places, after_of}
 use Rattle.placing.specs.Rule.{in_group, fits}
 use Rattle.placing.specs.Reading.{read, read_group}
-use Rattle.placing.specs.Walks.{found, place_here, place_other, place_group, group_empty, group_found, group_shut, group_open, places_end, places_past, places_step, after_grows, read_none, read_here, read_barred, read_on_lem}
+use Rattle.placing.proofs.Walks.{found, place_here, place_other, place_group, group_empty, group_found, group_shut, group_open, places_end, places_past, places_step, after_grows, read_none, read_here, read_barred, read_on_lem}
 use Rattle.placing.proofs.+at_group_in_group.Goals.{in_group-then-own-eq0+in_default, in_group-else-own-eq0+else-own-tag, in_group-Joined-own-eq0}
 use Rattle.placing.proofs.+at_group_in_group.Goals as goal
 

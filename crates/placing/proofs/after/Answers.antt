@@ -1,6 +1,6 @@
 -- `placing::after` meets its contract. Assumes nothing.
 use mathlib.Core.Path.{sym}
-use Rattle.placing.specs.Walks.{after_next, after_last}
+use Rattle.placing.proofs.Walks.{after_next, after_last}
 use native.Mathlib.Omega.{arith}
 use Rattle.placing.proofs.after.Goals as goal
 

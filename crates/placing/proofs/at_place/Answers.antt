@@ -1,6 +1,6 @@
 -- `placing::at_place` meets its contract. Assumes nothing.
 use mathlib.Core.Path.{sym, ◌∙◌}
-use Rattle.placing.specs.Walks.{place_group, place_here, place_other}
+use Rattle.placing.proofs.Walks.{place_group, place_here, place_other}
 use Rattle.placing.proofs.at_place.Goals as goal
 
 pub returns-then-own-eq0 : goal.returns-then-own-eq0

@@ -1,6 +1,6 @@
 -- `placing::entry` meets its contract. Assumes nothing.
 use mathlib.Core.Path.{sym}
-use Rattle.placing.specs.Walks.{entry_in, entry_wide, entry_past}
+use Rattle.placing.proofs.Walks.{entry_in, entry_wide, entry_past}
 use Rattle.placing.proofs.entry.Goals as goal
 
 pub returns-then-column-lt8 : goal.returns-then-column-lt8

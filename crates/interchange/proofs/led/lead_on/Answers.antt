@@ -9,7 +9,7 @@ use lib.Dec.{lit≤}
 use lib.ListN.{drop, get_or}
 use Rattle.syntax.specs.Segment.{tag_number}
 use Rattle.placing.specs.Table.{Table, tag_at}
-use Rattle.placing.specs.Walks.{entry_in}
+use Rattle.placing.proofs.Walks.{entry_in}
 use Rattle.interchange.specs.Heads.{capitals, capital_tag, head_capitals, tag_number_lem}
 use Rattle.interchange.specs.Packs.{Leads}
 use Rattle.interchange.proofs.led.lead_on.Goals.{After-next_place-next, Else-not-next, Start}

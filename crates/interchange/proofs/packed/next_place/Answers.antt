@@ -7,7 +7,7 @@ use lib.ListN.{get_or}
 use Rattle.laws.specs.Choice.{false≢true}
 use Rattle.placing.specs.Table.{rows}
 use Rattle.hints.specs.Kinds.{row_in}
-use Rattle.hints.specs.Onward.{onward_row}
+use Rattle.hints.proofs.Onward.{onward_row}
 use Rattle.interchange.specs.Packs.{next_fits, leads}
 use Rattle.interchange.proofs.packed.next_place.Goals.{After-slot_of}
 use Rattle.interchange.proofs.packed.next_place.Goals as goal

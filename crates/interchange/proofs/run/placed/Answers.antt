@@ -1,7 +1,7 @@
 use borrow.Author.Rules.{rules}
 use mathlib.Core.Path.{◌≡◌, sym, ap₂}
 use native.Mathlib.Omega.{arith}
-use Rattle.placing.specs.Walks.{entry_in}
+use Rattle.placing.proofs.Walks.{entry_in}
 use Rattle.interchange.specs.Passes.{row_with}
 use Rattle.interchange.proofs.run.placed.Goals as goal
 

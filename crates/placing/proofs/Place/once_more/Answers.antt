@@ -4,7 +4,7 @@ use Prim.Native.Nat.{◌+◌}
 use Rattle.placing.specs.declared.Fit.TheVariants.{At, Nowhere}
 use Rattle.placing.specs.declared.Stepped.TheVariants.{Placed}
 use Rattle.placing.specs.Place.{reached_of}
-use Rattle.placing.specs.Walks.{more_fits, more_none}
+use Rattle.placing.proofs.Walks.{more_fits, more_none}
 use Rattle.placing.proofs.Place.once_more.Goals as goal
 
 pub returns-in-At : goal.returns-in-At

@@ -1,7 +1,7 @@
 -- `placing::Place::step` meets its contract. Assumes nothing.
 use mathlib.Core.Path.{sym, ◌∙◌}
 use Rattle.placing.specs.Said.{step_said}
-use Rattle.placing.specs.Walks.{turn_here, turn_out, turn_last, turn_up, step_start}
+use Rattle.placing.proofs.Walks.{turn_here, turn_out, turn_last, turn_up, step_start}
 use Rattle.placing.proofs.Place.step.Goals as goal
 
 pub loop-q-init : goal.loop-q-init

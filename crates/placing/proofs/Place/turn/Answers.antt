@@ -3,7 +3,7 @@ use mathlib.Core.Path.{sym, ap, ◌∙◌}
 use Rattle.placing.specs.declared.Reading.TheVariants.{Found, Barred, Past}
 use Rattle.placing.specs.declared.Turn.TheVariants.{Here}
 use Rattle.placing.specs.Place.{reached_of}
-use Rattle.placing.specs.Walks.{turn_again, turn_later}
+use Rattle.placing.proofs.Walks.{turn_again, turn_later}
 use Rattle.placing.proofs.Place.turn.Goals as goal
 
 pub returns-in-Placed : goal.returns-in-Placed

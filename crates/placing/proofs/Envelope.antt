@@ -10,11 +10,11 @@ use Rattle.placing.specs.declared.Stepped.TheVariants.{Placed, OutOfPlace}
 use Rattle.placing.specs.Table.{Table, rows, entry_of, tag_at, most, group_at, level_of, outer, after_of, end_of}
 use Rattle.placing.specs.Place.{start_place}
 use Rattle.placing.specs.Rule.{reachable, again, later_ones, choices_from, first_of, step_of, group_of, is_placed, may_end}
-use Rattle.placing.specs.Walks.{after_grows, places_past}
-use Rattle.placing.specs.Laws.{absent_tag, only_at, absent_out, only_there, placed_row_lem, placed_segment}
-use Rattle.placing.specs.Formed.{nth, group_none, group_inside}
+use Rattle.placing.proofs.Walks.{after_grows, places_past}
+use Rattle.placing.proofs.Laws.{absent_tag, only_at, absent_out, only_there, placed_row_lem, placed_segment}
+use Rattle.placing.proofs.Formed.{nth, group_none, group_inside}
 use Rattle.placing.specs.WellFormed.{is_not, every, well_formed, skdupd_formed, tsdupd_formed, tsdupd_12b_formed}
-use Rattle.placing.specs.Message.{InMessage, start_in, first_out}
+use Rattle.placing.proofs.Message.{InMessage, start_in, first_out}
 use Rattle.messages.specs.Tags.{UIH, UIT, UIB, UIZ}
 use Rattle.placing.specs.Skdupd.{skdupd_table}
 use Rattle.placing.specs.Tsdupd.{tsdupd_table}

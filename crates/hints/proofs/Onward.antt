@@ -11,7 +11,8 @@ use Rattle.placing.specs.Rule.{step_of}
 use Rattle.messages.specs.Tags.{UIT}
 use Rattle.hints.specs.Kinds.{kinds, no_kind, kind_at, kind_in, row_in, last_in, kept_bits, bound_of, more_of}
 use Rattle.hints.specs.Told.{hint_right, right}
-use Rattle.hints.specs.Laws.{Stood, each_right, hint_row, hint_step, hint_level, hint_inside}
+use Rattle.hints.specs.Laws.{Stood}
+use Rattle.hints.proofs.Laws.{each_right, hint_row, hint_step, hint_level, hint_inside}
 use Rattle.hints.specs.Packing.{place_of, kind_past, two, five, sound_kind, sound_parts, moved_packed}
 
 -- the kinds that are one are sound, and none leads past 64 bits

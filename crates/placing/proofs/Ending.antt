@@ -15,12 +15,12 @@ use Rattle.placing.specs.declared.Stepped.TheVariants.{Placed, OutOfPlace}
 use Rattle.placing.specs.Table.{Table, rows, tag_at, conditional, most, level_of, outer, after_of, end_of, places_on, later}
 use Rattle.placing.specs.Place.{count_at}
 use Rattle.placing.specs.Rule.{reachable, none_left, Choice, go, again, later_ones, choices_from, chosen, or_stepped, first_of, step_of, is_placed, may_end}
-use Rattle.placing.specs.Walks.{after_grows, after_within, none_from, one_from, first_append, first_pick_none}
-use Rattle.placing.specs.Laws.{only_row, chosen_tag}
+use Rattle.placing.proofs.Walks.{after_grows, after_within, none_from, one_from, first_append, first_pick_none}
+use Rattle.placing.proofs.Laws.{only_row, chosen_tag}
 use Rattle.placing.specs.WellFormed.{is_not}
-use Rattle.placing.specs.Formed.{trigger, standing, unbound, trigger_in, segment_fits}
-use Rattle.placing.specs.Message.{InMessage, Counted, Above, Each, each_map, each_of, each_reachable, Sound, SoundChoice, Stands, next_stands, later_stand, again_sound, stands_sound, to_segment, to_group}
-use Rattle.placing.specs.Envelope.{MessageTable, apart}
+use Rattle.placing.proofs.Formed.{trigger, standing, unbound, trigger_in, segment_fits}
+use Rattle.placing.proofs.Message.{InMessage, Counted, Above, Each, each_map, each_of, each_reachable, Sound, SoundChoice, Stands, next_stands, later_stand, again_sound, stands_sound, to_segment, to_group}
+use Rattle.placing.proofs.Envelope.{MessageTable, apart}
 use Rattle.messages.specs.Tags.{UIT}
 
 -- no mandatory place is left empty in the groups that are open, nor at level 0 but for the last place
