@@ -168,8 +168,7 @@ shape_of-room-in-Stop c = (so_far (goal.at.shape_of-room-in-Stop c).At-loop-numb
 pub returns-in-Stop : goal.returns-in-Stop
 returns-in-Stop c =
     let a = c.args in
-    let l = c.loop-numbers in
-    (
+    let l = c.loop-numbers in (
       chunk_stop c.args.s.now a.start a.from a.room.now l.st l.at l.numbers l.room (so_far (goal.at.returns-in-Stop c).At-loop-numbers) c.if-s-at.false (open_still (goal.at.returns-in-Stop c).After-take_turn) c.in-Stop.refusal (turned (goal.at.returns-in-Stop c).After-take_turn (Stop c.in-Stop.refusal) c.in-Stop.is),
       size (goal.at.returns-in-Stop c).At-loop-numbers,
     )

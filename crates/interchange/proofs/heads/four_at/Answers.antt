@@ -33,8 +33,7 @@ overflow_add-result-3 c =
     omega (arith, small (goal.at.overflow_add-result-3 c).After-shared_slice_known-1 c.args.at, small (goal.at.overflow_add-result-3 c).After-shared_slice_known-1 (c.args.at + 1), small (goal.at.overflow_add-result-3 c).After-shared_slice_known-1 (c.args.at + 2), small (goal.at.overflow_add-result-3 c).After-shared_slice_known-1 (c.args.at + 3), c.wide-4.ensures, c.wide-3.ensures, c.wide-2.ensures, c.wide.ensures)
 
 pub returns : goal.returns
-returns c =
-    (
-      rw (c.wide.ensures, c.wide-2.ensures, c.wide-3.ensures, c.wide-4.ensures),
-      record { first = small (goal.at.returns c).After-shared_slice_known-1 c.args.at; second = small (goal.at.returns c).After-shared_slice_known-1 (c.args.at + 1); third = small (goal.at.returns c).After-shared_slice_known-1 (c.args.at + 2); fourth = small (goal.at.returns c).After-shared_slice_known-1 (c.args.at + 3) },
-    )
+returns c = (
+  rw (c.wide.ensures, c.wide-2.ensures, c.wide-3.ensures, c.wide-4.ensures),
+  record { first = small (goal.at.returns c).After-shared_slice_known-1 c.args.at; second = small (goal.at.returns c).After-shared_slice_known-1 (c.args.at + 1); third = small (goal.at.returns c).After-shared_slice_known-1 (c.args.at + 2); fourth = small (goal.at.returns c).After-shared_slice_known-1 (c.args.at + 3) },
+)

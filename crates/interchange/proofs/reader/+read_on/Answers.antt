@@ -40,7 +40,7 @@ pub returns-else-rows-behind : goal.returns-else-rows-behind
 returns-else-rows-behind t c =
     let a = c.args in
     let b = behind_rows a.from.numbers (whole_from a.s.now a.from.state a.from.at) a.rows.now c.in-Numbers.n c.gather.new.room
-        (all t (goal.at.returns-else-rows-behind t c).In-Numbers).0 c.if-rows-behind.false in
+    (all t (goal.at.returns-else-rows-behind t c).In-Numbers).0 c.if-rows-behind.false in
     (b.0, c.copy_rows.ensures ∙ b.1)
 
 pub returns-in-Rows : goal.returns-in-Rows
@@ -50,7 +50,7 @@ returns-in-Rows t c =
     let z = c.gather.ensures.1 in
     let p = (part t r).1 in
     let b = behind_full a.from.numbers (whole_from a.s.now a.from.state a.from.at) a.rows.now c.in-Full.n c.gather.new.room (rest t r) (part t r).0 c.in-Rows.m c.read_on.new.rows
-        (told t r (Rows c.in-Rows.m) c.in-Rows.is) (omega arith) in
+    (told t r (Rows c.in-Rows.m) c.in-Rows.is) (omega arith) in
     (b.0, c.copy_rows-in-Rows.ensures ∙ b.1)
 
 pub returns-in-Refused : goal.returns-in-Refused

@@ -18,6 +18,9 @@ returns-then-interchange-gt60000 c =
 pub returns : goal.returns
 returns c =
     let a = c.args in
-    let s = a.interchange.now in record { told = (right_same (read_on (length s + 1) s (opening_state a.wish) 0) (reading_of a.wish s) a.rows.now (read_answer c.read_sized.result) c.read_sized.new.rows
-    (sized_read a.wish s c.if-interchange-eq0.false c.if-interchange-gt60000.false) (c.read_sized.ensures.told, c.read_sized.ensures.left)).0; left = (right_same (read_on (length s + 1) s (opening_state a.wish) 0) (reading_of a.wish s) a.rows.now (read_answer c.read_sized.result) c.read_sized.new.rows
-    (sized_read a.wish s c.if-interchange-eq0.false c.if-interchange-gt60000.false) (c.read_sized.ensures.told, c.read_sized.ensures.left)).1 }
+    let s = a.interchange.now in record {
+      told = (right_same (read_on (length s + 1) s (opening_state a.wish) 0) (reading_of a.wish s) a.rows.now (read_answer c.read_sized.result) c.read_sized.new.rows
+          (sized_read a.wish s c.if-interchange-eq0.false c.if-interchange-gt60000.false) (c.read_sized.ensures.told, c.read_sized.ensures.left)).0;
+      left = (right_same (read_on (length s + 1) s (opening_state a.wish) 0) (reading_of a.wish s) a.rows.now (read_answer c.read_sized.result) c.read_sized.new.rows
+          (sized_read a.wish s c.if-interchange-eq0.false c.if-interchange-gt60000.false) (c.read_sized.ensures.told, c.read_sized.ensures.left)).1;
+    }

@@ -12,8 +12,11 @@ returns c =
     let a = c.args in
     let list = a.s.now in
     let lent = a.rows.now in
-    let after = c.read_on.new.rows in record { told = (right_same (whole_from list c.opening.result 0) (whole_from list (opening_state a.wish) 0) lent (read_answer c.read_on.result) after
-    (ap (λ (st : State). whole_from list st 0) c.opening.ensures)
-    (right_behind (whole_from list c.opening.result 0) lent (read_answer c.read_on.result) after c.read_on.ensures)).0; left = (right_same (whole_from list c.opening.result 0) (whole_from list (opening_state a.wish) 0) lent (read_answer c.read_on.result) after
-    (ap (λ (st : State). whole_from list st 0) c.opening.ensures)
-    (right_behind (whole_from list c.opening.result 0) lent (read_answer c.read_on.result) after c.read_on.ensures)).1 }
+    let after = c.read_on.new.rows in record {
+      told = (right_same (whole_from list c.opening.result 0) (whole_from list (opening_state a.wish) 0) lent (read_answer c.read_on.result) after
+          (ap (λ (st : State). whole_from list st 0) c.opening.ensures)
+          (right_behind (whole_from list c.opening.result 0) lent (read_answer c.read_on.result) after c.read_on.ensures)).0;
+      left = (right_same (whole_from list c.opening.result 0) (whole_from list (opening_state a.wish) 0) lent (read_answer c.read_on.result) after
+          (ap (λ (st : State). whole_from list st 0) c.opening.ensures)
+          (right_behind (whole_from list c.opening.result 0) lent (read_answer c.read_on.result) after c.read_on.ensures)).1;
+    }

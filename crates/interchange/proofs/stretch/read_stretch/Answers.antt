@@ -24,6 +24,9 @@ pub returns : goal.returns
 returns c =
     let a = c.args in
     let s = a.s.now in
-    let lent = a.room.now in record { told = (reached_same (stretch_on room_rows s a.reference.now a.from 0) (stretch_of s a.reference.now a.from (length lent)) lent
-    (stretch_whole s a.reference.now a.from (length lent) c.if-room-ne-ROOM.false c.if-s-gt60000.false) c.stretch_on.ensures).0; left = (reached_same (stretch_on room_rows s a.reference.now a.from 0) (stretch_of s a.reference.now a.from (length lent)) lent
-    (stretch_whole s a.reference.now a.from (length lent) c.if-room-ne-ROOM.false c.if-s-gt60000.false) c.stretch_on.ensures).1 }
+    let lent = a.room.now in record {
+      told = (reached_same (stretch_on room_rows s a.reference.now a.from 0) (stretch_of s a.reference.now a.from (length lent)) lent
+          (stretch_whole s a.reference.now a.from (length lent) c.if-room-ne-ROOM.false c.if-s-gt60000.false) c.stretch_on.ensures).0;
+      left = (reached_same (stretch_on room_rows s a.reference.now a.from 0) (stretch_of s a.reference.now a.from (length lent)) lent
+          (stretch_whole s a.reference.now a.from (length lent) c.if-room-ne-ROOM.false c.if-s-gt60000.false) c.stretch_on.ensures).1;
+    }
