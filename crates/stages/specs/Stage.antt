@@ -61,7 +61,7 @@ put_over x c none = some (record { number = x; live = none; pending = put c })
 put_over x c (some r) = some (record { number = r.number; live = r.live; pending = put c })
 
 -- What a service makes of the record of its number. A POP that a reading has accepted is good, whatever the wish, and then the old reading
--- says the same of it (`Good-old`); here and for 13 it is that one.
+-- says the same of it (`good_old`); here and for 13 it is that one.
 unfoldable pub entry : ℕ → List ℕ → List ℕ → Service → Option Record → Option Record
 entry first s rows v = pick v.removal removed (put_over (number_in s v) (days_of true first s (periods_of rows v)))
 
