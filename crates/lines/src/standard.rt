@@ -1,6 +1,6 @@
 //! What a program reads and writes. No contract can say which bytes those are.
 
-ghost use Rattle.std.specs.Prelude.{◌≡◌};
+ghost use Rattle.std.specs.Prelude.{◌≡◌, length};
 ghost use Rattle.std.specs.Io.{ReadsAtMost};
 ghost use Rattle.lines.specs.Numbers.{letters_of, four_digit_text};
 
@@ -8,8 +8,10 @@ use std::io;
 use std::io::Read;
 
 /// Reads an input, as standard input or a file, over the front of a buffer, until that is full or the input ends; how many bytes that are.
+/// An error is one of the reader's own; the buffer keeps its length, and its front may hold what was read before.
 pub fn read_input<R: Read>(from: &mut R, buffer: &mut [u8]) -> io::Result<usize>
-    ensures { ReadsAtMost result buffer.new }
+    ensures read { ReadsAtMost result buffer.new }
+    ensures kept { length buffer.new ≡ length buffer.old }
 {
     let mut done = 0;
     while done < buffer.len() {
