@@ -1,3 +1,3 @@
-//! A message has one arrangement in the groups at most. Definitions and theorems stand in specs/; there is no function.
+//! A message has one arrangement in the groups at most. Definitions stand in specs/, laws and theorems in proofs/; there is no function.
 
 #![tactic(auto)]
