@@ -1,27 +1,26 @@
 -- What an interchange is, apart from how it is read: document 01, "Bytes and segments", "The placing rule" and "Calendars". Document 02, A2: "The wish is part
 -- of the input in demand 2"; it is true where the caller asks for the old reading, in which a POP with neither form means every day.
 -- A segment is given by its bytes without the terminator. Assumes nothing; there is no proof here.
-use Rattle.std.specs.Prelude.{◌≡◌, Bool, true, false, not, List, [], ◌∷◌, ◌++◌, map, ℕ, ◌+◌, ◌≤◌, eqb, ltb, length}
+use Rattle.std.specs.Prelude.{◌≡◌, Bool, true, false, not, List, [], ◌∷◌, ◌++◌, map, ℕ, ◌+◌, ◌≤◌, eqb, ltb, length, Option, Some, None, is_some, Result, Ok, Err}
 use Rattle.laws.specs.Choice.{pick, both, all}
 use Rattle.syntax.specs.Bytes.{terminator, permitted_of, releases, stands}
 use Rattle.syntax.specs.Segment.{tag_number, well_formed}
-use Rattle.placing.specs.declared.Stepped.{Stepped}
-use Rattle.placing.specs.declared.Stepped.TheVariants.{Placed, OutOfPlace}
 use Rattle.messages.specs.declared.MessageType.{MessageType}
 use Rattle.messages.specs.declared.MessageType.TheVariants.{Skdupd}
 use Rattle.messages.specs.Tags.{UIB, UIH, UIT, UIZ}
 use Rattle.messages.specs.Types.{is_period}
+use Rattle.placing.specs.declared.Place.{Place}
 use Rattle.placing.specs.Table.{Table}
 use Rattle.placing.specs.Tables.{table_of}
 use Rattle.placing.specs.Place.{start_place}
-use Rattle.placing.specs.Rule.{place_after, group_of, is_placed}
-use Rattle.envelope.specs.declared.Opened.{Opened}
-use Rattle.envelope.specs.declared.Opened.TheVariants as opened
-use Rattle.envelope.specs.declared.Headed.{Headed}
-use Rattle.envelope.specs.declared.Headed.TheVariants as headed
-use Rattle.envelope.specs.Envelope.{value_of, uib_of, uih_of, uit_of, uiz_of}
+use Rattle.placing.specs.Rule.{place_after, group_of}
+use Rattle.envelope.specs.Envelope.{value_of, uib_of, uih_of, uit_of, uiz_of, heading}
 use Rattle.period.specs.Period.{is_good, period_of}
 use Rattle.steps.specs.declared.state.Row.{Row}
+use Rattle.parts.specs.declared.Part.{Part}
+use Rattle.envelope.specs.declared.Head.{Head}
+use Rattle.envelope.specs.declared.HeadError.{HeadError}
+use Rattle.envelope.specs.declared.HeadError.TheVariants.{Missing, Unknown}
 
 -- "A segment is a tag .., then elements, then the terminator." Some segments, one after the other.
 unfoldable pub segments_written : List (List ℕ) → List ℕ
@@ -62,22 +61,22 @@ abbrev pub segments_of : Interchange → List (List ℕ)
 segments_of x = x.opening ∷ (each_of segments_in x.messages ++ (x.closing ∷ []))
 
 -- "UIB begins `UNOB:4`", and names a dialogue reference
-abbrev pub names : Opened → Bool
-names (opened.Dialogue p) = true
-names opened.Wrong = false
+abbrev pub names : Option Part → Bool
+names (Some p) = true
+names None = false
 
 -- "UIH names in S306 .. the type, `D`, `04A`, an empty 0113 and `UN`; then the reference 0340." Document 02, A8: that of a TSDUPD may name 12B,
 -- and "each message's UIH decides".
-abbrev pub known : Headed → Bool
-known (headed.Message m p) = true
-known headed.Missing = false
-known headed.Unknown = false
+abbrev pub known : Result Head HeadError → Bool
+known (Ok h) = true
+known (Err Missing) = false
+known (Err Unknown) = false
 
 -- the type that it names; where it names none, none is asked for
-abbrev pub type_in : Headed → MessageType
-type_in (headed.Message m p) = m
-type_in headed.Missing = Skdupd
-type_in headed.Unknown = Skdupd
+abbrev pub type_in : Result Head HeadError → MessageType
+type_in (Ok h) = h.message
+type_in (Err Missing) = Skdupd
+type_in (Err Unknown) = Skdupd
 
 abbrev pub message_type_of : Message → MessageType
 message_type_of m = type_in (uih_of m.heading)
@@ -87,20 +86,20 @@ abbrev pub reference_in : List ℕ → List ℕ
 reference_in g = value_of g 2 1
 
 -- "The place reached moves on one segment at a time." The segments that follow a place, each with the place that the rule gives it.
-unfoldable pub places_from : Table → Stepped → List (List ℕ) → List (List ℕ × Stepped)
+unfoldable pub places_from : Table → Option Place → List (List ℕ) → List (List ℕ × Option Place)
 places_from t p [] = []
 places_from t p (g ∷ gs) = (g, place_after t p (tag_number g)) ∷ places_from t (place_after t p (tag_number g)) gs
 
-abbrev pub has_place : List ℕ × Stepped → Bool
-has_place e = is_placed e.1
+abbrev pub has_place : List ℕ × Option Place → Bool
+has_place e = is_some e.1
 
 -- the group of a place, 0 for none
-abbrev pub group_in : Table → Stepped → ℕ
-group_in t (Placed p) = group_of t p
-group_in t OutOfPlace = 0
+abbrev pub group_in : Table → Option Place → ℕ
+group_in t (Some p) = group_of t p
+group_in t None = 0
 
 -- "POP in group 4 of SKDUPD: ..": its contents are those of a period. "POP in other places is placed and not read."
-abbrev pub good_contents : Bool → MessageType → List ℕ × Stepped → Bool
+abbrev pub good_contents : Bool → MessageType → List ℕ × Option Place → Bool
 good_contents wish message e = pick (is_period message (tag_number e.0) (group_in (table_of message) e.1)) (is_good (period_of wish e.0)) true
 
 -- "UIH is the first place of a message and UIT the last."
@@ -110,8 +109,8 @@ is_trailer g = eqb (tag_number g) UIT
 abbrev pub goes_before : List ℕ → Bool
 goes_before g = not (is_trailer g)
 
-abbrev pub placed_segments : Message → List (List ℕ × Stepped)
-placed_segments m = places_from (table_of (message_type_of m)) (Placed start_place) (m.within ++ (m.trailer ∷ []))
+abbrev pub placed_segments : Message → List (List ℕ × Option Place)
+placed_segments m = places_from (table_of (message_type_of m)) (Some start_place) (m.within ++ (m.trailer ∷ []))
 
 abbrev pub good_heading : Message → Bool
 good_heading m = both (eqb (tag_number m.heading) UIH) (known (uih_of m.heading))
@@ -120,7 +119,7 @@ abbrev pub good_places : Message → Bool
 good_places m = both (all goes_before m.within) (all has_place (placed_segments m))
 
 abbrev pub good_periods : Bool → Message → Bool
-good_periods wish m = all (good_contents wish (message_type_of m)) (places_from (table_of (message_type_of m)) (Placed start_place) m.within)
+good_periods wish m = all (good_contents wish (message_type_of m)) (places_from (table_of (message_type_of m)) (Some start_place) m.within)
 
 -- "UIT repeats 0340 and gives the number of segments, UIH and UIT included."
 abbrev pub good_trailer : Message → Bool
@@ -153,7 +152,7 @@ pub record IsInterchange (wish : Bool) (s : List ℕ) : Type 0 where
   pub fits : length s ≤ 60000
 
 -- its rows: for each segment the bytes before it, its group, 0 for none, and its tag
-abbrev pub with_group : Table → List ℕ × Stepped → List ℕ × ℕ
+abbrev pub with_group : Table → List ℕ × Option Place → List ℕ × ℕ
 with_group t e = (e.0, group_in t e.1)
 
 abbrev pub groups_in : Message → List (List ℕ × ℕ)

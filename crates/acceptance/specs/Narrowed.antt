@@ -1,19 +1,18 @@
 -- "8 narrows" (document 02, A8): what is read is what was read while D.04A alone was taken, but where that was 8 and a TSDUPD of D.12B stands among the segments.
 -- Assumes nothing.
-use Rattle.std.specs.Prelude.{◌≡◌, Bool, true, false, not, List, ◌⊎◌, ◌↔◌, ℕ, zero, suc, ◌+◌, eqb, ltb, length}
+use Rattle.answers.specs.declared.Refusal.{Refusal}
+use Rattle.std.specs.Prelude.{◌≡◌, Bool, true, false, not, List, ◌⊎◌, ◌↔◌, ℕ, zero, suc, ◌+◌, eqb, ltb, length, Result, Ok, Err}
 use Rattle.std.proofs.Math.Path.{refl}
 use Rattle.std.proofs.Common.{sym, ap, ◌∙◌, inl, inr, ⊎_elim}
 use Rattle.laws.specs.Choice.{both, all, both_false, choose, false≢true}
 use Rattle.answers.specs.Answers.{naming, unknown_type}
 use Rattle.answers.specs.Laws.{refused≢done}
-use Rattle.syntax.specs.declared.segment.Scanned.{Scanned}
-use Rattle.syntax.specs.declared.segment.Scanned.TheVariants.{End, NotPermitted, Unended, Malformed}
+use Rattle.syntax.specs.declared.segment.ScanError.{ScanError}
+use Rattle.syntax.specs.declared.segment.ScanError.TheVariants.{NotPermitted, Unended, Malformed}
 use Rattle.syntax.specs.Segment.{tag_number, body_at, segment_at}
 use Rattle.messages.specs.Tags.{UIH}
 use Rattle.messages.specs.Types.{is_12b}
 use Rattle.placing.specs.Tables.{tables}
-use Rattle.envelope.specs.declared.Headed.{Headed}
-use Rattle.envelope.specs.declared.Headed.TheVariants.{Message, Missing, Unknown}
 use Rattle.envelope.specs.Envelope.{says, TSDUPD, complete, directory, directory_12b, type_of, version_of, release_number_of, sub_function_of, agency_of, reference_of, uih_of}
 use Rattle.steps.specs.declared.state.Phase.{Phase}
 use Rattle.steps.specs.declared.state.Phase.TheVariants.{Opening, Between, Inside, Closed}
@@ -22,11 +21,13 @@ use Rattle.steps.specs.declared.state.Row.{Row}
 use Rattle.steps.specs.State.{opening_state}
 use Rattle.steps.specs.Step.{row_of, headed, between_messages, step_by}
 use Rattle.interchange.specs.declared.turn.Turn.{Turn}
-use Rattle.interchange.specs.declared.turn.Turn.TheVariants.{On, Stop}
-use Rattle.interchange.specs.Reader.{Outcome, accepted, before, is_closed, dialogue_of, headed_reference, turn_step, turn_scan, turn_at, after_turn, read_on, wrong_size, reading_of}
+use Rattle.interchange.specs.Reader.{Outcome, accepted, before, is_closed, dialogue_of, headed_reference, turn_step, turn_scan, turn_at, after_turn, read_on, wrong_size, reading_of, goes_on}
 use Rattle.acceptance.specs.Interchange.{IsInterchange}
 use Rattle.acceptance.specs.Theorems.{accepted_exactly}
 use Rattle.acceptance.specs.Before.{uih_before, between_over, step_over, turn_over, read_on_over, reading_over, reading_before}
+use Rattle.envelope.specs.declared.Head.{Head}
+use Rattle.envelope.specs.declared.HeadError.{HeadError}
+use Rattle.envelope.specs.declared.HeadError.TheVariants.{Missing, Unknown}
 
 -- The step and the reader of Before.antt, over what a UIH says now, are those of Step.antt and Reader.antt
 
@@ -37,15 +38,13 @@ step_now st at g dialogue reference Between = refl
 step_now st at g dialogue reference Inside = refl
 step_now st at g dialogue reference Closed = refl
 
-turn_now : (s : List ℕ) (st : State) (at : ℕ) (x : Scanned) → turn_over uih_of s st at x ≡ turn_scan tables s st at x
-turn_now s st at (End e) = ap (turn_step (e + 1)) (step_now st at (body_at s at) (dialogue_of s st) (headed_reference s st) st.phase)
-turn_now s st at (NotPermitted i) = refl
-turn_now s st at Unended = refl
-turn_now s st at Malformed = refl
+turn_now : (s : List ℕ) (st : State) (at : ℕ) (x : Result ℕ ScanError) → turn_over uih_of s st at x ≡ turn_scan tables s st at x
+turn_now s st at (Ok e) = ap (turn_step (e + 1)) (step_now st at (body_at s at) (dialogue_of s st) (headed_reference s st) st.phase)
+turn_now s st at (Err error) = refl
 
-after_now : (over more : State → ℕ → Outcome) → ((st : State) (next : ℕ) → over st next ≡ more st next) → (x : Turn) → after_turn over x ≡ after_turn more x
-after_now over more f (On st r next) = ap (before r) (f st next)
-after_now over more f (Stop refusal) = refl
+after_now : (over more : State → ℕ → Outcome) → ((st : State) (next : ℕ) → over st next ≡ more st next) → (x : Result Turn Refusal) → after_turn over x ≡ after_turn more x
+after_now over more f (Ok t) = ap (before t.row) (f t.state t.then)
+after_now over more f (Err refusal) = refl
 
 on_now : (f : ℕ) (s : List ℕ) (st : State) (at : ℕ) → read_on_over uih_of f s st at ≡ read_on f s st at
 unfolding read_on read_on_over turn_at
@@ -61,13 +60,13 @@ unfolding reading_of reading_over
 reading_now wish s = choose (wrong_size s) (λ q. rw q) (λ q. rw q (on_now (length s + 1) s (opening_state wish) 0))
 
 -- whether a UIH is that of a message of D.12B
-abbrev pub heads_12b : Headed → Bool
-heads_12b (Message m p) = is_12b m
-heads_12b Missing = false
-heads_12b Unknown = false
+abbrev pub heads_12b : Result Head HeadError → Bool
+heads_12b (Ok h) = is_12b h.message
+heads_12b (Err Missing) = false
+heads_12b (Err Unknown) = false
 
 -- what a UIH says is what it said; or it was 8, and it is one of D.12B
-pub head_narrowed : (g : List ℕ) → (uih_of g ≡ uih_before g) ⊎ ((heads_12b (uih_of g) ≡ true) × (uih_before g ≡ Unknown))
+pub head_narrowed : (g : List ℕ) → (uih_of g ≡ uih_before g) ⊎ ((heads_12b (uih_of g) ≡ true) × (uih_before g ≡ Err Unknown))
 unfolding uih_of uih_before
 head_narrowed g =
     choose (complete (type_of g) (version_of g) (release_number_of g) (agency_of g) (reference_of g))
@@ -84,19 +83,19 @@ abbrev pub of_12b : List ℕ → Row → Bool
 of_12b s r = both (eqb r.tag UIH) (heads_12b (uih_of (body_at s r.offset)))
 
 -- one turn: the same; or on over a UIH of D.12B, at which it was 8
-data Turned (s : List ℕ) (at : ℕ) : Turn → Turn → Type 0 where
-  as_it_was : {x : Turn} → Turned s at x x
-  taken_now : {st : State} {r : Row} {next : ℕ} → of_12b s r ≡ true → Turned s at (On st r next) (Stop (naming 8 at))
+data Turned (s : List ℕ) (at : ℕ) : Result Turn Refusal → Result Turn Refusal → Type 0 where
+  as_it_was : {x : Result Turn Refusal} → Turned s at x x
+  taken_now : {st : State} {r : Row} {next : ℕ} → of_12b s r ≡ true → Turned s at (goes_on st r next) (Err (naming 8 at))
 
 module _ (s : List ℕ) (st : State) (at e : ℕ) where
   abbrev g : List ℕ
   g = body_at s at
 
   -- a UIH of D.12B is taken, which was 8
-  head_taken : (x : Headed) → uih_of g ≡ x → heads_12b x ≡ true → eqb (tag_number g) UIH ≡ true → Turned s at (turn_step e (headed st at g x)) (Stop (naming 8 at))
-  head_taken (Message m p) q k t = taken_now {r = row_of at g 0} (rw (t, q, k))
-  head_taken Missing q k t = absurd (false≢true k)
-  head_taken Unknown q k t = absurd (false≢true k)
+  head_taken : (x : Result Head HeadError) → uih_of g ≡ x → heads_12b x ≡ true → eqb (tag_number g) UIH ≡ true → Turned s at (turn_step e (headed st at g x)) (Err (naming 8 at))
+  head_taken (Ok h) q k t = taken_now {r = row_of at g 0} (rw (t, q, k))
+  head_taken (Err Missing) q k t = absurd (false≢true k)
+  head_taken (Err Unknown) q k t = absurd (false≢true k)
 
   between_turned : (dialogue : List ℕ) → Turned s at (turn_step e (between_messages st at g dialogue)) (turn_step e (between_over uih_before st at g dialogue))
   unfolding between_messages between_over
@@ -112,11 +111,9 @@ module _ (s : List ℕ) (st : State) (at e : ℕ) where
   step_turned Inside dialogue reference = as_it_was
   step_turned Closed dialogue reference = as_it_was
 
-scan_turned : (s : List ℕ) (st : State) (at : ℕ) (x : Scanned) → Turned s at (turn_scan tables s st at x) (turn_over uih_before s st at x)
-scan_turned s st at (End e) = step_turned s st at (e + 1) st.phase (dialogue_of s st) (headed_reference s st)
-scan_turned s st at (NotPermitted i) = as_it_was
-scan_turned s st at Unended = as_it_was
-scan_turned s st at Malformed = as_it_was
+scan_turned : (s : List ℕ) (st : State) (at : ℕ) (x : Result ℕ ScanError) → Turned s at (turn_scan tables s st at x) (turn_over uih_before s st at x)
+scan_turned s st at (Ok e) = step_turned s st at (e + 1) st.phase (dialogue_of s st) (headed_reference s st)
+scan_turned s st at (Err error) = as_it_was
 
 -- a whole reading: the same; or it was 8, and among the rows is the UIH of a message of D.12B
 abbrev pub all_04a : List ℕ → List Row → Bool
@@ -131,9 +128,9 @@ narrowed_behind s r same = same
 narrowed_behind s r (was_unknown {now = now} at h q) = was_unknown {now = before r now} at (rw h (both_false (not (of_12b s r)))) q
 
 after_narrowed : (s : List ℕ) (at : ℕ) (more was : State → ℕ → Outcome) → ((st : State) (next : ℕ) → Narrowed s (more st next) (was st next))
-    → {x y : Turn} → Turned s at x y → Narrowed s (after_turn more x) (after_turn was y)
-after_narrowed s at more was f (as_it_was {x = On st r next}) = narrowed_behind s r (f st next)
-after_narrowed s at more was f (as_it_was {x = Stop refusal}) = same
+    → {x y : Result Turn Refusal} → Turned s at x y → Narrowed s (after_turn more x) (after_turn was y)
+after_narrowed s at more was f (as_it_was {x = Ok t}) = narrowed_behind s t.row (f t.state t.then)
+after_narrowed s at more was f (as_it_was {x = Err refusal}) = same
 after_narrowed s at more was f (taken_now {st = st} {r = r} {next = next} h) = was_unknown {now = before r (more st next)} at (rw h) refl
 
 on_narrowed : (f : ℕ) (s : List ℕ) (st : State) (at : ℕ) → Narrowed s (read_on f s st at) (read_on_over uih_before f s st at)

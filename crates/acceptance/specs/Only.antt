@@ -1,6 +1,6 @@
 -- What is accepted is an interchange: the segments read, put together from the last to the first.
 -- Assumes nothing.
-use Rattle.std.specs.Prelude.{◌≡◌, Bool, true, false, eqb, ltb, drop}
+use Rattle.std.specs.Prelude.{◌≡◌, Bool, true, false, eqb, ltb, drop, Some, Result, Ok, Err}
 use Rattle.std.proofs.Math.Path.{refl, ap, subst}
 use Rattle.std.proofs.Common.{sym, ◌∙◌, add-one}
 use mathlib.Core.List.{List, [], ◌∷◌, ◌++◌}
@@ -12,19 +12,17 @@ use Rattle.laws.specs.Choice.{all, choose, either_parts}
 use Rattle.laws.specs.Lists.{drop_past}
 use Rattle.answers.specs.Answers.{Answer, done, refused}
 use Rattle.answers.specs.Laws.{refused≢done}
-use Rattle.syntax.specs.declared.segment.Scanned.{Scanned}
-use Rattle.syntax.specs.declared.segment.Scanned.TheVariants.{End, NotPermitted, Unended, Malformed}
+use Rattle.syntax.specs.declared.segment.ScanError.{ScanError}
+use Rattle.syntax.specs.declared.segment.ScanError.TheVariants.{NotPermitted, Unended, Malformed}
 use Rattle.syntax.specs.Segment.{tag_number, body_at, segment_at}
 use Rattle.placing.specs.declared.Place.{Place}
 use Rattle.messages.specs.declared.MessageType.{MessageType}
 use Rattle.placing.specs.Tables.{tables, table_of}
-use Rattle.placing.specs.declared.Stepped.TheVariants.{Placed}
 use Rattle.placing.specs.Place.{start_place}
 use Rattle.placing.specs.Rule.{step_of}
 use Rattle.messages.specs.Tags.{UIH, UIZ}
 use Rattle.parts.specs.declared.Part.{Part}
-use Rattle.envelope.specs.declared.Headed.TheVariants as headed
-use Rattle.envelope.specs.Envelope.{uih_of, uit_of, uiz_of}
+use Rattle.envelope.specs.Envelope.{uih_of, uit_of, uiz_of, heading}
 use Rattle.steps.specs.declared.state.Phase.{Phase}
 use Rattle.steps.specs.declared.state.Phase.TheVariants.{Opening, Between, Inside, Closed}
 use Rattle.steps.specs.declared.state.State.{State}
@@ -59,11 +57,9 @@ module _ (f : ℕ) (s : List ℕ) (st : State) (at : ℕ) where
       record { body = body_at s at; next = next; row = r; cut = c; step = h; rest = ap (λ (x : ℕ). (read_on f s next (x + 1)).verdict) (sym n) ∙ q }
   by_step (refused refusal) h e n c q = absurd (refused≢done q)
 
-  by_scan : (x : Scanned) → segment_at s at ≡ x → (after_turn (read_on f s) (turn_scan tables s st at x)).verdict ≡ accepted → Further
-  by_scan (End e) h q = let c = cut_at s at e h in by_step (step_at s st at (body_at s at)) refl e c.0 c.1 q
-  by_scan (NotPermitted i) h q = absurd (refused≢done q)
-  by_scan Unended h q = absurd (refused≢done q)
-  by_scan Malformed h q = absurd (refused≢done q)
+  by_scan : (x : Result ℕ ScanError) → segment_at s at ≡ x → (after_turn (read_on f s) (turn_scan tables s st at x)).verdict ≡ accepted → Further
+  by_scan (Ok e) h q = let c = cut_at s at e h in by_step (step_at s st at (body_at s at)) refl e c.0 c.1 q
+  by_scan (Err error) h q = absurd (refused≢done q)
 
   pub further : is_closed st.phase ≡ false → Accepts (suc f) s st at → Further
   unfolding read_on turn_at
@@ -124,7 +120,7 @@ module _ (s : List ℕ) (small : length s ≤ 60000) where
     after x next e = subst (λ (y : State). Accepts f s y (at + length x.body + 1)) e x.rest
 
     -- a UIH before what follows it
-    heads_ending : (x : Further f s st at) (k : MessageType) (p : Part) → eqb (tag_number x.body) UIH ≡ true → uih_of x.body ≡ headed.Message k p
+    heads_ending : (x : Further f s st at) (k : MessageType) (p : Part) → eqb (tag_number x.body) UIH ≡ true → uih_of x.body ≡ heading k p
         → Going st.wish s (at + length x.body + 1) (dialogue_of s st) st.messages k start_place 1 (headed_reference s (headed_state st at k p)) → Ending st.wish s at (dialogue_of s st) st.messages
     heads_ending x k p t e w =
         let c = x.cut in
@@ -176,8 +172,8 @@ module _ (s : List ℕ) (small : length s ≤ 60000) where
     abbrev GoingAt : ℕ → Place → ℕ → Type 0
     GoingAt then p c = Going st.wish s then (dialogue_of s st) st.messages st.message p c (headed_reference s st)
 
-    onward_going : (x : Further f s st at) (p : Place) → step_of (table_of st.message) st.place (tag_number x.body) ≡ Placed p → is_trailer x.body ≡ false
-        → good_contents st.wish st.message (x.body, Placed p) ≡ true → GoingAt (at + length x.body + 1) p (st.segments + 1) → GoingAt at st.place st.segments
+    onward_going : (x : Further f s st at) (p : Place) → step_of (table_of st.message) st.place (tag_number x.body) ≡ Some p → is_trailer x.body ≡ false
+        → good_contents st.wish st.message (x.body, Some p) ≡ true → GoingAt (at + length x.body + 1) p (st.segments + 1) → GoingAt at st.place st.segments
     onward_going x p e t u w =
         record {
           within = x.body ∷ w.within;
@@ -190,7 +186,7 @@ module _ (s : List ℕ) (small : length s ≤ 60000) where
         }
 
     -- the UIT before what follows the message
-    ends_going : (x : Further f s st at) (p : Place) → step_of (table_of st.message) st.place (tag_number x.body) ≡ Placed p → is_trailer x.body ≡ true
+    ends_going : (x : Further f s st at) (p : Place) → step_of (table_of st.message) st.place (tag_number x.body) ≡ Some p → is_trailer x.body ≡ true
         → uit_of x.body (headed_reference s st) (st.segments + 1) ≡ true → Ending st.wish s (at + length x.body + 1) (dialogue_of s st) (st.messages + 1) → GoingAt at st.place st.segments
     ends_going x p e t u w =
         record {

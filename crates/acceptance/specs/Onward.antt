@@ -1,10 +1,9 @@
 -- After some whole segments the reading goes on from the state that is reached.
 -- Assumes nothing.
-use Rattle.std.specs.Prelude.{◌≡◌, refl, true, false, List, [], ◌∷◌, ◌++◌, ℕ, suc, ◌+◌, ◌-◌, ◌<◌, length, drop}
+use Rattle.std.specs.Prelude.{◌≡◌, refl, true, false, List, [], ◌∷◌, ◌++◌, ℕ, suc, ◌+◌, ◌-◌, ◌<◌, length, drop, Ok}
 use Rattle.std.proofs.Common.{sym, ap, ◌∙◌, append_assoc, arith}
 use Rattle.answers.specs.Answers.{Answer, done}
 use Rattle.answers.specs.Laws.{refused≢done}
-use Rattle.syntax.specs.declared.segment.Scanned.TheVariants.{End}
 use Rattle.placing.specs.Tables.{tables}
 use Rattle.steps.specs.declared.state.Phase.{Phase}
 use Rattle.steps.specs.declared.state.Phase.TheVariants.{Opening, Between, Inside, Closed}
@@ -37,7 +36,7 @@ module _ (s : List ℕ) (st : State) (at : ℕ) (g rest : List ℕ) (e : drop at
     (q : step_at s st at g ≡ done (taken next r)) where
   turn_one : turn_at tables s st at ≡ turn_step (at + length g + 1) (done (taken next r))
   turn_one =
-      sym (turn_is tables s st at (End (at + length g)) (segment_is s at g rest e ok))
+      sym (turn_is tables s st at (Ok (at + length g)) (segment_is s at g rest e ok))
       ∙ ap (λ (x : List ℕ). turn_step (at + length g + 1) (step_at s st at x)) (body_is s at g rest e ok)
       ∙ ap (turn_step (at + length g + 1)) q
 

@@ -1,6 +1,6 @@
 -- The references of UIB and UIH as the reading remembers them: a part of the text from the segment's start is the same part of the segment.
 -- Assumes nothing.
-use Rattle.std.specs.Prelude.{◌≡◌, List, ◌++◌, ℕ, ◌-◌, ◌≤◌, length, take, drop}
+use Rattle.std.specs.Prelude.{◌≡◌, List, ◌++◌, ℕ, ◌-◌, ◌≤◌, length, take, drop, Some, None}
 use Rattle.std.proofs.Common.{ap, ◌∙◌, inl, inr, arith, length-drop}
 use Rattle.std.proofs.lemmas.List.{take-append-le, drop-append-le}
 use Rattle.laws.specs.Choice.{both, choose}
@@ -8,7 +8,6 @@ use Rattle.syntax.specs.Pieces.{part_of}
 use Rattle.parts.specs.declared.Part.{Part}
 use Rattle.parts.specs.Places.{bytes_of, present}
 use Rattle.parts.specs.Located.{Inside, part_bytes, part_inside}
-use Rattle.envelope.specs.declared.Opened.TheVariants.{Dialogue, Wrong}
 use Rattle.envelope.specs.Envelope.{says, value_of, place_of, UNOB, version4, uib_of}
 use Rattle.steps.specs.Ways.{whole}
 use Rattle.acceptance.specs.Interchange.{reference_in}
@@ -34,13 +33,13 @@ reference_read g t =
     ∙ ap (λ (x : List ℕ). part_of x 2 1 1) (whole g)
 
 -- the part that a good UIB names is that one; of a UIH the envelope has the law
-wrong≢dialogue : (p : Part) → Wrong ≡ Dialogue p → ⊥
+wrong≢dialogue : (p : Part) → None ≡ Some p → ⊥
 wrong≢dialogue p q = let z : ◌≡◌ {A = ℕ} 0 1 = cc in omega arith
 
-dialogue_is : (p q : Part) → Dialogue p ≡ Dialogue q → q ≡ p
+dialogue_is : (p q : Part) → Some p ≡ Some q → q ≡ p
 dialogue_is p q e = cc
 
-pub dialogue_place_lem : (g : List ℕ) (p : Part) → uib_of g ≡ Dialogue p → p ≡ place_of g 2 1
+pub dialogue_place_lem : (g : List ℕ) (p : Part) → uib_of g ≡ Some p → p ≡ place_of g 2 1
 unfolding uib_of
 dialogue_place_lem g p e =
     choose (both (says (value_of g 1 1) UNOB) (both (says (value_of g 1 2) version4) (present (value_of g 2 1))))

@@ -1,6 +1,6 @@
 -- A segment in a text: where it is read, and what is read.
 -- Assumes nothing.
-use Rattle.std.specs.Prelude.{◌≡◌, refl, Bool, true, false, not, List, [], ◌∷◌, ◌++◌, ℕ, suc, ◌+◌, ◌≤◌, ◌<◌, drop}
+use Rattle.std.specs.Prelude.{◌≡◌, refl, Bool, true, false, not, List, [], ◌∷◌, ◌++◌, ℕ, suc, ◌+◌, ◌≤◌, ◌<◌, drop, Ok}
 use Rattle.std.proofs.Common.{sym, ◌∙◌, arith, not-suc-le-zero, length-append, length-drop, drop-drop}
 use Rattle.std.proofs.Math.Path.{ap}
 use Rattle.std.proofs.Math.ListN.{length}
@@ -11,7 +11,6 @@ use Rattle.syntax.specs.Bytes.{permitted_of, releases, stands}
 use Rattle.syntax.specs.Pieces.{first_piece}
 use Rattle.syntax.specs.Segment.{body_at, well_formed, scan_of, segment_at}
 use Rattle.syntax.specs.Ends.{ended, end_within}
-use Rattle.syntax.specs.declared.segment.Scanned.TheVariants.{End}
 use Rattle.acceptance.specs.Interchange.{unbroken, is_segment}
 
 -- what a segment's test says
@@ -66,7 +65,7 @@ module _ (s : List ℕ) (at : ℕ) (g rest : List ℕ) (e : drop at s ≡ g ++ (
     pub body_is : body_at s at ≡ g
     body_is = ap (first_piece 39 false) e ∙ first_whole false g rest (segment_parts g ok).0
 
-    pub segment_is : segment_at s at ≡ End (at + length g)
+    pub segment_is : segment_at s at ≡ Ok (at + length g)
     unfolding scan_of
     segment_is =
         let p = segment_parts g ok in
@@ -80,7 +79,7 @@ pub record Cut (s : List ℕ) (at : ℕ) (g : List ℕ) : Type 0 where
   pub fits : at + length g + 1 ≤ length s
   pub long : 3 ≤ length g
 
-pub cut_at : (s : List ℕ) (at e : ℕ) → segment_at s at ≡ End e → (e ≡ at + length (body_at s at)) × Cut s at (body_at s at)
+pub cut_at : (s : List ℕ) (at e : ℕ) → segment_at s at ≡ Ok e → (e ≡ at + length (body_at s at)) × Cut s at (body_at s at)
 unfolding is_segment
 cut_at s at e q =
     let w = ended s at e q in

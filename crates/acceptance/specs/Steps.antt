@@ -1,6 +1,6 @@
 -- What lets a segment step on: the rules for it, no more and no less, by what may come next.
 -- Assumes nothing.
-use Rattle.std.specs.Prelude.{◌≡◌, true, false, List, ℕ, eqb, ltb}
+use Rattle.std.specs.Prelude.{◌≡◌, true, false, List, ℕ, eqb, ltb, Option, Some, None, Result, Ok, Err}
 use Rattle.std.proofs.Math.Path.{refl, sym, ap}
 use Rattle.std.proofs.Common.{◌∙◌}
 use Rattle.laws.specs.Choice.{both, choose, both_parts, false≢true}
@@ -9,20 +9,12 @@ use Rattle.answers.specs.Laws.{refused≢done}
 use Rattle.syntax.specs.Segment.{tag_number}
 use Rattle.parts.specs.declared.Part.{Part}
 use Rattle.placing.specs.declared.Place.{Place}
-use Rattle.placing.specs.declared.Stepped.{Stepped}
-use Rattle.placing.specs.declared.Stepped.TheVariants.{Placed, OutOfPlace}
 use Rattle.messages.specs.declared.MessageType.{MessageType}
 use Rattle.messages.specs.Types.{is_period}
 use Rattle.placing.specs.Tables.{tables, table_of}
 use Rattle.messages.specs.Tags.{UIB, UIH, UIZ}
 use Rattle.placing.specs.Rule.{step_of, group_of}
-use Rattle.envelope.specs.declared.Opened.{Opened}
-use Rattle.envelope.specs.declared.Opened.TheVariants.{Dialogue, Wrong}
-use Rattle.envelope.specs.declared.Headed.{Headed}
-use Rattle.envelope.specs.declared.Headed.TheVariants.{Message, Missing, Unknown}
-use Rattle.envelope.specs.Envelope.{uib_of, uih_of, uit_of, uiz_of}
-use Rattle.period.specs.declared.Period.{Period}
-use Rattle.period.specs.declared.Period.TheVariants as period
+use Rattle.envelope.specs.Envelope.{uib_of, uih_of, uit_of, uiz_of, heading}
 use Rattle.period.specs.Period.{is_good, period_of}
 use Rattle.steps.specs.declared.state.Phase.{Phase}
 use Rattle.steps.specs.declared.state.Phase.TheVariants.{Opening, Between, Inside}
@@ -33,6 +25,11 @@ use Rattle.steps.specs.Step.{Taken, taken, row_of, opened_step, opening, headed,
 use Rattle.interchange.specs.Reader.{dialogue_of, headed_reference}
 use Rattle.acceptance.specs.Interchange.{good_contents, is_trailer}
 use Rattle.acceptance.specs.Onward.{step_at}
+use Rattle.period.specs.declared.Period.{Period}
+use Rattle.period.specs.declared.Fault.{Fault}
+use Rattle.envelope.specs.declared.Head.{Head}
+use Rattle.envelope.specs.declared.HeadError.{HeadError}
+use Rattle.envelope.specs.declared.HeadError.TheVariants.{Missing, Unknown}
 
 next_is : (a b : State) (r q : Row) → done (taken a r) ≡ done (taken b q) → b ≡ a
 next_is a b r q e = cc
@@ -42,13 +39,13 @@ module _ (s : List ℕ) (st : State) (at : ℕ) (g : List ℕ) where
   by f = step_by tables f st at g (dialogue_of s st) (headed_reference s st)
 
   -- the UIB
-  pub opening_goes : st.phase ≡ Opening → eqb (tag_number g) UIB ≡ true → (p : Part) → uib_of g ≡ Dialogue p
+  pub opening_goes : st.phase ≡ Opening → eqb (tag_number g) UIB ≡ true → (p : Part) → uib_of g ≡ Some p
       → step_at s st at g ≡ done (taken (opened_state st at p) (row_of at g 0))
   unfolding step_by opening
   opening_goes f t p e = ap by f ∙ rw (t, e)
 
   -- a UIH
-  pub heading_goes : st.phase ≡ Between → eqb (tag_number g) UIH ≡ true → (k : MessageType) (p : Part) → uih_of g ≡ Message k p
+  pub heading_goes : st.phase ≡ Between → eqb (tag_number g) UIH ≡ true → (k : MessageType) (p : Part) → uih_of g ≡ heading k p
       → step_at s st at g ≡ done (taken (headed_state st at k p) (row_of at g 0))
   unfolding step_by between_messages
   heading_goes f t k p e = ap by f ∙ rw (t, e)
@@ -61,13 +58,13 @@ module _ (s : List ℕ) (st : State) (at : ℕ) (g : List ℕ) where
 
   -- in a message
   abbrev fits : Place → Type 0
-  fits q = step_of (table_of st.message) st.place (tag_number g) ≡ Placed q
+  fits q = step_of (table_of st.message) st.place (tag_number g) ≡ Some q
 
-  judged_good : (q : Place) (group : ℕ) (x : Period) → is_good x ≡ true → judged st at g q group x ≡ done (taken (onward_state st q) (row_of at g group))
-  judged_good q group (period.Good a n form) e = refl
-  judged_good q group (period.Wrong x) e = absurd (false≢true e)
+  judged_good : (q : Place) (group : ℕ) (x : Result Period Fault) → is_good x ≡ true → judged st at g q group x ≡ done (taken (onward_state st q) (row_of at g group))
+  judged_good q group (Ok v) e = refl
+  judged_good q group (Err x) e = absurd (false≢true e)
 
-  pub within_goes : st.phase ≡ Inside → (q : Place) → fits q → is_trailer g ≡ false → good_contents st.wish st.message (g, Placed q) ≡ true
+  pub within_goes : st.phase ≡ Inside → (q : Place) → fits q → is_trailer g ≡ false → good_contents st.wish st.message (g, Some q) ≡ true
       → step_at s st at g ≡ done (taken (onward_state st q) (row_of at g (group_of (table_of st.message) q)))
   unfolding step_by inside_message placed
   within_goes f q e t c =
@@ -87,12 +84,12 @@ module _ (s : List ℕ) (st : State) (at : ℕ) (g : List ℕ) where
     pub record Opens : Type 0 where
       pub tag : eqb (tag_number g) UIB ≡ true
       pub dialogue : Part
-      pub named : uib_of g ≡ Dialogue dialogue
+      pub named : uib_of g ≡ Some dialogue
       pub state : next ≡ opened_state st at dialogue
 
-    opens_by : (x : Opened) → uib_of g ≡ x → eqb (tag_number g) UIB ≡ true → opened_step st at g x ≡ done (taken next r) → Opens
-    opens_by (Dialogue p) e t q = record { tag = t; dialogue = p; named = e; state = next_is (opened_state st at p) next (row_of at g 0) r q }
-    opens_by Wrong e t q = absurd (refused≢done q)
+    opens_by : (x : Option Part) → uib_of g ≡ x → eqb (tag_number g) UIB ≡ true → opened_step st at g x ≡ done (taken next r) → Opens
+    opens_by (Some p) e t q = record { tag = t; dialogue = p; named = e; state = next_is (opened_state st at p) next (row_of at g 0) r q }
+    opens_by None e t q = absurd (refused≢done q)
 
     pub opens : st.phase ≡ Opening → step_at s st at g ≡ done (taken next r) → Opens
     unfolding step_by opening
@@ -102,13 +99,13 @@ module _ (s : List ℕ) (st : State) (at : ℕ) (g : List ℕ) where
         (λ t. absurd (refused≢done (rw t at w)))
 
     pub data Follows : Type 0 where
-      heads : (k : MessageType) (p : Part) → eqb (tag_number g) UIH ≡ true → uih_of g ≡ Message k p → next ≡ headed_state st at k p → Follows
+      heads : (k : MessageType) (p : Part) → eqb (tag_number g) UIH ≡ true → uih_of g ≡ heading k p → next ≡ headed_state st at k p → Follows
       closes : eqb (tag_number g) UIZ ≡ true → ltb 0 st.messages ≡ true → uiz_of g (dialogue_of s st) st.messages ≡ true → next ≡ closed_state st → Follows
 
-    heads_by : (x : Headed) → uih_of g ≡ x → eqb (tag_number g) UIH ≡ true → headed st at g x ≡ done (taken next r) → Follows
-    heads_by (Message k p) e t q = heads k p t e (next_is (headed_state st at k p) next (row_of at g 0) r q)
-    heads_by Missing e t q = absurd (refused≢done q)
-    heads_by Unknown e t q = absurd (refused≢done q)
+    heads_by : (x : Result Head HeadError) → uih_of g ≡ x → eqb (tag_number g) UIH ≡ true → headed st at g x ≡ done (taken next r) → Follows
+    heads_by (Ok h) e t q = heads h.message h.reference t e (next_is (headed_state st at h.message h.reference) next (row_of at g 0) r q)
+    heads_by (Err Missing) e t q = absurd (refused≢done q)
+    heads_by (Err Unknown) e t q = absurd (refused≢done q)
 
     closes_by : eqb (tag_number g) UIZ ≡ true → closing st at g (dialogue_of s st) ≡ done (taken next r) → Follows
     unfolding closing
@@ -129,18 +126,18 @@ module _ (s : List ℕ) (st : State) (at : ℕ) (g : List ℕ) where
         (λ t. absurd (refused≢done (rw (n, t) at w))))
 
     pub data Moves : Type 0 where
-      onward : (q : Place) → fits q → is_trailer g ≡ false → good_contents st.wish st.message (g, Placed q) ≡ true → next ≡ onward_state st q → Moves
+      onward : (q : Place) → fits q → is_trailer g ≡ false → good_contents st.wish st.message (g, Some q) ≡ true → next ≡ onward_state st q → Moves
       ends : (q : Place) → fits q → is_trailer g ≡ true → uit_of g (headed_reference s st) (one_more st.segments) ≡ true → next ≡ ended_state st q → Moves
 
-    judged_is : (q : Place) (group : ℕ) (x : Period) → judged st at g q group x ≡ done (taken next r) → (is_good x ≡ true) × (next ≡ onward_state st q)
-    judged_is q group (period.Good a n form) e = (refl, next_is (onward_state st q) next (row_of at g group) r e)
-    judged_is q group (period.Wrong x) e = absurd (refused≢done e)
+    judged_is : (q : Place) (group : ℕ) (x : Result Period Fault) → judged st at g q group x ≡ done (taken next r) → (is_good x ≡ true) × (next ≡ onward_state st q)
+    judged_is q group (Ok v) e = (refl, next_is (onward_state st q) next (row_of at g group) r e)
+    judged_is q group (Err x) e = absurd (refused≢done e)
 
-    moves_by : (x : Stepped) → step_of (table_of st.message) st.place (tag_number g) ≡ x
+    moves_by : (x : Option Place) → step_of (table_of st.message) st.place (tag_number g) ≡ x
         → settled_step (table_of st.message) st at g (headed_reference s st) x ≡ done (taken next r) → Moves
     unfolding placed trailing
-    moves_by OutOfPlace e q = absurd (refused≢done q)
-    moves_by (Placed p) e q =
+    moves_by None e q = absurd (refused≢done q)
+    moves_by (Some p) e q =
         choose (is_trailer g)
         (λ t.
         choose (uit_of g (headed_reference s st) (one_more st.segments))

@@ -1,6 +1,6 @@
 -- An interchange is read to its end, and its rows are those of its segments.
 -- Assumes nothing.
-use Rattle.std.specs.Prelude.{◌≡◌, Bool, true, ℕ, ◌+◌, ◌-◌, ◌≤◌, ◌<◌, ltb, drop}
+use Rattle.std.specs.Prelude.{◌≡◌, Bool, true, ℕ, ◌+◌, ◌-◌, ◌≤◌, ◌<◌, ltb, drop, Some, Option, None, Result, Ok, Err}
 use Rattle.std.proofs.Math.Path.{refl, ap}
 use Rattle.std.proofs.Common.{sym, subst, ◌∙◌}
 use mathlib.Core.List.{List, [], ◌∷◌, ◌++◌, map, append_assoc}
@@ -12,17 +12,12 @@ use Rattle.laws.specs.Choice.{both, all, both_parts, false≢true}
 use Rattle.syntax.specs.Segment.{tag_number}
 use Rattle.parts.specs.declared.Part.{Part}
 use Rattle.parts.specs.Places.{bytes_of}
-use Rattle.placing.specs.declared.Stepped.TheVariants.{Placed}
 use Rattle.placing.specs.Place.{start_place}
 use Rattle.placing.specs.Rule.{group_of}
 use Rattle.messages.specs.declared.MessageType.{MessageType}
 use Rattle.placing.specs.Tables.{table_of}
 use Rattle.messages.specs.Tags.{UIB, UIH, UIZ}
-use Rattle.envelope.specs.declared.Opened.{Opened}
-use Rattle.envelope.specs.declared.Opened.TheVariants.{Dialogue, Wrong}
-use Rattle.envelope.specs.declared.Headed.{Headed}
-use Rattle.envelope.specs.declared.Headed.TheVariants as headed
-use Rattle.envelope.specs.Envelope.{uib_of, uih_of, uit_of, uiz_of}
+use Rattle.envelope.specs.Envelope.{uib_of, uih_of, uit_of, uiz_of, heading}
 use Rattle.steps.specs.declared.state.Phase.TheVariants.{Between, Inside}
 use Rattle.steps.specs.declared.state.State.{State}
 use Rattle.answers.specs.Answers.{done}
@@ -38,6 +33,9 @@ use Rattle.acceptance.specs.References.{reference_read, dialogue_place_lem}
 use Rattle.acceptance.specs.Onward.{step_at, read_one}
 use Rattle.acceptance.specs.Steps.{opening_goes, heading_goes, closing_goes, within_goes, trailer_goes}
 use Rattle.acceptance.specs.Within.{Within, to_last, to_front, Parts, to_parts}
+use Rattle.envelope.specs.declared.Head.{Head}
+use Rattle.envelope.specs.declared.HeadError.{HeadError}
+use Rattle.envelope.specs.declared.HeadError.TheVariants.{Missing, Unknown}
 
 -- read to the end with a row for each of some segments with their groups
 abbrev pub told : ℕ → List (List ℕ × ℕ) → Outcome
@@ -58,12 +56,12 @@ pub one_more_lem : (n : ℕ) → n < 65535 → one_more n ≡ n + 1
 one_more_lem n h = rw (lt-ltb n 65535 h)
 
 -- the references that are remembered
-pub reference_is : (s : List ℕ) (st : State) (at : ℕ) (g rest : List ℕ) (k : MessageType) (p : Part) → drop at s ≡ g ++ (39 ∷ rest) → uih_of g ≡ headed.Message k p
+pub reference_is : (s : List ℕ) (st : State) (at : ℕ) (g rest : List ℕ) (k : MessageType) (p : Part) → drop at s ≡ g ++ (39 ∷ rest) → uih_of g ≡ heading k p
     → headed_reference s (headed_state st at k p) ≡ reference_in g
 reference_is s st at g rest k p e q =
     ap (λ (x : List ℕ). bytes_of x p) e ∙ ap (bytes_of (g ++ (39 ∷ rest))) (uih_place g k p q) ∙ reference_read g (39 ∷ rest)
 
-pub dialogue_is : (s : List ℕ) (st : State) (at : ℕ) (g rest : List ℕ) (p : Part) → drop at s ≡ g ++ (39 ∷ rest) → uib_of g ≡ Dialogue p
+pub dialogue_is : (s : List ℕ) (st : State) (at : ℕ) (g rest : List ℕ) (p : Part) → drop at s ≡ g ++ (39 ∷ rest) → uib_of g ≡ Some p
     → dialogue_of s (opened_state st at p) ≡ reference_in g
 dialogue_is s st at g rest p e q =
     ap (λ (x : List ℕ). bytes_of x p) e ∙ ap (bytes_of (g ++ (39 ∷ rest))) (dialogue_place_lem g p q) ∙ reference_read g (39 ∷ rest)
@@ -80,14 +78,14 @@ pub record After (wish : Bool) (s : List ℕ) (st : State) (at : ℕ) (d : List 
   pub count : st.messages ≡ n
   pub few : n ≤ at
 
-named_is : (x : Opened) → names x ≡ true → (p : Part) × (x ≡ Dialogue p)
-named_is (Dialogue p) e = (p, refl)
-named_is Wrong e = absurd (false≢true e)
+named_is : (x : Option Part) → names x ≡ true → (p : Part) × (x ≡ Some p)
+named_is (Some p) e = (p, refl)
+named_is None e = absurd (false≢true e)
 
-known_is : (x : Headed) → known x ≡ true → (k : MessageType) × (p : Part) × (x ≡ headed.Message k p)
-known_is (headed.Message k p) e = (k, p, refl)
-known_is headed.Missing e = absurd (false≢true e)
-known_is headed.Unknown e = absurd (false≢true e)
+known_is : (x : Result Head HeadError) → known x ≡ true → (k : MessageType) × (p : Part) × (x ≡ heading k p)
+known_is (Ok h) e = (h.message, h.reference, refl)
+known_is (Err Missing) e = absurd (false≢true e)
+known_is (Err Unknown) e = absurd (false≢true e)
 
 module _ (s : List ℕ) (small : length s ≤ 60000) where
   -- what follows a message is read from wherever the message ends
@@ -97,7 +95,7 @@ module _ (s : List ℕ) (small : length s ≤ 60000) where
   module _ (rest : List (List ℕ)) (l : List (List ℕ × ℕ)) (last : List ℕ) where
     within_reads : (gs : List (List ℕ)) (st : State) (at : ℕ) → st.phase ≡ Inside → Within st.wish st.message st.place st.segments (headed_reference s st) gs last
         → st.messages ≤ at → st.segments ≤ at → drop at s ≡ segments_written (gs ++ (last ∷ rest)) → Follows st.wish (dialogue_of s st) (st.messages + 1) rest l
-        → Reads s st at (map (with_group (table_of st.message)) (places_from (table_of st.message) (Placed st.place) (gs ++ (last ∷ []))) ++ l)
+        → Reads s st at (map (with_group (table_of st.message)) (places_from (table_of st.message) (Some st.place) (gs ++ (last ∷ []))) ++ l)
     unfolding segments_written places_from
     within_reads [] st at f w a b e follows =
         let x = to_last st.wish st.message st.place st.segments (headed_reference s st) last w in
@@ -116,7 +114,7 @@ module _ (s : List ℕ) (small : length s ≤ 60000) where
         let q = within_goes s st at g f x.place x.fits x.inner x.contents in
         rw x.fits
         (reads_one s st at g (segments_written (gs ++ (last ∷ rest))) e x.segment (onward_state st x.place) (group_of (table_of st.message) x.place) q
-        (map (with_group (table_of st.message)) (places_from (table_of st.message) (Placed x.place) (gs ++ (last ∷ []))) ++ l)
+        (map (with_group (table_of st.message)) (places_from (table_of st.message) (Some x.place) (gs ++ (last ∷ []))) ++ l)
         (within_reads gs (onward_state st x.place) (at + length g + 1) refl
         (subst (λ (c : ℕ). Within st.wish st.message x.place c (headed_reference s st) gs last) (sym o) x.rest)
         (omega arith) (subst (λ (c : ℕ). c ≤ at + length g + 1) (sym o) (omega arith))
@@ -128,9 +126,9 @@ module _ (s : List ℕ) (small : length s ≤ 60000) where
     after = segments_written (m.within ++ (m.trailer ∷ rest))
 
     abbrev groups_by : MessageType → List (List ℕ × ℕ)
-    groups_by message = map (with_group (table_of message)) (places_from (table_of message) (Placed start_place) (m.within ++ (m.trailer ∷ [])))
+    groups_by message = map (with_group (table_of message)) (places_from (table_of message) (Some start_place) (m.within ++ (m.trailer ∷ [])))
 
-    heading_reads : (k : MessageType) (p : Part) → uih_of m.heading ≡ headed.Message k p → Parts wish m → drop at s ≡ m.heading ++ (39 ∷ after) → Follows wish d (n + 1) rest l
+    heading_reads : (k : MessageType) (p : Part) → uih_of m.heading ≡ heading k p → Parts wish m → drop at s ≡ m.heading ++ (39 ∷ after) → Follows wish d (n + 1) rest l
         → Reads s (headed_state st at k p) (at + length m.heading + 1) (groups_by k ++ l)
     heading_reads k p q w e follows =
         let i = segment_fits s at m.heading after e in

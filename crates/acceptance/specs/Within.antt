@@ -1,6 +1,6 @@
 -- The segments of a message after its UIH, one taken from the front or put there.
 -- Assumes nothing.
-use Rattle.std.specs.Prelude.{◌≡◌, refl, Bool, false, not, List, [], ◌∷◌, ◌++◌, ℕ, ◌+◌, eqb}
+use Rattle.std.specs.Prelude.{◌≡◌, refl, Bool, false, not, List, [], ◌∷◌, ◌++◌, ℕ, ◌+◌, eqb, Option, Some, None, is_some}
 use Rattle.std.proofs.Common.{sym, ◌∙◌}
 use Rattle.std.proofs.Math.Path.{ap}
 use Rattle.std.proofs.Math.Bool.{true}
@@ -10,26 +10,24 @@ use borrow.Author.Tests.{not-true}
 use Rattle.laws.specs.Choice.{both, all, both_parts, false≢true}
 use Rattle.syntax.specs.Segment.{tag_number}
 use Rattle.placing.specs.declared.Place.{Place}
-use Rattle.placing.specs.declared.Stepped.{Stepped}
-use Rattle.placing.specs.declared.Stepped.TheVariants.{Placed, OutOfPlace}
 use Rattle.messages.specs.declared.MessageType.{MessageType}
 use Rattle.placing.specs.Tables.{table_of}
 use Rattle.messages.specs.Tags.{UIH}
 use Rattle.placing.specs.Place.{start_place}
-use Rattle.placing.specs.Rule.{step_of, is_placed}
+use Rattle.placing.specs.Rule.{step_of}
 use Rattle.envelope.specs.Envelope.{uih_of, uit_of}
 use Rattle.acceptance.specs.Interchange.{is_segment, Message, segments_in, known, message_type_of, reference_in, places_from, has_place, good_contents, is_trailer, goes_before, placed_segments, good_heading, good_places, good_periods, good_trailer, is_message}
 
-placed_is : (x : Stepped) → is_placed x ≡ true → (q : Place) × (x ≡ Placed q)
-placed_is (Placed q) e = (q, refl)
-placed_is OutOfPlace e = absurd (false≢true e)
+placed_is : (x : Option Place) → is_some x ≡ true → (q : Place) × (x ≡ Some q)
+placed_is (Some q) e = (q, refl)
+placed_is None e = absurd (false≢true e)
 
 -- segments of a message of type k that come after the place p, c segments having come; r is the reference of the UIH
 pub record Within (wish : Bool) (k : MessageType) (p : Place) (c : ℕ) (r : List ℕ) (gs : List (List ℕ)) (last : List ℕ) : Type 0 where
   pub segments : all is_segment (gs ++ (last ∷ [])) ≡ true
   pub inner : all goes_before gs ≡ true
-  pub placed : all has_place (places_from (table_of k) (Placed p) (gs ++ (last ∷ []))) ≡ true
-  pub contents : all (good_contents wish k) (places_from (table_of k) (Placed p) gs) ≡ true
+  pub placed : all has_place (places_from (table_of k) (Some p) (gs ++ (last ∷ []))) ≡ true
+  pub contents : all (good_contents wish k) (places_from (table_of k) (Some p) gs) ≡ true
   pub trailer : is_trailer last ≡ true
   pub counted : uit_of last r (c + length gs + 1) ≡ true
 
@@ -38,14 +36,14 @@ module _ (wish : Bool) (k : MessageType) (p : Place) (c : ℕ) (r : List ℕ) (l
   pub record Last : Type 0 where
     pub segment : is_segment last ≡ true
     pub place : Place
-    pub fits : step_of (table_of k) p (tag_number last) ≡ Placed place
+    pub fits : step_of (table_of k) p (tag_number last) ≡ Some place
     pub trailer : is_trailer last ≡ true
     pub counted : uit_of last r (c + 1) ≡ true
 
   pub to_last : Within wish k p c r [] last → Last
   unfolding places_from
   to_last w =
-      let q = placed_is (step_of (table_of k) p (tag_number last)) (both_parts (is_placed (step_of (table_of k) p (tag_number last))) true w.placed).0 in
+      let q = placed_is (step_of (table_of k) p (tag_number last)) (both_parts (is_some (step_of (table_of k) p (tag_number last))) true w.placed).0 in
       let n : c + 0 + 1 ≡ c + 1 = omega arith in
       record {
         segment = (both_parts (is_segment last) true w.segments).0;
@@ -73,16 +71,16 @@ module _ (wish : Bool) (k : MessageType) (p : Place) (c : ℕ) (r : List ℕ) (l
     pub record Front : Type 0 where
       pub segment : is_segment g ≡ true
       pub place : Place
-      pub fits : step_of (table_of k) p (tag_number g) ≡ Placed place
+      pub fits : step_of (table_of k) p (tag_number g) ≡ Some place
       pub inner : is_trailer g ≡ false
-      pub contents : good_contents wish k (g, Placed place) ≡ true
+      pub contents : good_contents wish k (g, Some place) ≡ true
       pub rest : Within wish k place (c + 1) r gs last
 
     pub to_front : Within wish k p c r (g ∷ gs) last → Front
     unfolding places_from
     to_front w =
         let x = step_of (table_of k) p (tag_number g) in
-        let a = both_parts (is_placed x) (all has_place (places_from (table_of k) x (gs ++ (last ∷ [])))) w.placed in
+        let a = both_parts (is_some x) (all has_place (places_from (table_of k) x (gs ++ (last ∷ [])))) w.placed in
         let q = placed_is x a.0 in
         let b = both_parts (good_contents wish k (g, x)) (all (good_contents wish k) (places_from (table_of k) x gs)) w.contents in
         let d = both_parts (is_segment g) (all is_segment (gs ++ (last ∷ []))) w.segments in

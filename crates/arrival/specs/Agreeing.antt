@@ -1,6 +1,6 @@
 -- Segment by segment the bytes bring what the whole reader reads.
 -- Assumes nothing.
-use Rattle.std.specs.Prelude.{◌≡◌, Bool, true, List, [], ◌∷◌, ◌++◌, ℕ, zero, suc, ◌+◌, ◌-◌, ◌≤◌, ◌<◌, take, get_or}
+use Rattle.std.specs.Prelude.{◌≡◌, Bool, true, List, [], ◌∷◌, ◌++◌, ℕ, zero, suc, ◌+◌, ◌-◌, ◌≤◌, ◌<◌, take, get_or, Result, Ok, Err}
 use Rattle.std.proofs.Math.Path.{refl, sym, ap}
 use Rattle.std.proofs.Common.{subst, ◌∙◌, length-append, drop-drop}
 use Rattle.std.proofs.Math.Bool.{false}
@@ -14,8 +14,8 @@ use Rattle.laws.specs.Choice.{pick, choose}
 use Rattle.laws.specs.Lists.{drop_here, drop_past}
 use Rattle.answers.specs.declared.Refusal.{Refusal}
 use Rattle.answers.specs.Answers.{Answer, done, refused, wrong_envelope, naming, moved_to}
-use Rattle.syntax.specs.declared.segment.Scanned.{Scanned}
-use Rattle.syntax.specs.declared.segment.Scanned.TheVariants.{End, NotPermitted, Unended, Malformed}
+use Rattle.syntax.specs.declared.segment.ScanError.{ScanError}
+use Rattle.syntax.specs.declared.segment.ScanError.TheVariants.{NotPermitted, Unended, Malformed}
 use Rattle.syntax.specs.Bytes.{terminator}
 use Rattle.syntax.specs.Pieces.{first_piece}
 use Rattle.syntax.specs.Segment.{body_at, segment_at, scanned_answer, body_answer}
@@ -166,17 +166,17 @@ module _ (s : List ℕ) (f : ℕ)
         (fault_agreed n (moved_to at refusal) x rest)
 
   -- by what the scan found
-  scan_agreed : (rest : List ℕ) → drop at s ≡ body_at s at ++ (terminator ∷ rest) → fits_on 0 false rest ≡ true → (x : Scanned) → segment_at s at ≡ x
+  scan_agreed : (rest : List ℕ) → drop at s ≡ body_at s at ++ (terminator ∷ rest) → fits_on 0 false rest ≡ true → (x : Result ℕ ScanError) → segment_at s at ≡ x
       → Agreed n (after_turn (read_on f s) (turn_scan tables s st at x))
       (followed (arrived_scan (lengthened (standing s st at n) (body_at s at)) (body_at s at) (scanned_answer at x)) (arrived_on (arrived_scan (lengthened (standing s st at n) (body_at s at)) (body_at s at) (scanned_answer at x)).stand rest))
-  scan_agreed rest e fits (End k) q =
+  scan_agreed rest e fits (Ok k) q =
       agreed_by n
       (ap (λ (i : ℕ). after_turn (read_on f s) (turn_step (i + 1) (segment_step tables st at (body_at s at) (dialogue_of s st) (headed_reference s st)))) (ended s at k q).place)
       refl
       (step_agreed (body_at s at) rest e fits (segment_step tables st at (body_at s at) (dialogue_of s st) (headed_reference s st)) (segment_step tables (bare st) at (body_at s at) (dialogue_of s st) (headed_reference s st)) refl refl)
-  scan_agreed rest e fits (NotPermitted i) q = fault_agreed n (naming 4 i) (lengthened (standing s st at n) (body_at s at)) rest
-  scan_agreed rest e fits Unended q = fault_agreed n (naming 5 at) (lengthened (standing s st at n) (body_at s at)) rest
-  scan_agreed rest e fits Malformed q = fault_agreed n (naming 6 at) (lengthened (standing s st at n) (body_at s at)) rest
+  scan_agreed rest e fits (Err (NotPermitted i)) q = fault_agreed n (naming 4 i) (lengthened (standing s st at n) (body_at s at)) rest
+  scan_agreed rest e fits (Err Unended) q = fault_agreed n (naming 5 at) (lengthened (standing s st at n) (body_at s at)) rest
+  scan_agreed rest e fits (Err Malformed) q = fault_agreed n (naming 6 at) (lengthened (standing s st at n) (body_at s at)) rest
 
   module _ (unclosed : is_closed st.phase ≡ false) (here : at < length s) (fits : fits_on 0 false (drop at s) ≡ true) where
     turn_taken : read_on (suc f) s st at ≡ after_turn (read_on f s) (turn_scan tables s st at (segment_at s at))
@@ -205,16 +205,16 @@ module _ (s : List ℕ) (f : ℕ)
         (scan_agreed rest e w.1 (segment_at s at) refl)
 
     -- the text ends before it
-    cut_scan : (y : Brought) (x : Scanned) → segment_at s at ≡ x → length s ≤ at + length (body_at s at) → y.rows ≡ [] → end_of y.stand ≡ scanned_answer at x
+    cut_scan : (y : Brought) (x : Result ℕ ScanError) → segment_at s at ≡ x → length s ≤ at + length (body_at s at) → y.rows ≡ [] → end_of y.stand ≡ scanned_answer at x
         → Agreed n (after_turn (read_on f s) (turn_scan tables s st at x)) y
-    cut_scan y (End e) q h p r =
+    cut_scan y (Ok e) q h p r =
         let w = ended s at e q in
         let k = w.place in
         let i = w.inside in
         absurd (omega arith)
-    cut_scan y (NotPermitted i) q h p r = record { rows = p; end = r }
-    cut_scan y Unended q h p r = record { rows = p; end = r }
-    cut_scan y Malformed q h p r = record { rows = p; end = r }
+    cut_scan y (Err (NotPermitted i)) q h p r = record { rows = p; end = r }
+    cut_scan y (Err Unended) q h p r = record { rows = p; end = r }
+    cut_scan y (Err Malformed) q h p r = record { rows = p; end = r }
 
     unended_agreed : length s ≤ at + length (body_at s at) → Agreed n (read_on (suc f) s st at) (arrived_on (standing s st at n) (drop at s))
     unfolding awaited_end

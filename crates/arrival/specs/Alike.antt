@@ -1,6 +1,6 @@
 -- One segment's step does not look at where the references stood, nor at the offset but to hand it on; and what it keeps of both.
 -- Assumes nothing.
-use Rattle.std.specs.Prelude.{◌≡◌, true, false, List, ℕ, ◌≤◌, eqb, ltb}
+use Rattle.std.specs.Prelude.{◌≡◌, true, false, List, ℕ, ◌≤◌, eqb, ltb, Option, Some, None, Result, Ok, Err}
 use Rattle.std.proofs.Math.Path.{refl}
 use Rattle.std.proofs.Common.{sym, ap, subst, ◌∙◌}
 use native.Mathlib.Omega.{arith}
@@ -11,18 +11,10 @@ use Rattle.syntax.specs.Segment.{tag_number}
 use Rattle.messages.specs.Types.{is_period}
 use Rattle.messages.specs.Tags.{UIB, UIH, UIT, UIZ}
 use Rattle.placing.specs.declared.Place.{Place}
-use Rattle.placing.specs.declared.Stepped.{Stepped}
-use Rattle.placing.specs.declared.Stepped.TheVariants.{Placed, OutOfPlace}
 use Rattle.placing.specs.Table.{Table}
 use Rattle.placing.specs.Tables.{table_in}
 use Rattle.placing.specs.Rule.{step_of, group_of}
-use Rattle.envelope.specs.declared.Opened.{Opened}
-use Rattle.envelope.specs.declared.Opened.TheVariants.{Dialogue, Wrong}
-use Rattle.envelope.specs.declared.Headed.{Headed}
-use Rattle.envelope.specs.declared.Headed.TheVariants.{Message, Missing, Unknown}
-use Rattle.envelope.specs.Envelope.{uib_of, uih_of, uit_of, uiz_of}
-use Rattle.period.specs.declared.Period.{Period}
-use Rattle.period.specs.declared.Period.TheVariants as period
+use Rattle.envelope.specs.Envelope.{uib_of, uih_of, uit_of, uiz_of, heading}
 use Rattle.period.specs.Period.{period_of}
 use Rattle.steps.specs.declared.state.Phase.{Phase}
 use Rattle.steps.specs.declared.state.Phase.TheVariants.{Opening, Between, Inside, Closed}
@@ -31,6 +23,12 @@ use Rattle.steps.specs.declared.state.Row.{Row}
 use Rattle.steps.specs.State.{one_more, with_state}
 use Rattle.steps.specs.Step.{Taken, taken, row_of, opened_step, opening, headed, closing, between_messages, trailing, judged, placed, settled_step, inside_message, step_by, segment_step}
 use Rattle.arrival.specs.Arrived.{bare, opens, heads}
+use Rattle.period.specs.declared.Period.{Period}
+use Rattle.period.specs.declared.Fault.{Fault}
+use Rattle.parts.specs.declared.Part.{Part}
+use Rattle.envelope.specs.declared.Head.{Head}
+use Rattle.envelope.specs.declared.HeadError.{HeadError}
+use Rattle.envelope.specs.declared.HeadError.TheVariants.{Missing, Unknown}
 
 -- two good segments are the same but for their offsets, and for the references that came before
 pub record SameTaken (f : Phase) (at at₂ : ℕ) (next : State) (row : Row) (next₂ : State) (row₂ : Row) : Type 0 where
@@ -73,18 +71,18 @@ module _ (st o : State) (at at₂ : ℕ) (g : List ℕ) where
   other_alike f phase messages segments p group a b =
       record { offset = refl; again = refl; states = refl; dialogues = λ q. absurd (false≢true (sym a ∙ q)); references = λ q. absurd (false≢true (sym b ∙ q)) }
 
-  opened_alike : (x : Opened) → Alike Opening at at₂ (opened_step st at g x) (opened_step (elsewhere st o) at₂ g x)
-  opened_alike (Dialogue p) = record { offset = refl; again = refl; states = refl; dialogues = λ _. refl; references = λ q. absurd (false≢true q) }
-  opened_alike Wrong = (refl, refl, omega arith, omega arith)
+  opened_alike : (x : Option Part) → Alike Opening at at₂ (opened_step st at g x) (opened_step (elsewhere st o) at₂ g x)
+  opened_alike (Some p) = record { offset = refl; again = refl; states = refl; dialogues = λ _. refl; references = λ q. absurd (false≢true q) }
+  opened_alike None = (refl, refl, omega arith, omega arith)
 
   opening_alike : Alike Opening at at₂ (opening st at g) (opening (elsewhere st o) at₂ g)
   unfolding opening
   opening_alike = choose (eqb (tag_number g) UIB) (λ q. rw q (opened_alike (uib_of g))) (λ q. rw q (refl, refl, omega arith, omega arith))
 
-  headed_alike : (x : Headed) → Alike Between at at₂ (headed st at g x) (headed (elsewhere st o) at₂ g x)
-  headed_alike (Message k p) = record { offset = refl; again = refl; states = refl; dialogues = λ q. absurd (false≢true q); references = λ _. refl }
-  headed_alike Missing = (refl, refl, omega arith, omega arith)
-  headed_alike Unknown = (refl, refl, omega arith, omega arith)
+  headed_alike : (x : Result Head HeadError) → Alike Between at at₂ (headed st at g x) (headed (elsewhere st o) at₂ g x)
+  headed_alike (Ok h) = record { offset = refl; again = refl; states = refl; dialogues = λ q. absurd (false≢true q); references = λ _. refl }
+  headed_alike (Err Missing) = (refl, refl, omega arith, omega arith)
+  headed_alike (Err Unknown) = (refl, refl, omega arith, omega arith)
 
   closing_alike : (d : List ℕ) → Alike Between at at₂ (closing st at g d) (closing (elsewhere st o) at₂ g d)
   unfolding closing
@@ -99,10 +97,10 @@ module _ (st o : State) (at at₂ : ℕ) (g : List ℕ) where
       choose (eqb (tag_number g) UIH) (λ q. rw q (headed_alike (uih_of g)))
       (λ q. rw q (choose (eqb (tag_number g) UIZ) (λ p. rw p (closing_alike d)) (λ p. rw p (refl, refl, omega arith, omega arith))))
 
-  judged_alike : (p : Place) (group : ℕ) (x : Period) → Alike Inside at at₂ (judged st at g p group x) (judged (elsewhere st o) at₂ g p group x)
-  judged_alike p group (period.Good f n form) =
+  judged_alike : (p : Place) (group : ℕ) (x : Result Period Fault) → Alike Inside at at₂ (judged st at g p group x) (judged (elsewhere st o) at₂ g p group x)
+  judged_alike p group (Ok v) =
       other_alike Inside Inside st.messages (one_more st.segments) p group refl refl
-  judged_alike p group (period.Wrong x) = (refl, refl, omega arith, omega arith)
+  judged_alike p group (Err x) = (refl, refl, omega arith, omega arith)
 
   trailing_alike : (r : List ℕ) (p : Place) (group : ℕ) → Alike Inside at at₂ (trailing st at g r p group) (trailing (elsewhere st o) at₂ g r p group)
   unfolding trailing
@@ -120,9 +118,9 @@ module _ (st o : State) (at at₂ : ℕ) (g : List ℕ) where
       (choose (is_period st.message (tag_number g) group) (λ e. rw e (judged_alike p group (period_of st.wish g)))
       (λ e. rw e (other_alike Inside Inside st.messages (one_more st.segments) p group refl refl))))
 
-  settled_alike : (t : Table) (r : List ℕ) (x : Stepped) → Alike Inside at at₂ (settled_step t st at g r x) (settled_step t (elsewhere st o) at₂ g r x)
-  settled_alike t r (Placed p) = placed_alike r (group_of t p) p
-  settled_alike t r OutOfPlace = (refl, refl, omega arith, omega arith)
+  settled_alike : (t : Table) (r : List ℕ) (x : Option Place) → Alike Inside at at₂ (settled_step t st at g r x) (settled_step t (elsewhere st o) at₂ g r x)
+  settled_alike t r (Some p) = placed_alike r (group_of t p) p
+  settled_alike t r None = (refl, refl, omega arith, omega arith)
 
   phase_alike : (t : Table) (f : Phase) (d r : List ℕ) → Alike f at at₂ (step_by t f st at g d r) (step_by t f (elsewhere st o) at₂ g d r)
   unfolding step_by inside_message
@@ -184,9 +182,9 @@ step_number t st at g d r x e =
 
 -- What a good segment g at an offset keeps: the UIB tells where the dialogue reference is, a UIH where 0340 is; every other segment leaves both.
 pub record Kept (f : Phase) (st : State) (at : ℕ) (g : List ℕ) (next : State) : Type 0 where
-  pub opened : opens f ≡ true → (next.opened_at ≡ at) × (uib_of g ≡ Dialogue next.dialogue)
+  pub opened : opens f ≡ true → (next.opened_at ≡ at) × (uib_of g ≡ Some next.dialogue)
   pub unopened : opens f ≡ false → (next.opened_at ≡ st.opened_at) × (next.dialogue ≡ st.dialogue)
-  pub headed : heads f next.phase ≡ true → (next.headed_at ≡ at) × (uih_of g ≡ Message next.message next.reference)
+  pub headed : heads f next.phase ≡ true → (next.headed_at ≡ at) × (uih_of g ≡ heading next.message next.reference)
   pub unheaded : heads f next.phase ≡ false → (next.headed_at ≡ st.headed_at) × (next.reference ≡ st.reference)
 
 abbrev Keeps : Phase → State → ℕ → List ℕ → Answer Taken → Type 0
@@ -206,20 +204,20 @@ module _ (st : State) (at : ℕ) (g : List ℕ) where
         unheaded = λ _. (refl, refl);
       }
 
-  opened_keeps : (x : Opened) → uib_of g ≡ x → Keeps Opening st at g (opened_step st at g x)
-  opened_keeps (Dialogue p) e =
+  opened_keeps : (x : Option Part) → uib_of g ≡ x → Keeps Opening st at g (opened_step st at g x)
+  opened_keeps (Some p) e =
       record { opened = λ _. (refl, e); unopened = λ q. absurd (true≢false q); headed = λ q. absurd (false≢true q); unheaded = λ _. (refl, refl) }
-  opened_keeps Wrong e = tt
+  opened_keeps None e = tt
 
   opening_keeps : Keeps Opening st at g (opening st at g)
   unfolding opening
   opening_keeps = choose (eqb (tag_number g) UIB) (λ q. rw q (opened_keeps (uib_of g) refl)) (λ q. rw q tt)
 
-  headed_keeps : (x : Headed) → uih_of g ≡ x → Keeps Between st at g (headed st at g x)
-  headed_keeps (Message k p) e =
+  headed_keeps : (x : Result Head HeadError) → uih_of g ≡ x → Keeps Between st at g (headed st at g x)
+  headed_keeps (Ok h) e =
       record { opened = λ q. absurd (false≢true q); unopened = λ _. (refl, refl); headed = λ _. (refl, e); unheaded = λ q. absurd (true≢false q) }
-  headed_keeps Missing e = tt
-  headed_keeps Unknown e = tt
+  headed_keeps (Err Missing) e = tt
+  headed_keeps (Err Unknown) e = tt
 
   closing_keeps : (d : List ℕ) → Keeps Between st at g (closing st at g d)
   unfolding closing
@@ -234,10 +232,10 @@ module _ (st : State) (at : ℕ) (g : List ℕ) where
       choose (eqb (tag_number g) UIH) (λ q. rw q (headed_keeps (uih_of g) refl))
       (λ q. rw q (choose (eqb (tag_number g) UIZ) (λ p. rw p (closing_keeps d)) (λ p. rw p tt)))
 
-  judged_keeps : (p : Place) (group : ℕ) (x : Period) → Keeps Inside st at g (judged st at g p group x)
-  judged_keeps p group (period.Good f n form) =
+  judged_keeps : (p : Place) (group : ℕ) (x : Result Period Fault) → Keeps Inside st at g (judged st at g p group x)
+  judged_keeps p group (Ok v) =
       other_keeps Inside Inside st.messages (one_more st.segments) p refl refl
-  judged_keeps p group (period.Wrong x) = tt
+  judged_keeps p group (Err x) = tt
 
   trailing_keeps : (r : List ℕ) (p : Place) (group : ℕ) → Keeps Inside st at g (trailing st at g r p group)
   unfolding trailing
@@ -255,9 +253,9 @@ module _ (st : State) (at : ℕ) (g : List ℕ) where
       (choose (is_period st.message (tag_number g) group) (λ e. rw e (judged_keeps p group (period_of st.wish g)))
       (λ e. rw e (other_keeps Inside Inside st.messages (one_more st.segments) p refl refl))))
 
-  settled_keeps : (t : Table) (r : List ℕ) (x : Stepped) → Keeps Inside st at g (settled_step t st at g r x)
-  settled_keeps t r (Placed p) = placed_keeps r (group_of t p) p
-  settled_keeps t r OutOfPlace = tt
+  settled_keeps : (t : Table) (r : List ℕ) (x : Option Place) → Keeps Inside st at g (settled_step t st at g r x)
+  settled_keeps t r (Some p) = placed_keeps r (group_of t p) p
+  settled_keeps t r None = tt
 
   phase_keeps : (t : Table) (f : Phase) (d r : List ℕ) → Keeps f st at g (step_by t f st at g d r)
   unfolding step_by inside_message

@@ -1,6 +1,6 @@
 -- The whole segments of a message at the front of some bytes, as they arrive and as the reader of a stretch takes them.
 -- Assumes nothing.
-use Rattle.std.specs.Prelude.{◌≡◌, refl, Bool, true, false, List, [], ◌∷◌, ◌++◌, map, ltb, drop}
+use Rattle.std.specs.Prelude.{◌≡◌, refl, Bool, true, false, List, [], ◌∷◌, ◌++◌, map, ltb, drop, Result, Ok, Err}
 use Rattle.std.proofs.Common.{sym, ap, subst, ◌∙◌, append_assoc, arith, not-suc-le-zero, length-drop, drop-drop}
 use Prim.Native.Nat.{ℕ, zero, suc, ◌+◌, ◌*◌, ◌≤◌, ◌<◌}
 use Rattle.std.proofs.Math.ListN.{length}
@@ -11,8 +11,8 @@ use Rattle.answers.specs.Answers.{Answer, done, refused, moved_to}
 use Rattle.answers.specs.Laws.{done≢refused, refused_is}
 use Rattle.syntax.specs.Bytes.{terminator, stands, releases}
 use Rattle.syntax.specs.Pieces.{first_piece}
-use Rattle.syntax.specs.declared.segment.Scanned.{Scanned}
-use Rattle.syntax.specs.declared.segment.Scanned.TheVariants.{End, NotPermitted, Unended, Malformed}
+use Rattle.syntax.specs.declared.segment.ScanError.{ScanError}
+use Rattle.syntax.specs.declared.segment.ScanError.TheVariants.{NotPermitted, Unended, Malformed}
 use Rattle.syntax.specs.Segment.{body_at, segment_at}
 use Rattle.cuts.specs.Cuts.{released_after}
 use Rattle.parts.specs.Places.{bytes_of}
@@ -24,7 +24,6 @@ use Rattle.steps.specs.declared.state.Row.{Row}
 use Rattle.steps.specs.State.{one_more}
 use Rattle.steps.specs.Step.{step_by, segment_step}
 use Rattle.interchange.specs.declared.turn.Turn.{Turn}
-use Rattle.interchange.specs.declared.turn.Turn.TheVariants.{On, Stop}
 use Rattle.interchange.specs.Reader.{Verdict, accepted, is_closed, turn_step, turn_with}
 use Rattle.interchange.specs.Runs.{counted_of, counted_none, counted_more}
 use Rattle.interchange.specs.Stretch.{Stretched, same_phase, halted, ahead, is_ended, stretch_turn, stretch_on}
@@ -117,12 +116,10 @@ unfolding step_by
 inside_step st at g d e r i =
     ap (λ (f : Phase). step_by tables f st at g d r) i ∙ sym (ap (λ (f : Phase). step_by tables f st at g e r) i)
 
-inside_turn : (s : List ℕ) (st : State) (at : ℕ) (d e r : List ℕ) → st.phase ≡ Inside → (x : Scanned)
+inside_turn : (s : List ℕ) (st : State) (at : ℕ) (d e r : List ℕ) → st.phase ≡ Inside → (x : Result ℕ ScanError)
     → turn_with tables s d r st at x ≡ turn_with tables s e r st at x
-inside_turn s st at d e r i (End n) = ap (turn_step (n + 1)) (inside_step st at (body_at s at) d e r i)
-inside_turn s st at d e r i (NotPermitted n) = refl
-inside_turn s st at d e r i Unended = refl
-inside_turn s st at d e r i Malformed = refl
+inside_turn s st at d e r i (Ok n) = ap (turn_step (n + 1)) (inside_step st at (body_at s at) d e r i)
+inside_turn s st at d e r i (Err error) = refl
 
 same_inside : (f : Phase) → same_phase Inside f ≡ true → f ≡ Inside
 same_inside Opening q = absurd (false≢true q)
@@ -208,9 +205,9 @@ module _ (x : Stand) (w : List ℕ) (l : length w ≤ 4096) (h : x.offset + leng
     fits : ltb (x.offset + at + length body) (arrived_bytes whole + 1) ≡ ltb (at + length body) (length w)
     fits = lt-ltb (x.offset + at + length body) (arrived_bytes whole + 1) (omega arith) ∙ sym (lt-ltb (at + length body) (length w) i)
 
-    judged : (turn : Turn) → turn ≡ turn_with tables w x.reference x.reference st at (segment_at w at) → Same x.offset whole at body (length w) turn (arrived_segment whole body)
+    judged : (turn : Result Turn Refusal) → turn ≡ turn_with tables w x.reference x.reference st at (segment_at w at) → Same x.offset whole at body (length w) turn (arrived_segment whole body)
     judged turn o =
-        subst (λ (t : Turn). Same x.offset whole at body (length w) t (arrived_segment whole body))
+        subst (λ (t : Result Turn Refusal). Same x.offset whole at body (length w) t (arrived_segment whole body))
         (inside_turn w st at x.dialogue x.reference x.reference f (segment_at w at) ∙ sym o)
         (segment_same x.offset whole at refl st refl w fits)
 
@@ -242,19 +239,19 @@ module _ (x : Stand) (w : List ℕ) (l : length w ≤ 4096) (h : x.offset + leng
           ∙ ap (λ (j : ℕ). taken_by Inside j (one_more (counted_of x.count k))) n
           ∙ ap (taken_by Inside (x.offset + then)) (counted_more x.count k)
 
-    turned : (turn : Turn) → Same x.offset whole at body (length w) turn (arrived_segment whole body) → (more : State → ℕ → Stretched)
+    turned : (turn : Result Turn Refusal) → Same x.offset whole at body (length w) turn (arrived_segment whole body) → (more : State → ℕ → Stretched)
         → ((next : State) (then : ℕ) → next.phase ≡ Inside → then ≤ length w → Went x w next then (k + 1) (more next then))
         → Went x w st at k (stretch_turn more st at turn)
-    turned (On next r then) (o, a, b, c, d) more m =
-        let n : then ≤ length w = omega arith in
-        more_before st next at then k r (pick (same_phase st.phase next.phase) (more next then) (halted next then accepted)) a (omega arith) n
+    turned (Ok t) (o, a, b, c, d) more m =
+        let n : t.then ≤ length w = omega arith in
+        more_before st t.state at t.then k t.row (pick (same_phase st.phase t.state.phase) (more t.state t.then) (halted t.state t.then accepted)) a (omega arith) n
         (λ rest.
-        came rest (record { stand = beyond x next then (k + 1); rows = raise x.offset r ∷ []; opened = false; headed = false }) (o ∙ taking_inside next r then b)
-        ∙ ap (λ (j : ℕ). followed (record { stand = beyond x next then (k + 1); rows = raise x.offset r ∷ []; opened = false; headed = false }) (arrived_on (beyond x next then (k + 1)) (drop j w ++ rest))) (sym b))
-        (picked (same_phase st.phase next.phase) (more next then) (halted next then accepted) (Went x w next then (k + 1))
-        (λ q. m next then (same_inside next.phase (sym (ap (λ (p : Phase). same_phase p next.phase) f) ∙ q)) n)
-        (λ q. still next then (k + 1) n))
-    turned (Stop z) (o, a) more m =
+        came rest (record { stand = beyond x t.state t.then (k + 1); rows = raise x.offset t.row ∷ []; opened = false; headed = false }) (o ∙ taking_inside t.state t.row t.then b)
+        ∙ ap (λ (j : ℕ). followed (record { stand = beyond x t.state t.then (k + 1); rows = raise x.offset t.row ∷ []; opened = false; headed = false }) (arrived_on (beyond x t.state t.then (k + 1)) (drop j w ++ rest))) (sym b))
+        (picked (same_phase st.phase t.state.phase) (more t.state t.then) (halted t.state t.then accepted) (Went x w t.state t.then (k + 1))
+        (λ q. m t.state t.then (same_inside t.state.phase (sym (ap (λ (p : Phase). same_phase p t.state.phase) f) ∙ q)) n)
+        (λ q. still t.state t.then (k + 1) n))
+    turned (Err z) (o, a) more m =
         let e : Answer ℕ = refused (moved_to (x.offset + z.position) z) in
         let n : k ≡ k + 0 = omega arith in
         record {
@@ -282,9 +279,9 @@ module _ (x : Stand) (w : List ℕ) (l : length w ≤ 4096) (h : x.offset + leng
       (λ q. still st at k i)
 
 -- a segment that is ended has a row, or a fault
-turn_some : (more : State → ℕ → Stretched) (st : State) (at : ℕ) (turn : Turn) → (stretch_turn more st at turn).verdict ≡ accepted → 0 < length (stretch_turn more st at turn).rows
-turn_some more st at (On next r then) v = omega arith
-turn_some more st at (Stop z) v = absurd (done≢refused (sym v))
+turn_some : (more : State → ℕ → Stretched) (st : State) (at : ℕ) (turn : Result Turn Refusal) → (stretch_turn more st at turn).verdict ≡ accepted → 0 < length (stretch_turn more st at turn).rows
+turn_some more st at (Ok t) v = omega arith
+turn_some more st at (Err z) v = absurd (done≢refused (sym v))
 
 stretch_some : (n : ℕ) (w reference : List ℕ) (st : State) (at : ℕ) → 1 ≤ n → is_ended w at ≡ true → (stretch_on n w reference st at).verdict ≡ accepted → 0 < length (stretch_on n w reference st at).rows
 unfolding stretch_on

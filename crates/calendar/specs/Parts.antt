@@ -1,6 +1,6 @@
 -- The written forms put into the lent bytes part by part, and what the writers answer.
 -- Assumes nothing.
-use Rattle.std.specs.Prelude.{◌≡◌, Bool, List, ◌++◌, ℕ, ◌+◌, ◌<◌, ◌≤◌}
+use Rattle.std.specs.Prelude.{◌≡◌, Bool, List, ◌++◌, ℕ, ◌+◌, ◌<◌, ◌≤◌, Some, None}
 use Rattle.std.proofs.Math.Path.{refl, sym, ap}
 use Rattle.std.proofs.Common.{◌∙◌, arith, zero-add, length-append, le-leb}
 use Rattle.std.proofs.Math.Bool.{true, false}
@@ -21,7 +21,7 @@ use Rattle.calendar.specs.Check.{checked_good, checked_bad}
 use Rattle.calendar.specs.Good.{good_facts}
 use Rattle.calendar.specs.Empty.{week_none, week_some}
 use Rattle.calendar.specs.Steps.{length_characters}
-use Rattle.calendar.specs.declared.Span.TheVariants.{Days, Bad}
+use Rattle.calendar.specs.declared.Span.{Span}
 
 pub length_start : (first last : Date) → length (start first last) ≡ 29
 unfolding start
@@ -68,11 +68,11 @@ module _ (c : List ℕ) (first last : Date) (n : ℕ) (o : List ℕ) where
       )
 
 module _ (short : Bool) (c : List ℕ) (first last : Date) (o : List ℕ) where
-  pub day_string_bad : checked_of c first last ≡ Bad → (bad_calendar ≡ day_string_answer short c first last o) × (o ≡ day_string_bytes short c first last o)
+  pub day_string_bad : checked_of c first last ≡ None → (bad_calendar ≡ day_string_answer short c first last o) × (o ≡ day_string_bytes short c first last o)
   unfolding day_string_answer day_string_bytes
   day_string_bad e = let g = checked_bad c first last e in (rw g, rw g)
 
-  pub day_string_good : {f n m : ℕ} {r : Answer ℕ} {p : List ℕ} → checked_of c first last ≡ Days f n → m ≡ character_count short c n
+  pub day_string_good : {s : Span} {m : ℕ} {r : Answer ℕ} {p : List ℕ} → checked_of c first last ≡ Some s → m ≡ character_count short c s.count
       → (r ≡ text_answer (day_string_text c first last m) o) × (p ≡ put_at o 0 (day_string_text c first last m))
       → (r ≡ day_string_answer short c first last o) × (p ≡ day_string_bytes short c first last o)
   unfolding day_string_answer day_string_bytes
@@ -101,47 +101,47 @@ module _ (first last : Date) (w o : List ℕ) where
       )
 
 -- a good calendar's numbers are small
-module _ (c : List ℕ) (first last : Date) {f n : ℕ} (e : checked_of c first last ≡ Days f n) where
-  pub checked_small : f + n ≤ 65536
+module _ (c : List ℕ) (first last : Date) {s : Span} (e : checked_of c first last ≡ Some s) where
+  pub checked_small : s.first + s.count ≤ 65536
   checked_small =
       let g = checked_good c first last e in
       let h = good_facts c first last g.0 in
       omega (arith, number_below first h.first_date, g.1, g.2)
 
   module _ (o : List ℕ) where
-    module _ {x : ℕ} (k : x ≡ week_of c f n) where
+    module _ {x : ℕ} (k : x ≡ week_of c s.first s.count) where
       pub no_day : x ≡ 0 → (no_weekday_form ≡ weekday_answer c first last o) × (o ≡ weekday_bytes c first last o)
       unfolding weekday_answer weekday_bytes weekday_form
       no_day h =
           let g = checked_good c first last e in
-          let a : any_day c 0 n ≡ false = week_none c f n (sym k ∙ h) in
+          let a : any_day c 0 s.count ≡ false = week_none c s.first s.count (sym k ∙ h) in
           (rw (g.0, g.2, g.1, a), rw (g.0, g.2, g.1, a))
 
-      all_same : all_on (has_bit x) c f 0 n ≡ all_on (named c f n) c f 0 n
-      all_same = on_same (has_bit x) (named c f n) (λ w l. ap (λ (y : ℕ). has_bit y w) k ∙ week_named c f n w l) c f 0 n
+      all_same : all_on (has_bit x) c s.first 0 s.count ≡ all_on (named c s.first s.count) c s.first 0 s.count
+      all_same = on_same (has_bit x) (named c s.first s.count) (λ w l. ap (λ (y : ℕ). has_bit y w) k ∙ week_named c s.first s.count w l) c s.first 0 s.count
 
       module _ (h : x ≡ 0 → ⊥) where
-        selected : any_day c 0 n ≡ true
-        selected = week_some c f n (λ q. h (k ∙ q))
+        selected : any_day c 0 s.count ≡ true
+        selected = week_some c s.first s.count (λ q. h (k ∙ q))
 
-        pub not_whole : all_on (has_bit x) c f 0 n ≡ false → (no_weekday_form ≡ weekday_answer c first last o) × (o ≡ weekday_bytes c first last o)
+        pub not_whole : all_on (has_bit x) c s.first 0 s.count ≡ false → (no_weekday_form ≡ weekday_answer c first last o) × (o ≡ weekday_bytes c first last o)
         unfolding weekday_answer weekday_bytes weekday_form
         not_whole m =
             let g = checked_good c first last e in
-            let b : all_on (named c f n) c f 0 n ≡ false = sym all_same ∙ m in
+            let b : all_on (named c s.first s.count) c s.first 0 s.count ≡ false = sym all_same ∙ m in
             (rw (g.0, g.2, g.1, selected, b), rw (g.0, g.2, g.1, selected, b))
 
-        pub weekdays_good : {r : Answer ℕ} {p w : List ℕ} → all_on (has_bit x) c f 0 n ≡ true → w ≡ digits_from (has_bit x) 1 7
+        pub weekdays_good : {r : Answer ℕ} {p w : List ℕ} → all_on (has_bit x) c s.first 0 s.count ≡ true → w ≡ digits_from (has_bit x) 1 7
             → (r ≡ text_answer (named_text first last w) o) × (p ≡ put_at o 0 (named_text first last w))
             → (r ≡ weekday_answer c first last o) × (p ≡ weekday_bytes c first last o)
         unfolding weekday_answer weekday_bytes weekday_form
         weekdays_good {r} {p} {w} m d z =
             let g = checked_good c first last e in
-            let b : all_on (named c f n) c f 0 n ≡ true = sym all_same ∙ m in
-            let q : w ≡ digits_from (named c f n) 1 7 = d ∙ digits_same (has_bit x) (named c f n) (λ v l. ap (λ (y : ℕ). has_bit y v) k ∙ week_named c f n v l) 1 7 (omega arith) in
+            let b : all_on (named c s.first s.count) c s.first 0 s.count ≡ true = sym all_same ∙ m in
+            let q : w ≡ digits_from (named c s.first s.count) 1 7 = d ∙ digits_same (has_bit x) (named c s.first s.count) (λ v l. ap (λ (y : ℕ). has_bit y v) k ∙ week_named c s.first s.count v l) 1 7 (omega arith) in
             (rw (g.0, g.2, g.1, selected, b) (rw q at z.0), rw (g.0, g.2, g.1, selected, b) (rw q at z.1))
 
-pub weekdays_bad : (c : List ℕ) (first last : Date) (o : List ℕ) → checked_of c first last ≡ Bad
+pub weekdays_bad : (c : List ℕ) (first last : Date) (o : List ℕ) → checked_of c first last ≡ None
     → (bad_calendar ≡ weekday_answer c first last o) × (o ≡ weekday_bytes c first last o)
 unfolding weekday_answer weekday_bytes
 weekdays_bad c first last o e = let g = checked_bad c first last e in (rw g, rw g)

@@ -1,29 +1,19 @@
 -- The laws of the written forms' parts, a day at a time.
 -- Assumes nothing.
-use Rattle.std.specs.Prelude.{◌≡◌, refl, true, false, List, ℕ, zero, suc, ◌+◌, ◌-◌, ◌<◌, ◌≤◌, length, get_or, set}
+use Rattle.std.specs.Prelude.{◌≡◌, refl, List, ℕ, zero, suc, ◌+◌, ◌<◌, ◌≤◌, length, get_or, set}
 use Rattle.std.proofs.Common.{sym, ap, ◌∙◌, arith, not-suc-le-zero}
 use Rattle.std.proofs.Math.Seq.{paste}
+use Rattle.std.specs.List.{list_any, range_with_len}
+use Rattle.laws.specs.Choice.{choose}
 use Rattle.laws.specs.Put.{put_at, put_room, put_no_room, copied}
 use Rattle.calendar.specs.Days.{day}
 use Rattle.calendar.specs.Written.{any_day, day_character, day_characters}
 
-pub any_found : (c : List ℕ) (k to : ℕ) → k < to → day c k ≡ true → any_day c k (to - k) ≡ true
+-- the days of a range one by one
+pub any_in_range : (c : List ℕ) (k n : ℕ) → list_any (day c) (range_with_len k n) ≡ any_day c k n
 unfolding any_day
-any_found c k to h d =
-    let e : to - k ≡ suc (to - (k + 1)) = omega arith in
-    rw (e, d)
-
-pub any_on : (c : List ℕ) (k to : ℕ) → k < to → day c k ≡ false → any_day c k (to - k) ≡ any_day c (k + 1) (to - (k + 1))
-unfolding any_day
-any_on c k to h d =
-    let e : to - k ≡ suc (to - (k + 1)) = omega arith in
-    rw (e, d)
-
-pub any_end : (c : List ℕ) (k to : ℕ) → to ≤ k → any_day c k (to - k) ≡ false
-unfolding any_day
-any_end c k to h =
-    let e : to - k ≡ zero = omega arith in
-    rw e
+any_in_range c k zero = refl
+any_in_range c k (suc n) = let r = any_in_range c (k + 1) n in choose (day c k) (λ p. rw p) (λ p. rw p r)
 
 pub length_characters : (c : List ℕ) (k n : ℕ) → length (day_characters c k n) ≡ n
 unfolding day_characters

@@ -8,7 +8,8 @@ use Prim.Native.Nat.{ℕ, zero, suc, ◌+◌, ◌-◌, ◌%◌, ◌<◌, ◌≤�
 use native.Mathlib.Omega.{arith}
 use Rattle.std.proofs.Math.Decide.{ℕ_discrete}
 use Rattle.std.proofs.lemmas.List.{take-set-le}
-use Rattle.laws.specs.Choice.{pick, both, either}
+use Rattle.std.specs.List.{list_all, range_with_len}
+use Rattle.laws.specs.Choice.{pick, both, either, choose}
 use Rattle.dates.specs.Days.{weekday_of}
 use Rattle.dates.specs.Laws.{weekday_range}
 use Rattle.calendar.specs.Days.{day, has_bit}
@@ -41,29 +42,19 @@ week_named c f (suc n) w h =
     let r = weekday_range (f + n) in
     marks (week_of c f n) (weekday_of (f + n)) w (omega arith) h (day c n) (named c f n w) (week_named c f n w h)
 
--- the days left to test
-module _ (x : ℕ) (c : List ℕ) (f k n : ℕ) {w : ℕ} {r : Bool} (h : k < n) (e : w ≡ weekday_of (f + k)) (g : r ≡ either (not (has_bit x (w % 8))) (day c k)) where
-  here : either (not (has_bit x (weekday_of (f + k)))) (day c k) ≡ r
-  here = ap (λ (v : ℕ). either (not (has_bit x v)) (day c k)) (sym (in_byte (f + k) e)) ∙ sym g
+-- whether day k is selected or its weekday passes no test
+abbrev pub on_here : (ℕ → Bool) → List ℕ → ℕ → ℕ → Bool
+on_here t c f k = either (not (t (weekday_of (f + k)))) (day c k)
 
-  pub on_fails : r ≡ false → all_on (has_bit x) c f k (n - k) ≡ false
-  unfolding all_on
-  on_fails q =
-      let s : n - k ≡ suc (n - (k + 1)) = omega arith in
-      rw (s, here, q)
+-- the same from a weekday as a byte's bit
+pub here : (x : ℕ) (c : List ℕ) (f k : ℕ) {w : ℕ} {r : Bool} → w ≡ weekday_of (f + k) → r ≡ either (not (has_bit x (w % 8))) (day c k) → r ≡ on_here (has_bit x) c f k
+here x c f k e g = g ∙ ap (λ (v : ℕ). either (not (has_bit x v)) (day c k)) (in_byte (f + k) e)
 
-  pub on_goes : r ≡ true → all_on (has_bit x) c f k (n - k) ≡ all_on (has_bit x) c f (k + 1) (n - (k + 1))
-  unfolding all_on
-  on_goes q =
-      let s : n - k ≡ suc (n - (k + 1)) = omega arith in
-      rw (s, here, q)
-
-pub on_ends : (t : ℕ → Bool) (c : List ℕ) (f k n : ℕ) → n ≤ k → all_on t c f k (n - k) ≡ true
+-- the days of a range one by one
+pub on_in_range : (t : ℕ → Bool) (c : List ℕ) (f k n : ℕ) → list_all (on_here t c f) (range_with_len k n) ≡ all_on t c f k n
 unfolding all_on
-on_ends t c f k n h = let s : n - k ≡ zero = omega arith in rw s
-
-pub on_starts : (t : ℕ → Bool) (c : List ℕ) (f n : ℕ) → all_on t c f 0 (n - 0) ≡ all_on t c f 0 n
-on_starts t c f n = ap (all_on t c f 0) (omega arith)
+on_in_range t c f k zero = refl
+on_in_range t c f k (suc n) = let r = on_in_range t c f (k + 1) n in choose (on_here t c f k) (λ p. rw p r) (λ p. rw p)
 
 -- two tests that agree on the weekdays
 module _ (t u : ℕ → Bool) (a : (w : ℕ) → w < 8 → t w ≡ u w) where

@@ -1,6 +1,6 @@
 -- The written forms of a calendar: each is a whole POP segment with its terminator. Document 01, "Calendars", "What each number means".
 -- Assumes nothing.
-use Rattle.std.specs.Prelude.{ℕ, zero, suc, ◌+◌, ◌-◌, Bool, true, false, not, List, [], ◌∷◌, ◌++◌, eqb, leb, length}
+use Rattle.std.specs.Prelude.{ℕ, zero, suc, ◌+◌, ◌-◌, Bool, true, false, not, List, [], ◌∷◌, ◌++◌, eqb, leb, length, Option, Some, None, Result, Ok, Err}
 use Rattle.laws.specs.Choice.{pick, both, either}
 use Rattle.laws.specs.Text.{bytes}
 use Rattle.answers.specs.Answers.{Answer, done, output_too_short, bad_calendar, no_weekday_form}
@@ -10,17 +10,16 @@ use Rattle.laws.specs.Put.{put_at}
 use Rattle.dates.specs.Text.{date_text}
 use Rattle.dates.specs.declared.Date.{Date}
 use Rattle.calendar.specs.Days.{day}
-use Rattle.calendar.specs.declared.Written.{Written}
-use Rattle.calendar.specs.declared.Written.TheVariants.{Bytes, BadCalendar, NoWeekdayForm, NoRoom}
 use Rattle.calendar.specs.declared.Span.{Span}
-use Rattle.calendar.specs.declared.Span.TheVariants.{Days, Bad}
+use Rattle.calendar.specs.declared.WriteError.{WriteError}
+use Rattle.calendar.specs.declared.WriteError.TheVariants.{BadCalendar, NoWeekdayForm, NoRoom}
 
 -- what each case answers: "the writer returns the bytes written", or number and position
-abbrev pub written_answer : Written → Answer ℕ
-written_answer (Bytes n) = done n
-written_answer BadCalendar = bad_calendar
-written_answer NoWeekdayForm = no_weekday_form
-written_answer NoRoom = output_too_short
+abbrev pub written_answer : Result ℕ WriteError → Answer ℕ
+written_answer (Ok n) = done n
+written_answer (Err BadCalendar) = bad_calendar
+written_answer (Err NoWeekdayForm) = no_weekday_form
+written_answer (Err NoRoom) = output_too_short
 
 -- whether one of the n days from day k on is selected
 unfoldable pub any_day : List ℕ → ℕ → ℕ → Bool
@@ -36,13 +35,16 @@ unfoldable pub good_period : Date → Date → Bool
 good_period first last =
     both (valid first) (both (valid last) (both (leb (number first) (number last)) (leb (day_count first last) 512)))
 
+abbrev pub span_of : ℕ → ℕ → Span
+span_of f n = record { first = f; count = n }
+
 -- the same by the numbers of the first and the last day
-unfoldable pub numbers_span : ℕ → ℕ → Span
-numbers_span f t = pick (both (leb f t) (leb (t - f + 1) 512)) (Days f (t - f + 1)) Bad
+unfoldable pub numbers_span : ℕ → ℕ → Option Span
+numbers_span f t = pick (both (leb f t) (leb (t - f + 1) 512)) (Some (span_of f (t - f + 1))) None
 
 -- the number of the first day and how many days there are, where the period is good
-unfoldable pub days_span : Date → Date → Span
-days_span first last = pick (good_period first last) (Days (number first) (day_count first last)) Bad
+unfoldable pub days_span : Date → Date → Option Span
+days_span first last = pick (good_period first last) (Some (span_of (number first) (day_count first last))) None
 
 -- what can be written: 64 bytes, a good period, no day past the last. Anything else is 19, "calendar to write has bad dates, bad length
 -- or a bit past its last day"
@@ -52,8 +54,8 @@ good_calendar c first last =
     (both (good_period first last) (not (any_day c (day_count first last) (512 - day_count first last))))
 
 -- its period, where it can
-unfoldable pub checked_of : List ℕ → Date → Date → Span
-checked_of c first last = pick (good_calendar c first last) (Days (number first) (day_count first last)) Bad
+unfoldable pub checked_of : List ℕ → Date → Date → Option Span
+checked_of c first last = pick (good_calendar c first last) (Some (span_of (number first) (day_count first last))) None
 
 -- POP+273:first/last, which both forms begin with
 unfoldable pub start : Date → Date → List ℕ

@@ -4,10 +4,10 @@ ghost use Rattle.std.specs.Prelude.{◌≡◌};
 ghost use Rattle.laws.specs.Put.{put_at};
 ghost use Rattle.calendar.specs.Written.{written_answer, day_character, day_characters, short_count, character_count, day_string_text, text_answer, day_string_answer, day_string_bytes};
 
+use crate::WriteError;
 use crate::days::test_day;
 use crate::spans::check;
 use crate::start::put_start;
-use crate::{Span, Written};
 use dates::Date;
 
 // How many characters tell that no day runs: a single `0`.
@@ -24,16 +24,11 @@ fn day_character(days: &[u8], k: usize) -> u8
 pub fn put_days(days: &[u8], n: usize, out: &mut [u8], at: usize)
     ensures { out.new ≡ put_at out.old at (day_characters days.now 0 n) }
 {
-    if out.len() < n {
+    if out.len() < n || out.len() - n < at {
         return;
     }
-    if out.len() - n < at {
-        return;
-    }
-    let mut i = 0;
-    while i < n {
-        out[at + i] = day_character(days, i);
-        i += 1;
+    for k in 0..n {
+        out[at + k] = day_character(days, k);
     }
 }
 
@@ -41,12 +36,10 @@ pub fn put_days(days: &[u8], n: usize, out: &mut [u8], at: usize)
 fn short_count(days: &[u8], n: usize) -> usize
     ensures { result ≡ short_count days.now n }
 {
-    let mut k = n;
-    while 0 < k {
-        if test_day(days, k - 1) {
-            return k;
+    for k in (0..n).rev() {
+        if test_day(days, k) {
+            return k + 1;
         }
-        k -= 1;
     }
     NO_DAY
 }
@@ -59,34 +52,38 @@ fn character_count(days: &[u8], n: usize, short: bool) -> usize
 }
 
 // The segment with the first n characters of the day string.
-fn write_characters(days: &[u8], first: Date, last: Date, n: usize, out: &mut [u8]) -> Written
+fn write_characters(
+    days: &[u8],
+    first: Date,
+    last: Date,
+    n: usize,
+    out: &mut [u8],
+) -> Result<usize, WriteError>
     ensures { (written_answer result ≡ text_answer (day_string_text days.now first last n) out.old) × (out.new ≡ put_at out.old 0 (day_string_text days.now first last n)) }
 {
-    if out.len() < 32 {
-        return Written::NoRoom;
-    }
-    if out.len() - 32 < n {
-        return Written::NoRoom;
+    if out.len() < 32 || out.len() - 32 < n {
+        return Err(WriteError::NoRoom);
     }
     put_start(first, last, out);
     raw_bytes::put_bytes(out, 29, b"::");
     put_days(days, n, out, 31);
     raw_bytes::put_bytes(out, 31 + n, b"'");
-    Written::Bytes(32 + n)
+    Ok(32 + n)
 }
 
-/// The calendar as a POP with a day string: one character for each day or, where the short form is asked for, up to the last running day.
+/// The calendar as a POP with a day string, and how many bytes it has: one character for each day or, where the short form is asked for, up to the last running day.
 pub fn write_day_string(
     days: &[u8],
     first: Date,
     last: Date,
     short: bool,
     out: &mut [u8],
-) -> Written
+) -> Result<usize, WriteError>
     ensures { (written_answer result ≡ day_string_answer short days.now first last out.old) × (out.new ≡ day_string_bytes short days.now first last out.old) }
 {
-    let Span::Days(_, n) = check(days, first, last) else {
-        return Written::BadCalendar;
+    let Some(span) = check(days, first, last) else {
+        return Err(WriteError::BadCalendar);
     };
-    write_characters(days, first, last, character_count(days, n, short), out)
+    let n = character_count(days, span.count, short);
+    write_characters(days, first, last, n, out)
 }

@@ -44,12 +44,5 @@ pub fn set_day(days: &mut [u8], k: usize)
 pub(crate) fn any_day(days: &[u8], from: usize, to: usize) -> bool
     ensures { result ≡ any_day days.now from (to - from) }
 {
-    let mut k = from;
-    while k < to {
-        if test_day(days, k) {
-            return true;
-        }
-        k += 1;
-    }
-    false
+    (from..to).any(|k| test_day(days, k))
 }

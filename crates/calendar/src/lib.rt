@@ -13,22 +13,20 @@ pub use days::{has_bit, set_day, test_day, with_bit};
 pub use spans::{days_between, days_from};
 pub use weekdays::write_weekdays;
 
-/// What came of writing a calendar.
-#[derive(Clone, Copy)]
-pub enum Written {
-    /// How many bytes the segment has.
-    Bytes(usize),
-    /// 19
+/// Why a calendar is not written.
+#[derive(Clone, Copy, PartialEq, Eq, Debug)]
+pub enum WriteError {
+    /// 19: the dates or the length are bad, or a bit stands past the last day.
     BadCalendar,
-    /// 20
+    /// 20: the days are not all those of some weekdays.
     NoWeekdayForm,
-    /// 17
+    /// 17: the lent bytes are too few.
     NoRoom,
 }
 
-/// A period: the number of its first day, and how many days it has; or none.
+/// A period: the number of its first day, and how many days it has.
 #[derive(Clone, Copy)]
-pub enum Span {
-    Days(usize, usize),
-    Bad,
+pub struct Span {
+    pub first: usize,
+    pub count: usize,
 }

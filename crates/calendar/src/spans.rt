@@ -5,46 +5,40 @@ ghost use Rattle.calendar.specs.Written.{numbers_span, days_span, checked_of};
 
 use crate::Span;
 use crate::days::any_day;
-use dates::{Date, Number};
+use dates::Date;
 
-/// The period from a first to a last day, by their numbers and both counted: 1 to 512 days.
-pub fn days_from(from: usize, to: usize) -> Span
+/// The period from a first to a last day, by their numbers and both counted, if it has 1 to 512 days.
+pub fn days_from(from: usize, to: usize) -> Option<Span>
     ensures { result ≡ numbers_span from to }
 {
-    if to < from {
-        return Span::Bad;
+    if to < from || 512 <= to - from {
+        return None;
     }
-    if 512 <= to - from {
-        return Span::Bad;
-    }
-    Span::Days(from, to - from + 1)
+    Some(Span {
+        first: from,
+        count: to - from + 1,
+    })
 }
 
-/// The period from a first to a last date, both counted: 1 to 512 days.
-pub fn days_between(first: Date, last: Date) -> Span
+/// The period from a first to a last date, both counted, if they are dates and it has 1 to 512 days.
+pub fn days_between(first: Date, last: Date) -> Option<Span>
     ensures { result ≡ days_span first last }
 {
-    let Number::Day(from) = first.day_number() else {
-        return Span::Bad;
-    };
-    let Number::Day(to) = last.day_number() else {
-        return Span::Bad;
-    };
+    let from = first.day_number()?;
+    let to = last.day_number()?;
     days_from(from, to)
 }
 
-// Whether a calendar can be written, and what its period is.
-pub(crate) fn check(days: &[u8], first: Date, last: Date) -> Span
+// The period of a calendar that can be written.
+pub(crate) fn check(days: &[u8], first: Date, last: Date) -> Option<Span>
     ensures { result ≡ checked_of days.now first last }
 {
     if days.len() != 64 {
-        return Span::Bad;
+        return None;
     }
-    let Span::Days(from, n) = days_between(first, last) else {
-        return Span::Bad;
-    };
-    if any_day(days, n, 512) {
-        return Span::Bad;
+    let span = days_between(first, last)?;
+    if any_day(days, span.count, 512) {
+        return None;
     }
-    Span::Days(from, n)
+    Some(span)
 }

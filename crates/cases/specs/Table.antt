@@ -1,25 +1,25 @@
 -- What a row of the table of cases says, and the test of a row. Document 01, "Cases (P: to be proved)".
 -- Assumes nothing.
-use Rattle.std.specs.Prelude.{ℕ, suc, ◌+◌, Bool, true, false, List, [], ◌∷◌, eqb, length}
+use Rattle.std.specs.Prelude.{ℕ, suc, ◌+◌, Bool, true, false, List, [], ◌∷◌, eqb, length, Result, Ok, Err}
 use Prim.Native.String.{String}
 use Rattle.laws.specs.Text.{bytes}
 use Rattle.laws.specs.Choice.{both, among}
 use Rattle.laws.specs.Sweep.{same, below}
 use Rattle.syntax.specs.Segment.{body_at, segment_at}
-use Rattle.syntax.specs.declared.segment.Scanned.{Scanned}
-use Rattle.syntax.specs.declared.segment.Scanned.TheVariants.{End, NotPermitted, Unended, Malformed}
+use Rattle.syntax.specs.declared.segment.ScanError.{ScanError}
+use Rattle.syntax.specs.declared.segment.ScanError.TheVariants.{NotPermitted, Unended, Malformed}
 use Rattle.dates.specs.Dates.{number}
 use Rattle.dates.specs.declared.Date.{Date}
 use Rattle.answers.specs.Answers as answers
 use Rattle.period.specs.Period.{period_of, period_answer, runs_in}
-use Rattle.period.specs.declared.Period.{Period}
-use Rattle.period.specs.declared.Period.TheVariants.{Good, Wrong}
 use Rattle.values.specs.Values.{same_text}
 use Rattle.answers.specs.Answers.{Answer}
 use Rattle.contents.specs.Contents.{Contents, good}
 use Rattle.contents.specs.Written.{rooms_bytes}
 use Rattle.shuffle.specs.Register.{Ask, Reply}
 use Rattle.shuffle.specs.InContents.{in_contents}
+use Rattle.period.specs.declared.Period.{Period}
+use Rattle.period.specs.declared.Fault.{Fault}
 
 -- which days of a period run
 pub data Days : Type 0 where
@@ -46,19 +46,17 @@ expected every n = true
 expected (only l) n = among n (numbers l)
 
 -- the text is one whole segment
-abbrev whole : ℕ → Scanned → Bool
-whole n (End e) = eqb (suc e) n
-whole n (NotPermitted i) = false
-whole n Unended = false
-whole n Malformed = false
+abbrev whole : ℕ → Result ℕ ScanError → Bool
+whole n (Ok e) = eqb (suc e) n
+whole n (Err error) = false
 
-unfoldable pub comes_of : List ℕ → Period → Outcome → Bool
+unfoldable pub comes_of : List ℕ → Result Period Fault → Outcome → Bool
 comes_of g p (refused x part) = both (eqb (answers.number (period_answer 0 p)) x) (eqb (answers.part (period_answer 0 p)) part)
-comes_of g (Wrong x) (period first last n days) = false
-comes_of g (Good f m form) (period first last n days) =
-    both (eqb f (number first))
-    (both (eqb (f + m) (suc (number last)))
-    (both (eqb m n) (below (λ k. same (runs_in g (Good f m form) k) (expected days (f + k))) m)))
+comes_of g (Err x) (period first last n days) = false
+comes_of g (Ok v) (period first last n days) =
+    both (eqb v.days.first (number first))
+    (both (eqb (v.days.first + v.days.count) (suc (number last)))
+    (both (eqb v.days.count n) (below (λ k. same (runs_in g (Ok v) k) (expected days (v.days.first + k))) v.days.count)))
 
 -- the same number, position and part, or the same value
 unfoldable pub same_answer : Answer ℕ → Answer ℕ → Bool

@@ -6,48 +6,18 @@ ghost use Rattle.std.specs.Prelude.{◌≡◌, get_or};
 ghost use Rattle.laws.specs.Choice.{among};
 ghost use Rattle.syntax.specs.Bytes.{plain};
 
-use values::{Next, next_byte};
+use values::characters;
 
 /// Character k of a part, 0 where it has none.
 pub fn character_at(part: &[u8], k: usize) -> u8
     ensures { result ≡ get_or (plain part.now) k 0 }
 {
-    let mut i = 0;
-    let mut left = k;
-    while i < part.len() {
-        match next_byte(part, i) {
-            Next::Byte(b, next) => {
-                if left == 0 {
-                    return b;
-                }
-                i = next;
-                left -= 1;
-            }
-            Next::Done => {
-                return 0;
-            }
-        }
-    }
-    0
+    characters(part).nth(k).unwrap_or(0)
 }
 
 /// Whether a character is one of a part's.
 pub fn has_character(part: &[u8], character: u8) -> bool
     ensures { result ≡ among character (plain part.now) }
 {
-    let mut i = 0;
-    while i < part.len() {
-        match next_byte(part, i) {
-            Next::Byte(b, k) => {
-                if character == b {
-                    return true;
-                }
-                i = k;
-            }
-            Next::Done => {
-                return false;
-            }
-        }
-    }
-    false
+    characters(part).any(|b| character == b)
 }

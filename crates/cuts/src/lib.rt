@@ -10,6 +10,7 @@ ghost use Rattle.cuts.specs.Laws.{Left, Gone};
 use syntax::ends::find_end;
 
 /// The end of a segment in some bytes.
+// A caller asks for the one or for the other: the index where there is no terminator is the length of the first piece, as elsewhere.
 #[derive(Clone, Copy)]
 pub struct Ending {
     /// The terminator's index, or the number of bytes where there is none.
@@ -34,6 +35,7 @@ fn search(s: &[u8], from: usize) -> Ending
     requires { from ≤ length s.now }
     ensures { Left s.now false from result.at result.released }
 {
+    // The index moves by what was read, not by one.
     let mut i = from;
     while i < s.len() {
         if s[i] == b'\'' {
@@ -70,12 +72,11 @@ pub fn find_terminator(s: &[u8], released: bool) -> Ending
         }
         return search(s, 1);
     }
-    let end = find_end(s, 0);
-    if end < s.len() {
-        return Ending {
+    match find_end(s, 0) {
+        Some(end) => Ending {
             at: end,
             released: false,
-        };
+        },
+        None => search(s, 0),
     }
-    search(s, 0)
 }

@@ -1,6 +1,6 @@
 -- What is written reads back: the ten bytes of a date give that date.
 -- Assumes nothing.
-use Rattle.std.specs.Prelude.{◌≡◌, refl, Bool, true, false, List, T, leb, length, take, drop}
+use Rattle.std.specs.Prelude.{◌≡◌, refl, Bool, true, false, List, T, leb, length, take, drop, Some, None}
 use Rattle.std.proofs.Common.{sym, ◌∙◌, ap, leb→le, length-take, length-drop, get_or-take, get_or-drop, le-leb}
 use Prim.Native.Nat.{ℕ, suc, ◌+◌, ◌-◌, ◌*◌, ◌/◌, ◌%◌, ◌<◌, ◌≤◌}
 use native.Mathlib.Omega.{arith}
@@ -12,10 +12,8 @@ use Rattle.dates.specs.Facts.{date_facts, month_at_most}
 use Rattle.laws.specs.Put.{put_at, put_take}
 use Rattle.dates.specs.Text.{date_text, two_digits, digits_at, date_at}
 use Rattle.dates.specs.declared.Date.{Date}
-use Rattle.dates.specs.declared.Made.TheVariants.{Valid}
-use Rattle.dates.specs.declared.reading.Digits.TheVariants.{Value, NoDigits}
 
-bound : (p q r s : Bool) (t o n : ℕ) → (T q → t ≤ 57) → (T s → o ≤ 57) → pick (both (both p q) (both r s)) (Value ((t - 48) * 10 + (o - 48))) NoDigits ≡ Value n → n ≤ 99
+bound : (p q r s : Bool) (t o n : ℕ) → (T q → t ≤ 57) → (T s → o ≤ 57) → pick (both (both p q) (both r s)) (Some ((t - 48) * 10 + (o - 48))) None ≡ Some n → n ≤ 99
 bound true true true true t o n f g e =
     let h : (t - 48) * 10 + (o - 48) ≡ n = cc in
     omega (arith, f tt, g tt)
@@ -24,7 +22,7 @@ bound true true false s t o n f g e = let z : ◌≡◌ {A = ℕ} 0 1 = cc in om
 bound true false r s t o n f g e = let z : ◌≡◌ {A = ℕ} 0 1 = cc in omega arith
 bound false q r s t o n f g e = let z : ◌≡◌ {A = ℕ} 0 1 = cc in omega arith
 
-pub digits_small : (s : List ℕ) (i : ℕ) {n : ℕ} → digits_at s i ≡ Value n → n ≤ 99
+pub digits_small : (s : List ℕ) (i : ℕ) {n : ℕ} → digits_at s i ≡ Some n → n ≤ 99
 unfolding digits_at two_digits
 digits_small s i {n} e =
     let t = get_or s i 0 in
@@ -36,12 +34,12 @@ unfolding date_text
 length_text a = refl
 
 -- two digits of a number below a hundred
-pair : (n t o : ℕ) → n < 100 → t ≡ digit (n / 10) → o ≡ digit n → two_digits t o ≡ Value n
+pair : (n t o : ℕ) → n < 100 → t ≡ digit (n / 10) → o ≡ digit n → two_digits t o ≡ Some n
 unfolding two_digits
 pair n t o h p q =
     let e : (t - 48) * 10 + (o - 48) ≡ n = omega arith in
     rw (le-leb 48 t (omega arith), le-leb t 57 (omega arith), le-leb 48 o (omega arith), le-leb o 57 (omega arith))
-    (ap Value e)
+    (ap Some e)
 
 -- the ten bytes of a date, wherever they stand, are read as that date
 module _ (a : Date) (v : valid a ≡ true) (s : List ℕ) (at : ℕ) (e : take 10 (drop at s) ≡ date_text a) where
@@ -51,13 +49,13 @@ module _ (a : Date) (v : valid a ≡ true) (s : List ℕ) (at : ℕ) (e : take 1
   byte : (j : ℕ) → j < 10 → get_or s (at + j) 0 ≡ get_or (date_text a) j 0
   byte j h = sym (get_or-drop at s j 0) ∙ sym (get_or-take 10 (drop at s) j 0 h) ∙ ap (λ (l : List ℕ). get_or l j 0) e
 
-  digits : (j n : ℕ) → j < 9 → n < 100 → get_or s (at + j) 0 ≡ digit (n / 10) → get_or s (at + suc j) 0 ≡ digit n → digits_at s (at + j) ≡ Value n
+  digits : (j n : ℕ) → j < 9 → n < 100 → get_or s (at + j) 0 ≡ digit (n / 10) → get_or s (at + suc j) 0 ≡ digit n → digits_at s (at + j) ≡ Some n
   unfolding digits_at
   digits j n h l p q =
       let e : at + j + 1 ≡ at + suc j = omega arith in
       pair n (get_or s (at + j) 0) (get_or s (at + j + 1) 0) l p (ap (λ (k : ℕ). get_or s k 0) e ∙ q)
 
-  pub read_text : date_at s at ≡ Valid a
+  pub read_text : date_at s at ≡ Some a
   unfolding date_at made_of date_text
   read_text =
       let f = date_facts a.year a.month a.day v in
@@ -71,6 +69,6 @@ module _ (a : Date) (v : valid a ≡ true) (s : List ℕ) (at : ℕ) (e : take 1
       rw (le-leb (at + 10) (length s) room, byte 4 (omega arith), byte 7 (omega arith), rw z at c, y, m, d, k, v)
 
 -- what is written reads back as the same date
-pub written_again : (a : Date) → valid a ≡ true → (o : List ℕ) (at : ℕ) → at + 10 ≤ length o → date_at (put_at o at (date_text a)) at ≡ Valid a
+pub written_again : (a : Date) → valid a ≡ true → (o : List ℕ) (at : ℕ) → at + 10 ≤ length o → date_at (put_at o at (date_text a)) at ≡ Some a
 written_again a v o at h =
     read_text a v (put_at o at (date_text a)) at (rw length_text at (put_take o at (date_text a) (rw length_text h)))

@@ -1,35 +1,31 @@
 -- Dates as values: what three numbers make, the number of a date, the day after, and which of two is the earlier.
 -- Assumes nothing.
-use Rattle.std.specs.Prelude.{ℕ, zero, suc, ◌+◌, ◌<◌, ◌≡◌, Bool, ◌⊎◌, ltb}
+use Rattle.std.specs.Prelude.{ℕ, zero, suc, ◌+◌, ◌<◌, ◌≡◌, Bool, ◌⊎◌, ltb, Option, Some, None}
 use Rattle.laws.specs.Choice.{pick}
 use Rattle.dates.specs.Days.{month_length, is_date, day_number}
 use Rattle.dates.specs.declared.Date.{Date}
-use Rattle.dates.specs.declared.Made.{Made}
-use Rattle.dates.specs.declared.Made.TheVariants.{Valid, NoDate}
-use Rattle.dates.specs.declared.Number.{Number}
-use Rattle.dates.specs.declared.Number.TheVariants.{Day, NoDay}
 
 abbrev pub date : ℕ → ℕ → ℕ → Date
 date y m d = record { year = y; month = m; day = d }
 
 -- the date that three numbers make, where they make one
-unfoldable pub made_of : ℕ → ℕ → ℕ → Made
-made_of y m d = pick (is_date y m d) (Valid (date y m d)) NoDate
+unfoldable pub made_of : ℕ → ℕ → ℕ → Option Date
+made_of y m d = pick (is_date y m d) (Some (date y m d)) None
 
 -- whether a value of the type is a date
 abbrev pub valid : Date → Bool
 valid a = is_date a.year a.month a.day
 
 -- the number of the day that they make
-unfoldable pub day_of : ℕ → ℕ → ℕ → Number
-day_of y m d = pick (is_date y m d) (Day (day_number y m d)) NoDay
+unfoldable pub day_of : ℕ → ℕ → ℕ → Option ℕ
+day_of y m d = pick (is_date y m d) (Some (day_number y m d)) None
 
 -- the day number of a value that is a date
 abbrev pub number : Date → ℕ
 number a = day_number a.year a.month a.day
 
-unfoldable pub number_of : Date → Number
-number_of a = pick (valid a) (Day (number a)) NoDay
+unfoldable pub number_of : Date → Option ℕ
+number_of a = pick (valid a) (Some (number a)) None
 
 -- the day after: the next in the month, else the first of the next month, else the first of January
 unfoldable pub next_day : Date → Date
@@ -43,8 +39,8 @@ date_of zero = date 1990 1 1
 date_of (suc n) = next_day (date_of n)
 
 -- the date that a day number has, where it has one: those of 1990-01-01 to 2099-12-31 are the first 40,177 numbers
-unfoldable pub dated : ℕ → Made
-dated n = pick (ltb n 40177) (Valid (date_of n)) NoDate
+unfoldable pub dated : ℕ → Option Date
+dated n = pick (ltb n 40177) (Some (date_of n)) None
 
 -- the one stands before the other: by the year, then the month, then the day
 abbrev pub Earlier : Date → Date → Type 0

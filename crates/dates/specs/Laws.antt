@@ -1,7 +1,7 @@
 -- The laws of day numbers and weekdays, which callers use: the next day's number is one more, numbers order dates,
 -- every number below 40,177 is that of exactly one date, and weekdays go round by seven.
 -- Assumes nothing.
-use Rattle.std.specs.Prelude.{◌≡◌, refl, Bool, true, false, ◌⊎◌, ℕ, zero, suc, ◌+◌, ◌-◌, ◌%◌, ◌<◌, ◌≤◌, eqb}
+use Rattle.std.specs.Prelude.{◌≡◌, refl, Bool, true, false, ◌⊎◌, ℕ, zero, suc, ◌+◌, ◌-◌, ◌%◌, ◌<◌, ◌≤◌, eqb, Some, None}
 use Rattle.std.proofs.Common.{sym, ◌∙◌, inl, inr, arith, lt-ltb, le-ltb, eq-eqb, ne_eqb}
 use Rattle.std.proofs.Math.Path.{ap}
 use Rattle.std.proofs.Math.Logic.{⊎_elim}
@@ -11,7 +11,6 @@ use Rattle.dates.specs.Days.{leap_year, month_length, is_date, month_days, year_
 use Rattle.dates.specs.Dates.{date, valid, number, number_of, next_day, date_of, Earlier}
 use Rattle.dates.specs.Facts.{IsDate, date_facts, facts_date, month_at_least}
 use Rattle.dates.specs.declared.Date.{Date}
-use Rattle.dates.specs.declared.Number.TheVariants.{Day, NoDay}
 
 -- the sums rise
 pub months_rise : (y n k : ℕ) → n ≤ k → month_days y n ≤ month_days y k
@@ -239,18 +238,18 @@ unfolding weekday_of
 weekday_range n = (omega arith, omega arith)
 
 -- what an answer of `day_number` tells
-known : (p : Bool) (x : ℕ) {n : ℕ} → pick p (Day x) NoDay ≡ Day n → (p ≡ true) × (x ≡ n)
+known : (p : Bool) (x : ℕ) {n : ℕ} → pick p (Some x) None ≡ Some n → (p ≡ true) × (x ≡ n)
 known true x e = (refl, cc)
 known false x e = let z : ◌≡◌ {A = ℕ} 0 1 = cc in absurd (omega arith)
 
-unknown : (p : Bool) (x : ℕ) → pick p (Day x) NoDay ≡ NoDay → p ≡ false
+unknown : (p : Bool) (x : ℕ) → pick p (Some x) None ≡ None → p ≡ false
 unknown true x e = let z : ◌≡◌ {A = ℕ} 0 1 = cc in absurd (omega arith)
 unknown false x e = refl
 
-pub number_known : (a : Date) {n : ℕ} → number_of a ≡ Day n → (valid a ≡ true) × (number a ≡ n)
+pub number_known : (a : Date) {n : ℕ} → number_of a ≡ Some n → (valid a ≡ true) × (number a ≡ n)
 unfolding number_of
 number_known a e = known (valid a) (number a) e
 
-pub number_unknown : (a : Date) → number_of a ≡ NoDay → valid a ≡ false
+pub number_unknown : (a : Date) → number_of a ≡ None → valid a ≡ false
 unfolding number_of
 number_unknown a e = unknown (valid a) (number a) e

@@ -5,7 +5,7 @@ ghost use Rattle.dates.specs.Days.{leap_year, month_length, is_date, month_days,
 ghost use Rattle.dates.specs.Dates.{day_of};
 ghost use Rattle.dates.specs.Back.{InYear, InMonth};
 
-use crate::{Date, Number};
+use crate::Date;
 
 // The year, or the month, that a day stands in, and how many of its days stand before that day.
 #[derive(Clone, Copy)]
@@ -87,14 +87,14 @@ fn number_of(year: u32, month: u32, day: u32) -> usize
     (days_before_year(year) + days_before_month(year, month) + (day - 1)) as usize
 }
 
-/// The number of the day that a year, a month and a day of the month make.
-pub fn day_of(year: u32, month: u32, day: u32) -> Number
+/// The number of the day that a year, a month and a day of the month make; none where they are no date.
+pub fn day_of(year: u32, month: u32, day: u32) -> Option<usize>
     ensures { result ≡ day_of year month day }
 {
     if is_date(year, month, day) {
-        return Number::Day(number_of(year, month, day));
+        return Some(number_of(year, month, day));
     }
-    Number::NoDay
+    None
 }
 
 fn year_length(year: u32) -> usize
@@ -108,16 +108,15 @@ pub(crate) fn year_of(number: usize) -> DayWithin
     requires { number < 40177 }
     ensures { InYear result.whole result.left number }
 {
-    let mut year = 1990u32;
     let mut left = number;
-    loop {
+    for year in 1990..2100 {
         let length = year_length(year);
         if left < length {
             return DayWithin { whole: year, left };
         }
         left -= length;
-        year += 1;
     }
+    unreachable!()
 }
 
 // The month of a day of a year, and how many days of that month stand before it.
@@ -125,14 +124,13 @@ pub(crate) fn month_of(year: u32, day: usize) -> DayWithin
     requires { day < month_days year 12 }
     ensures { InMonth year result.whole result.left day }
 {
-    let mut month = 1u32;
     let mut left = day;
-    loop {
+    for month in 1..13 {
         let length = month_length(year, month) as usize;
         if left < length {
             return DayWithin { whole: month, left };
         }
         left -= length;
-        month += 1;
     }
+    unreachable!()
 }

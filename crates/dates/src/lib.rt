@@ -23,22 +23,6 @@ pub struct Date {
     pub day: u8,
 }
 
-/// What three numbers make.
-#[derive(Clone, Copy)]
-pub enum Made {
-    Valid(Date),
-    /// They are no date, or one before 1990 or after 2099.
-    NoDate,
-}
-
-/// The number of a day: 0 for 1990-01-01, and one more for each day after it.
-#[derive(Clone, Copy)]
-pub enum Number {
-    Day(usize),
-    /// The fields are no date.
-    NoDay,
-}
-
 /// The weekday of a day number: Monday is 1 and Sunday 7.
 pub fn weekday(number: usize) -> u8
     ensures { result ≡ weekday_of number }
@@ -74,33 +58,33 @@ impl Date {
         day: 31,
     };
 
-    /// The date of a year, a month and a day of the month.
-    pub fn new(year: u32, month: u32, day: u32) -> Made
+    /// The date of a year, a month and a day of the month; none where they are no date of 1990 to 2099.
+    pub fn new(year: u32, month: u32, day: u32) -> Option<Date>
         ensures { result ≡ made_of year month day }
     {
         if is_date(year, month, day) {
-            return Made::Valid(Date {
+            return Some(Date {
                 year: year as u16,
                 month: month as u8,
                 day: day as u8,
             });
         }
-        Made::NoDate
+        None
     }
 
-    /// How many days after 1990-01-01 the date is.
-    pub fn day_number(self) -> Number
+    /// How many days after 1990-01-01 the date is; none where the fields are no date.
+    pub fn day_number(self) -> Option<usize>
         ensures { result ≡ number_of self }
     {
         day_of(self.year as u32, self.month as u32, self.day as u32)
     }
 
-    /// The date of a day number.
-    pub fn from_number(number: usize) -> Made
+    /// The date of a day number; none past that of the last date.
+    pub fn from_number(number: usize) -> Option<Date>
         ensures { result ≡ dated number }
     {
         if 40177 <= number {
-            return Made::NoDate;
+            return None;
         }
         let year = year_of(number);
         let month = month_of(year.whole, year.left);

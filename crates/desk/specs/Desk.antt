@@ -1,10 +1,8 @@
 -- An answer as C takes it: four numbers.
 -- Assumes nothing.
-use Rattle.std.specs.Prelude.{ℕ}
+use Rattle.std.specs.Prelude.{ℕ, Option, Some, None}
 use Rattle.answers.specs.Answers.{Answer, done, refused}
 use Rattle.dates.specs.declared.Date.{Date}
-use Rattle.dates.specs.declared.Made.{Made}
-use Rattle.dates.specs.declared.Made.TheVariants.{Valid, NoDate}
 use Rattle.dates.specs.Dates.{date, made_of}
 use Rattle.interchange.specs.Reader.{Verdict}
 use Rattle.parcels.specs.Calls.{Told}
@@ -25,9 +23,9 @@ abbrev pub told_reply : Told → Reply
 told_reply t = parcel_reply t.rows t.verdict
 
 -- a date as C gives it: any three numbers; where they are no date, 0000-00-00, which is none either
-abbrev pub or_none : Made → Date
-or_none (Valid d) = d
-or_none NoDate = date 0 0 0
+abbrev pub or_none : Option Date → Date
+or_none (Some d) = d
+or_none None = date 0 0 0
 
 abbrev pub day_date : Day → Date
 day_date d = or_none (made_of d.year d.month d.day)

@@ -5,19 +5,19 @@ ghost use Rattle.parcels.specs.Calls.{parcel_told, begin_told, begin_store, take
 ghost use Rattle.desk.specs.Desk.{reply_of, told_reply};
 
 use crate::{Reply, done, told};
-use parcels::Parcel;
+use parcels::Fault;
 
 // The reply of a call that may have written rows before it refuses.
-fn taken(parcel: Parcel) -> Reply
+fn taken(parcel: Result<usize, Fault>) -> Reply
     ensures { result ≡ told_reply (parcel_told parcel) }
 {
     match parcel {
-        Parcel::Rows(n) => done(n),
-        Parcel::Refused(n, refusal) => Reply {
-            number: refusal.number,
-            position: refusal.position,
-            part: refusal.part,
-            value: n,
+        Ok(n) => done(n),
+        Err(fault) => Reply {
+            number: fault.refusal.number,
+            position: fault.refusal.position,
+            part: fault.refusal.part,
+            value: fault.rows,
         },
     }
 }

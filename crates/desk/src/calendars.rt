@@ -5,8 +5,9 @@ ghost use Rattle.calendar.specs.Written.{written_answer, day_string_answer, day_
 ghost use Rattle.desk.specs.Desk.{reply_of, day_date};
 
 use crate::{Reply, done, refused};
-use calendar::Written;
-use dates::{Date, Made};
+use answers::Reason;
+use calendar::WriteError;
+use dates::Date;
 
 /// A date as C gives it: any three numbers.
 #[repr(C)]
@@ -21,24 +22,21 @@ pub struct Day {
 pub fn date_of(day: Day) -> Date
     ensures { result ≡ day_date day }
 {
-    match Date::new(day.year, day.month, day.day) {
-        Made::Valid(date) => date,
-        Made::NoDate => Date {
-            year: 0,
-            month: 0,
-            day: 0,
-        },
-    }
+    Date::new(day.year, day.month, day.day).unwrap_or(Date {
+        year: 0,
+        month: 0,
+        day: 0,
+    })
 }
 
-fn told(written: Written) -> Reply
+fn told(written: Result<usize, WriteError>) -> Reply
     ensures { result ≡ reply_of (written_answer written) }
 {
     match written {
-        Written::Bytes(n) => done(n),
-        Written::BadCalendar => refused(19, 0),
-        Written::NoWeekdayForm => refused(20, 0),
-        Written::NoRoom => refused(17, 0),
+        Ok(n) => done(n),
+        Err(WriteError::BadCalendar) => refused(Reason::BadCalendar, 0),
+        Err(WriteError::NoWeekdayForm) => refused(Reason::NoWeekdayForm, 0),
+        Err(WriteError::NoRoom) => refused(Reason::OutputTooShort, 0),
     }
 }
 

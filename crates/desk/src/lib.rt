@@ -10,10 +10,11 @@ pub mod registers;
 ghost use Rattle.std.specs.Prelude.{◌≡◌, length};
 ghost use Rattle.interchange.specs.Reader.{reading_of, read_answer, outcome_answer, rows_after};
 ghost use Rattle.answers.specs.Answers as answer;
+ghost use Rattle.answers.specs.Reasons.{number_of};
 ghost use Rattle.desk.specs.Desk.{reply_of};
 
-use answers::Refusal;
-use interchange::reader::{Reading, read};
+use answers::{Reason, Refusal};
+use interchange::reader::read;
 
 /// What a call comes to. Number 0 is done, with a value; any other number is a refusal, with its position, beside 10 the part of the
 /// POP that is wrong, and no value but the rows that a parcel brought before it.
@@ -51,22 +52,18 @@ fn replied(refusal: Refusal) -> Reply
 }
 
 // The reply of a refusal other than 10.
-fn refused(number: u8, position: usize) -> Reply
-    ensures { result ≡ reply_of (answer.refused (answer.naming number position)) }
+fn refused(reason: Reason, position: usize) -> Reply
+    ensures { result ≡ reply_of (answer.refused (answer.naming (number_of reason) position)) }
 {
-    replied(Refusal {
-        number,
-        position,
-        part: 0,
-    })
+    replied(reason.at(position))
 }
 
-fn told(reading: Reading) -> Reply
+fn told(reading: Result<usize, Refusal>) -> Reply
     ensures { result ≡ reply_of (read_answer reading) }
 {
     match reading {
-        Reading::Rows(n) => done(n),
-        Reading::Refused(refusal) => replied(refusal),
+        Ok(n) => done(n),
+        Err(refusal) => replied(refusal),
     }
 }
 

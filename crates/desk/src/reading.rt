@@ -9,12 +9,10 @@ ghost use Rattle.desk.specs.Desk.{reply_of, day_date};
 
 use crate::calendars::{Day, date_of};
 use crate::{Reply, done, refused};
-use dates::Number;
+use answers::Reason;
 use parts::{Part, bytes_of};
 use service_entries::days_of;
-use service_tests::{Window, test_window};
-use services::Found;
-use values::Copied;
+use service_tests::test_window;
 
 /// A service as C takes it, or that there is none more; then the rest is 0.
 #[repr(C)]
@@ -40,7 +38,7 @@ pub extern "C" fn drumcallisto_next_service(
     ensures { result ≡ found_service (next_service s.now rows.now n i) }
 {
     match services::next_service(s, rows, n, i) {
-        Found::At(service) => {
+        Some(service) => {
             let number = service.number;
             ServiceFound {
                 found: true,
@@ -52,7 +50,7 @@ pub extern "C" fn drumcallisto_next_service(
                 to: service.to,
             }
         }
-        Found::NoMore => ServiceFound {
+        None => ServiceFound {
             found: false,
             removal: false,
             prd: 0,
@@ -64,12 +62,12 @@ pub extern "C" fn drumcallisto_next_service(
     }
 }
 
-fn told(copied: Copied) -> Reply
+fn told(copied: Option<usize>) -> Reply
     ensures { result ≡ reply_of (copied_answer copied) }
 {
     match copied {
-        Copied::Bytes(n) => done(n),
-        Copied::NoRoom => refused(17, 0),
+        Some(n) => done(n),
+        None => refused(Reason::OutputTooShort, 0),
     }
 }
 
@@ -105,12 +103,12 @@ fn write_days(
     ensures left { days.new ≡ inside_days (first_outside wish day s.now (periods_from rows.now among.from among.to)) (days_of wish day s.now (periods_from rows.now among.from among.to)) days.old }
 {
     match test_window(day, s, rows, among.from, among.to, wish) {
-        Window::Inside => {
+        None => {
             let found = days_of(day, s, rows, among.from, among.to, wish);
             raw_bytes::put_bytes(days, 0, &found);
             done(0)
         }
-        Window::Outside(at) => refused(13, at),
+        Some(at) => refused(Reason::OutsideWindow, at),
     }
 }
 
@@ -129,10 +127,10 @@ pub extern "C" fn drumcallisto_days(
     ensures left { days.new ≡ days_bytes wish s.now (periods_from rows.now among.from among.to) (day_date first) days.old }
 {
     if days.len() != 64 {
-        return refused(19, 0);
+        return refused(Reason::BadCalendar, 0);
     }
-    let Number::Day(day) = date_of(first).day_number() else {
-        return refused(19, 0);
+    let Some(day) = date_of(first).day_number() else {
+        return refused(Reason::BadCalendar, 0);
     };
     write_days(s, rows, among, day, wish, days)
 }

@@ -3,15 +3,17 @@
 ghost use Rattle.std.specs.Prelude.{◌≡◌};
 ghost use Rattle.contents.specs.Written.{is_register};
 ghost use Rattle.contents.specs.Calls.{release_of, withdraw_of, show_answer, show_bytes, answer_on, bytes_after, output_after, open_answer, open_bytes};
-ghost use Rattle.register.specs.Register.{opened_answer, released_answer, withdrawn_answer, record_answer};
+ghost use Rattle.register.specs.Register.{opened_answer, account_answer, released_answer, withdrawn_answer, record_answer};
 ghost use Rattle.stages.specs.Stage.{stage_of};
 ghost use Rattle.staging.specs.Room.{staged_answer};
 ghost use Rattle.desk.specs.Desk.{reply_of, day_date};
 
 use crate::calendars::{Day, date_of};
 use crate::{Reply, done, refused, replied};
-use register::{Opened, Released, Shown, Withdrawn};
-use staging::Staged;
+use answers::Reason;
+use register::{AccountError, OpenError, ShowError, WithdrawError};
+use shown::LinesError;
+use staging::StageError;
 
 /// Whether a buffer is a register.
 #[unsafe(no_mangle)]
@@ -21,13 +23,14 @@ pub extern "C" fn drumcallisto_is_register(b: &[u8]) -> bool
     checking::is_register(b)
 }
 
-fn opened(answer: Opened) -> Reply
+#[tactic(auto, unfolding(register::specs::Register::opened_answer))]
+fn opened(answer: Result<(), OpenError>) -> Reply
     ensures { result ≡ reply_of (opened_answer answer) }
 {
     match answer {
-        Opened::Done => done(0),
-        Opened::WrongLength => refused(1, 0),
-        Opened::BadOpening => refused(18, 0),
+        Ok(()) => done(0),
+        Err(OpenError::WrongLength) => refused(Reason::NotRegister, 0),
+        Err(OpenError::BadOpening) => refused(Reason::BadOpening, 0),
     }
 }
 
@@ -40,14 +43,14 @@ pub extern "C" fn drumcallisto_open(b: &mut [u8], first: Day, quotas: &[u32; 8])
     opened(register::open(b, date_of(first), *quotas))
 }
 
-fn staged(answer: Staged) -> Reply
+fn staged(answer: Result<usize, StageError>) -> Reply
     ensures { result ≡ reply_of (staged_answer answer) }
 {
     match answer {
-        Staged::Done(n) => done(n),
-        Staged::NotRegister => refused(1, 0),
-        Staged::NoAccount => refused(2, 0),
-        Staged::Refused(refusal) => replied(refusal),
+        Ok(n) => done(n),
+        Err(StageError::NotRegister) => refused(Reason::NotRegister, 0),
+        Err(StageError::NoAccount) => refused(Reason::BadAccount, 0),
+        Err(StageError::Refused(refusal)) => replied(refusal),
     }
 }
 
@@ -65,13 +68,24 @@ pub extern "C" fn drumcallisto_stage(
     staged(staging::stage(b, account, interchange, wish))
 }
 
-fn released(answer: Released) -> Reply
+// A register, but no account of it, or no register.
+#[tactic(auto, unfolding(register::specs::Register::account_answer))]
+fn no_account(reason: AccountError) -> Reply
+    ensures { result ≡ reply_of (account_answer reason) }
+{
+    match reason {
+        AccountError::NotRegister => refused(Reason::NotRegister, 0),
+        AccountError::BadAccount => refused(Reason::BadAccount, 0),
+    }
+}
+
+#[tactic(auto, unfolding(register::specs::Register::released_answer, register::specs::Register::account_answer))]
+fn released(answer: Result<usize, AccountError>) -> Reply
     ensures { result ≡ reply_of (released_answer answer) }
 {
     match answer {
-        Released::Entries(n) => done(n),
-        Released::NotRegister => refused(1, 0),
-        Released::BadAccount => refused(2, 0),
+        Ok(n) => done(n),
+        Err(reason) => no_account(reason),
     }
 }
 
@@ -84,14 +98,14 @@ pub extern "C" fn drumcallisto_release(b: &mut [u8], account: usize) -> Reply
     released(register::release(b, account))
 }
 
-fn withdrawn(answer: Withdrawn) -> Reply
+#[tactic(auto, unfolding(register::specs::Register::withdrawn_answer, register::specs::Register::account_answer))]
+fn withdrawn(answer: Result<(), WithdrawError>) -> Reply
     ensures { result ≡ reply_of (withdrawn_answer answer) }
 {
     match answer {
-        Withdrawn::Done => done(0),
-        Withdrawn::NotRegister => refused(1, 0),
-        Withdrawn::BadAccount => refused(2, 0),
-        Withdrawn::NothingPending => refused(16, 0),
+        Ok(()) => done(0),
+        Err(WithdrawError::Account(reason)) => no_account(reason),
+        Err(WithdrawError::NothingPending) => refused(Reason::NothingThere, 0),
     }
 }
 
@@ -104,15 +118,15 @@ pub extern "C" fn drumcallisto_withdraw(b: &mut [u8], account: usize, number: &[
     withdrawn(register::withdraw(b, account, number))
 }
 
-fn shown(answer: Shown) -> Reply
+#[tactic(auto, unfolding(register::specs::Register::record_answer, register::specs::Register::account_answer, shown::specs::Shown::lines_answer))]
+fn shown(answer: Result<usize, ShowError>) -> Reply
     ensures { result ≡ reply_of (record_answer answer) }
 {
     match answer {
-        Shown::Bytes(n) => done(n),
-        Shown::NotRegister => refused(1, 0),
-        Shown::BadAccount => refused(2, 0),
-        Shown::NoRecord => refused(16, 0),
-        Shown::TooShort => refused(17, 0),
+        Ok(n) => done(n),
+        Err(ShowError::Account(reason)) => no_account(reason),
+        Err(ShowError::Lines(LinesError::NoRecord)) => refused(Reason::NothingThere, 0),
+        Err(ShowError::Lines(LinesError::TooShort)) => refused(Reason::OutputTooShort, 0),
     }
 }
 

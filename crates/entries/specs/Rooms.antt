@@ -1,6 +1,6 @@
 -- Release and withdraw on the room of good records are release and withdraw on the records.
 -- Assumes nothing.
-use Rattle.std.specs.Prelude.{◌≡◌, Bool, not, List, [], ◌∷◌, ◌++◌, map, ℕ, ◌+◌, ◌-◌, ◌*◌, ◌≤◌, eqb, get_or, take, drop, replicate}
+use Rattle.std.specs.Prelude.{◌≡◌, Bool, not, List, [], ◌∷◌, ◌++◌, map, ℕ, ◌+◌, ◌-◌, ◌*◌, ◌≤◌, eqb, get_or, take, drop, replicate, Result, Ok, Err}
 use Rattle.std.proofs.Math.Path.{refl, ap}
 use Rattle.std.proofs.Common.{sym, ◌∙◌, subst, append_assoc, lit≤, length-append, length-drop, take_at, take-add, take-take, length-take-le, take_all}
 use Rattle.std.proofs.Math.Bool.{true, false}
@@ -12,8 +12,6 @@ use Rattle.std.proofs.Math.Seq.{paste}
 use Rattle.laws.specs.Choice.{pick, choose, all, both_parts}
 use Rattle.laws.specs.Joined.{joined, length_each}
 use Rattle.laws.specs.Filled.{filled_up}
-use Rattle.slots.specs.declared.Found.{Found}
-use Rattle.slots.specs.declared.Found.TheVariants.{At, Gap}
 use Rattle.slots.specs.Find.{Within}
 use Rattle.contents.specs.Contents.{Pending, nothing, put, removal, Record, is_calendar, good_entries, good_number, good_record, good_account}
 use Rattle.contents.specs.Written.{live_bytes, pending_bytes, slot_of, live_in, pending_in, record_in, room_bytes}
@@ -208,12 +206,12 @@ module _ (quota : ℕ) (rs : List Record) (g : good_account quota rs ≡ true) w
         ∙ rw (cleared r c is_good_lem e₂) (room_replaced quota rs q₂ k (kept r c) (kept_good r c is_good_lem e₂) h (record_within k rs r e)))
 
   -- by the place that is found
-  withdraw_by : (p : Found) → Within (length rs) p
+  withdraw_by : (p : Result ℕ ℕ) → Within (length rs) p
       → (withdraws (room_bytes quota rs) p ≡ has_pending (found_in p rs))
       × (withdrawn_room (room_bytes quota rs) p ≡ room_bytes quota (pick (has_pending (found_in p rs)) (changed_at p withdrawn rs) rs))
   unfolding withdraws withdrawn_room changed_at
-  withdraw_by (Gap k) w = (refl, refl)
-  withdraw_by (At k) w =
+  withdraw_by (Err k) w = (refl, refl)
+  withdraw_by (Ok k) w =
       let t = record_there k rs w in
       let r = t.0 in
       let e = t.1 in

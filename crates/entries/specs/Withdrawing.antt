@@ -1,6 +1,6 @@
 -- The laws of a withdrawal for the code.
 -- Assumes nothing.
-use Rattle.std.specs.Prelude.{◌≡◌, Bool, true, false, List, ◌++◌, ℕ, zero, suc, ◌+◌, ◌-◌, ◌*◌, ◌/◌, ◌≤◌, ◌<◌, length, get_or, drop, replicate}
+use Rattle.std.specs.Prelude.{◌≡◌, Bool, true, false, List, ◌++◌, ℕ, zero, suc, ◌+◌, ◌-◌, ◌*◌, ◌/◌, ◌≤◌, ◌<◌, length, get_or, drop, replicate, Result, Ok, Err}
 use Rattle.std.proofs.Math.Path.{sym}
 use Rattle.std.proofs.Common.{◌∙◌, ap, subst, arith}
 use Rattle.std.proofs.Math.Nat.{sub-zero, zero-sub}
@@ -11,8 +11,6 @@ use Rattle.laws.specs.Lists.{drop_here, drop_past}
 use Rattle.laws.specs.Put.{put_at, put_room, put_front}
 use Rattle.laws.specs.Filled.{filled_up}
 use Rattle.gaps.specs.Move.{closed_in, closed_fits}
-use Rattle.slots.specs.declared.Found.{Found}
-use Rattle.slots.specs.declared.Found.TheVariants.{At, Gap}
 use Rattle.slots.specs.Find.{find_of, Within, find_within}
 use Rattle.syntax.specs.Bytes.{permitted_of}
 use Rattle.contents.specs.Contents.{good_number}
@@ -87,14 +85,14 @@ module _ (s x : List ℕ) where
     unfolding slot_found
     found_is = rw p
 
-    module _ (r : Found) (q : r ≡ find_of s (filled_up 10 x)) (k : ℕ) where
-      pub found_at : r ≡ At k → (withdraws_at s (k * 140) ≡ withdraws s (slot_found s x)) × (left_at s (k * 140) ≡ withdrawn_room s (slot_found s x))
+    module _ (r : Result ℕ ℕ) (q : r ≡ find_of s (filled_up 10 x)) (k : ℕ) where
+      pub found_at : r ≡ Ok k → (withdraws_at s (k * 140) ≡ withdraws s (slot_found s x)) × (left_at s (k * 140) ≡ withdrawn_room s (slot_found s x))
       unfolding withdraws withdrawn_room
       found_at e = (rw (found_is, ← q, e), rw (found_is, ← q, e))
 
-      pub found_gap : r ≡ Gap k → (false ≡ withdraws s (slot_found s x)) × (s ≡ withdrawn_room s (slot_found s x))
+      pub found_gap : r ≡ Err k → (false ≡ withdraws s (slot_found s x)) × (s ≡ withdrawn_room s (slot_found s x))
       unfolding withdraws withdrawn_room
       found_gap e = (rw (found_is, ← q, e), rw (found_is, ← q, e))
 
-pub found_within : (s y : List ℕ) (r : Found) (k : ℕ) → r ≡ find_of s y → r ≡ At k → k < length s / 140
+pub found_within : (s y : List ℕ) (r : Result ℕ ℕ) (k : ℕ) → r ≡ find_of s y → r ≡ Ok k → k < length s / 140
 found_within s y r k q e = subst (Within (length s / 140)) (sym q ∙ e) (find_within s y)

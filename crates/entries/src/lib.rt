@@ -12,8 +12,6 @@ ghost use Rattle.entries.specs.Release.{kept_slot, settled_slot, pending_one, pe
 ghost use Rattle.entries.specs.Released.{SoFar};
 ghost use Rattle.entries.specs.Withdraw.{slot_found, withdraws_at, left_at, withdraws, withdrawn_room};
 
-use slots::Found;
-
 const SLOT: usize = 140;
 
 // Where a slot has its live flag and its pending flag, each with a calendar behind it.
@@ -198,7 +196,7 @@ pub fn withdraw_number(room: &mut [u8], number: &[u8]) -> bool
     }
     let filled = filled_up(number);
     match slots::find(room, &filled) {
-        Found::At(k) => withdraw_at(room, k * SLOT),
-        Found::Gap(_) => false,
+        Ok(k) => withdraw_at(room, k * SLOT),
+        Err(_) => false,
     }
 }

@@ -1,7 +1,7 @@
 -- The contents of the four service segments (document 01, "Bytes and segments").
 -- Each definition takes the segment's own bytes g, from its tag up to and without its terminator.
 -- Assumes nothing.
-use Rattle.std.specs.Prelude.{ℕ, Bool, true, false, not, List, [], ◌∷◌, length}
+use Rattle.std.specs.Prelude.{ℕ, Bool, true, false, not, List, [], ◌∷◌, length, Option, Some, None, Result, Ok, Err}
 use Rattle.laws.specs.Choice.{pick, both, all}
 use Rattle.laws.specs.Text.{bytes}
 use Rattle.answers.specs.Answers.{Answer, done, wrong_envelope, unknown_type}
@@ -12,11 +12,10 @@ use Rattle.parts.specs.Places.{part_at, present}
 use Rattle.values.specs.Values.{same_text}
 use Rattle.messages.specs.declared.MessageType.{MessageType}
 use Rattle.messages.specs.declared.MessageType.TheVariants.{Skdupd, Tsdupd, Tsdupd12B}
-use Rattle.envelope.specs.declared.Opened.{Opened}
-use Rattle.envelope.specs.declared.Opened.TheVariants.{Dialogue, Wrong}
-use Rattle.envelope.specs.declared.Headed.{Headed}
-use Rattle.envelope.specs.declared.Headed.TheVariants.{Message, Missing, Unknown}
 use Rattle.laws.specs.Decimal.{decimal_of}
+use Rattle.envelope.specs.declared.Head.{Head}
+use Rattle.envelope.specs.declared.HeadError.{HeadError}
+use Rattle.envelope.specs.declared.HeadError.TheVariants.{Missing, Unknown}
 
 -- ".. compared after release": whether a part as written says the text
 abbrev pub says : List ℕ → List ℕ → Bool
@@ -60,8 +59,8 @@ agency_un = bytes "UN"
 abbrev pub opens : List ℕ → Bool
 opens g = both (says (value_of g 1 1) UNOB) (both (says (value_of g 1 2) version4) (present (value_of g 2 1)))
 
-unfoldable pub uib_of : List ℕ → Opened
-uib_of g = pick (opens g) (Dialogue (place_of g 2 1)) Wrong
+unfoldable pub uib_of : List ℕ → Option Part
+uib_of g = pick (opens g) (Some (place_of g 2 1)) None
 
 -- "UIH names in S306, as ISO 9735-3 orders it, the type, `D`, `04A`, an empty 0113 and `UN`; then the reference 0340."
 -- Document 000, UIH: 0065, 0052, 0054, 0113 and 0051 of S306, then 0340.
@@ -99,21 +98,25 @@ directory = directory_of release_04a
 abbrev pub directory_12b : List ℕ → List ℕ → List ℕ → List ℕ → Bool
 directory_12b = directory_of release_12b
 
+-- a type, and the place of 0340
+abbrev pub heading : MessageType → Part → Result Head HeadError
+heading message reference = Ok (record { message = message; reference = reference })
+
 -- the type; with it goes the place of 0340
-abbrev pub typed : List ℕ → Part → Headed
-typed type reference = pick (says type SKDUPD) (Message Skdupd reference) (pick (says type TSDUPD) (Message Tsdupd reference) Unknown)
+abbrev pub typed : List ℕ → Part → Result Head HeadError
+typed type reference = pick (says type SKDUPD) (heading Skdupd reference) (pick (says type TSDUPD) (heading Tsdupd reference) (Err Unknown))
 
 -- A8: "a SKDUPD that names 12B is still 8"
-abbrev pub typed_12b : List ℕ → Part → Headed
-typed_12b type reference = pick (says type TSDUPD) (Message Tsdupd12B reference) Unknown
+abbrev pub typed_12b : List ℕ → Part → Result Head HeadError
+typed_12b type reference = pick (says type TSDUPD) (heading Tsdupd12B reference) (Err Unknown)
 
 -- an absent part is 7 also where another part is wrong; then what is not known is 8. A8: "Take both; each message's UIH decides"
-unfoldable pub uih_of : List ℕ → Headed
+unfoldable pub uih_of : List ℕ → Result Head HeadError
 uih_of g =
     pick (complete (type_of g) (version_of g) (release_number_of g) (agency_of g) (reference_of g))
     (pick (directory (version_of g) (release_number_of g) (sub_function_of g) (agency_of g)) (typed (type_of g) (place_of g 2 1))
-    (pick (directory_12b (version_of g) (release_number_of g) (sub_function_of g) (agency_of g)) (typed_12b (type_of g) (place_of g 2 1)) Unknown))
-    Missing
+    (pick (directory_12b (version_of g) (release_number_of g) (sub_function_of g) (agency_of g)) (typed_12b (type_of g) (place_of g 2 1)) (Err Unknown)))
+    (Err Missing)
 
 -- A trailer repeats a reference, as it was written, in its first element and gives a count in its second.
 unfoldable pub trailer_of : List ℕ → List ℕ → ℕ → Bool
@@ -130,18 +133,14 @@ abbrev pub uiz_of : List ℕ → List ℕ → ℕ → Bool
 uiz_of g dialogue messages = trailer_of g dialogue messages
 
 -- what each case answers, of a segment at an offset: the dialogue reference's place; the type and the place of 0340; nothing
-abbrev pub opening_answer : ℕ → Opened → Answer Part
-opening_answer at (Dialogue p) = done p
-opening_answer at Wrong = wrong_envelope at
+abbrev pub opening_answer : ℕ → Option Part → Answer Part
+opening_answer at (Some p) = done p
+opening_answer at None = wrong_envelope at
 
-pub record Head : Type 0 where
-  pub message : MessageType
-  pub reference : Part
-
-abbrev pub headed_answer : ℕ → Headed → Answer Head
-headed_answer at (Message m p) = done (record { message = m; reference = p })
-headed_answer at Missing = wrong_envelope at
-headed_answer at Unknown = unknown_type at
+abbrev pub headed_answer : ℕ → Result Head HeadError → Answer Head
+headed_answer at (Ok h) = done h
+headed_answer at (Err Missing) = wrong_envelope at
+headed_answer at (Err Unknown) = unknown_type at
 
 abbrev pub trailer_answer : ℕ → Bool → Answer (Unit {0})
 trailer_answer at true = done tt

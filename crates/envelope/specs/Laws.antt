@@ -1,6 +1,6 @@
 -- What callers cite of the service segments' contents: where a part stands, and what is known of a reference that is handed out.
 -- Assumes nothing.
-use Rattle.std.specs.Prelude.{ℕ, suc, ◌-◌, ◌≤◌, ◌<◌, ◌≡◌, refl, true, false, not, List, [], ◌∷◌, leb, ltb, drop}
+use Rattle.std.specs.Prelude.{ℕ, suc, ◌-◌, ◌≤◌, ◌<◌, ◌≡◌, refl, true, false, not, List, [], ◌∷◌, leb, ltb, drop, Some, None, Err}
 use Rattle.std.proofs.Common.{sym, subst, ◌∙◌, arith, lt-ltb, le-leb, leb-false, length-drop, take_all}
 use Rattle.std.proofs.Math.Path.{ap}
 use Rattle.std.proofs.Math.Logic.{⊎_elim}
@@ -15,9 +15,11 @@ use Rattle.parts.specs.Places.{present, bytes_of, element_at, occurrence_at}
 use Rattle.parts.specs.Located.{Inside, part_bytes, part_inside, absent_bytes, bytes_present}
 use Rattle.messages.specs.declared.MessageType.{MessageType}
 use Rattle.messages.specs.declared.MessageType.TheVariants.{Skdupd, Tsdupd, Tsdupd12B}
-use Rattle.envelope.specs.declared.Opened.TheVariants.{Dialogue, Wrong}
-use Rattle.envelope.specs.declared.Headed.TheVariants.{Message, Missing, Unknown}
-use Rattle.envelope.specs.Envelope.{says, value_of, place_of, complete, directory, directory_12b, typed, typed_12b, type_of, version_of, release_number_of, agency_of, sub_function_of, reference_of, UNOB, version4, SKDUPD, TSDUPD, uib_of, uih_of}
+use Rattle.envelope.specs.Envelope.{says, value_of, place_of, complete, directory, directory_12b, typed, typed_12b, type_of, version_of, release_number_of, agency_of, sub_function_of, reference_of, UNOB, version4, SKDUPD, TSDUPD, uib_of, uih_of, heading}
+use Rattle.envelope.specs.declared.HeadError.TheVariants.{Missing, Unknown}
+use Rattle.std.specs.Prelude.{Result, Ok}
+use Rattle.envelope.specs.declared.Head.{Head}
+use Rattle.envelope.specs.declared.HeadError.{HeadError}
 
 -- what stands up to a list's end; the parts of the whole segment are the segment's
 pub between_end : (g : List ℕ) (a : ℕ) → between g a (length g) ≡ drop a g
@@ -84,13 +86,13 @@ reference_at g p q h =
     let l : (place_of g 2 1).from < (place_of g 2 1).to = leb-false (place_of g 2 1).to (place_of g 2 1).from (not-true (leb (place_of g 2 1).to (place_of g 2 1).from) (sym (present_place g 2 1) ∙ h)) in
     subst (Reference g) q (record { some = l; inside = place_inside g 2 1 l; bytes = value_at g 2 1 })
 
-wrong≢dialogue : (p : Part) → Wrong ≡ Dialogue p → ⊥
+wrong≢dialogue : (p : Part) → None ≡ Some p → ⊥
 wrong≢dialogue p q = let z : ◌≡◌ {A = ℕ} 0 1 = cc in omega arith
 
-dialogue_is : (a b : Part) → Dialogue a ≡ Dialogue b → a ≡ b
+dialogue_is : (a b : Part) → Some a ≡ Some b → a ≡ b
 dialogue_is a b q = cc
 
-pub uib_reference : (g : List ℕ) (p : Part) → uib_of g ≡ Dialogue p → Reference g p
+pub uib_reference : (g : List ℕ) (p : Part) → uib_of g ≡ Some p → Reference g p
 unfolding uib_of
 uib_reference g p q =
     choose (both (says (value_of g 1 1) UNOB) (both (says (value_of g 1 2) version4) (present (value_of g 2 1))))
@@ -99,24 +101,29 @@ uib_reference g p q =
     (both_parts (says (value_of g 1 2) version4) (present (value_of g 2 1)) (both_parts (says (value_of g 1 1) UNOB) (both (says (value_of g 1 2) version4) (present (value_of g 2 1))) t).1).1)
     (λ t. absurd (wrong≢dialogue p (rw t at q)))
 
-missing≢message : (m : MessageType) (p : Part) → Missing ≡ Message m p → ⊥
+missing≢message : (m : MessageType) (p : Part) → Err Missing ≡ heading m p → ⊥
 missing≢message m p q = let z : ◌≡◌ {A = ℕ} 0 1 = cc in omega arith
 
-unknown≢message : (m : MessageType) (p : Part) → Unknown ≡ Message m p → ⊥
+unknown≢message : (m : MessageType) (p : Part) → Err Unknown ≡ heading m p → ⊥
 unknown≢message m p q = let z : ◌≡◌ {A = ℕ} 0 1 = cc in omega arith
 
-message_place : (m n : MessageType) (a b : Part) → Message m a ≡ Message n b → a ≡ b
-message_place m n a b q = cc
+reference_in : Result Head HeadError → Part
+reference_in (Ok h) = h.reference
+reference_in (Err error) = record { from = 0; to = 0 }
+
+message_place : (m n : MessageType) (a b : Part) → heading m a ≡ heading n b → a ≡ b
+unfolding reference_in
+message_place m n a b q = ap reference_in q
 
 -- the place handed out is the one that was given
-typed_place : (l : List ℕ) (a p : Part) (m : MessageType) → typed l a ≡ Message m p → a ≡ p
+typed_place : (l : List ℕ) (a p : Part) (m : MessageType) → typed l a ≡ heading m p → a ≡ p
 typed_place l a p m q =
     choose (says l SKDUPD) (λ k. message_place Skdupd m a p (rw k at q))
     (λ k.
     choose (says l TSDUPD) (λ t. message_place Tsdupd m a p (rw (k, t) at q))
     (λ t. absurd (unknown≢message m p (rw (k, t) at q))))
 
-typed_12b_place : (l : List ℕ) (a p : Part) (m : MessageType) → typed_12b l a ≡ Message m p → a ≡ p
+typed_12b_place : (l : List ℕ) (a p : Part) (m : MessageType) → typed_12b l a ≡ heading m p → a ≡ p
 typed_12b_place l a p m q = choose (says l TSDUPD) (λ t. message_place Tsdupd12B m a p (rw t at q)) (λ t. absurd (unknown≢message m p (rw t at q)))
 
 complete_reference : (a b d e r : List ℕ) → complete a b d e r ≡ true → present r ≡ true
@@ -129,7 +136,7 @@ complete_reference a b d e r q =
 
 -- a UIH that is good has every part
 module _ (g : List ℕ) (m : MessageType) (p : Part) where
-  good_head : uih_of g ≡ Message m p → (present (reference_of g) ≡ true) × (place_of g 2 1 ≡ p)
+  good_head : uih_of g ≡ heading m p → (present (reference_of g) ≡ true) × (place_of g 2 1 ≡ p)
   unfolding uih_of
   good_head q =
       choose (complete (type_of g) (version_of g) (release_number_of g) (agency_of g) (reference_of g))
@@ -144,8 +151,8 @@ module _ (g : List ℕ) (m : MessageType) (p : Part) where
       ))
       (λ k. absurd (missing≢message m p (rw k at q)))
 
-  pub uih_place : uih_of g ≡ Message m p → p ≡ place_of g 2 1
+  pub uih_place : uih_of g ≡ heading m p → p ≡ place_of g 2 1
   uih_place q = sym (good_head q).1
 
-  pub uih_reference : uih_of g ≡ Message m p → Reference g p
+  pub uih_reference : uih_of g ≡ heading m p → Reference g p
   uih_reference q = let w = good_head q in reference_at g p w.1 w.0

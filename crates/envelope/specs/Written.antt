@@ -1,6 +1,6 @@
 -- A UIB and a UIH as they are mostly written, known by their first bytes.
 -- Assumes nothing.
-use Rattle.std.specs.Prelude.{ℕ, ◌+◌, ◌≤◌, ◌<◌, ◌≡◌, refl, Bool, true, false, List, [], ◌∷◌, ◌++◌, eqb, leb, length, drop, get_or}
+use Rattle.std.specs.Prelude.{ℕ, ◌+◌, ◌≤◌, ◌<◌, ◌≡◌, refl, Bool, true, false, List, [], ◌∷◌, ◌++◌, eqb, leb, length, drop, get_or, Option, Some, None, Result, Err}
 use Rattle.std.proofs.Common.{sym, subst, ◌∙◌, arith}
 use Rattle.std.proofs.Math.Path.{ap}
 use borrow.Author.Tests.{eqb-true, eq-eqb, ne_eqb}
@@ -15,38 +15,17 @@ use Rattle.parts.specs.Places.{part_at, element_at, occurrence_at, component_at,
 use Rattle.parts.specs.Next.{behind_component}
 use Rattle.messages.specs.declared.MessageType.{MessageType}
 use Rattle.messages.specs.declared.MessageType.TheVariants.{Skdupd, Tsdupd, Tsdupd12B}
-use Rattle.envelope.specs.declared.Opened.{Opened}
-use Rattle.envelope.specs.declared.Opened.TheVariants.{Dialogue, Wrong}
-use Rattle.envelope.specs.declared.Headed.{Headed}
 use Rattle.envelope.specs.Laws.{whole_bytes, between_end, present_place}
-use Rattle.envelope.specs.declared.Headed.TheVariants.{Message, Missing}
-use Rattle.envelope.specs.Envelope.{place_of, reference_of, uib_of, uih_of}
+use Rattle.envelope.specs.Envelope.{place_of, reference_of, uib_of, uih_of, heading}
+use Rattle.envelope.specs.declared.Head.{Head}
+use Rattle.envelope.specs.declared.HeadError.{HeadError}
+use Rattle.envelope.specs.declared.HeadError.TheVariants.{Missing}
 
 -- whether a text begins with another
 unfoldable pub begins_with : List ℕ → List ℕ → Bool
 begins_with g [] = true
 begins_with [] (t ∷ text) = false
 begins_with (b ∷ g) (t ∷ text) = both (eqb b t) (begins_with g text)
-
-pub begins_short : (g text : List ℕ) → length g < length text → begins_with g text ≡ false
-unfolding begins_with
-begins_short g [] h = absurd (omega arith)
-begins_short [] (t ∷ text) h = refl
-begins_short (b ∷ g) (t ∷ text) h = rw (begins_short g text (omega arith)) (both_false (eqb b t))
-
-module _ (g text : List ℕ) (i : ℕ) where
-  pub begins_past : length text ≤ i → begins_with (drop i g) (drop i text) ≡ true
-  unfolding begins_with
-  begins_past h = rw (drop_past text i h)
-
-  module _ (h : i < length g) (k : i < length text) where
-    pub begins_not : (get_or g i 0 ≡ get_or text i 0 → ⊥) → begins_with (drop i g) (drop i text) ≡ false
-    unfolding begins_with
-    begins_not n = rw (drop_here g i h, drop_here text i k, ne_eqb (get_or g i 0) (get_or text i 0) n)
-
-    pub begins_goes : get_or g i 0 ≡ get_or text i 0 → begins_with (drop i g) (drop i text) ≡ begins_with (drop (i + 1) g) (drop (i + 1) text)
-    unfolding begins_with
-    begins_goes e = rw (drop_here g i h, drop_here text i k, eq-eqb (get_or g i 0) (get_or text i 0) e)
 
 pub begins_split : (g text : List ℕ) → begins_with g text ≡ true → g ≡ text ++ drop (length text) g
 unfolding begins_with
@@ -77,11 +56,11 @@ besides at g = part_at g (record { from = at; to = length g }) 1 1 1
 abbrev pub found_of : {A : Type 0} → A → (Part → A) → Part → A
 found_of missing found p = pick (leb p.to p.from) missing (found p)
 
-abbrev pub opened_of : List ℕ → Opened
-opened_of g = found_of Wrong Dialogue (besides 10 g)
+abbrev pub opened_of : List ℕ → Option Part
+opened_of g = found_of None Some (besides 10 g)
 
-abbrev pub written_of : MessageType → List ℕ → Headed
-written_of message g = found_of Missing (Message message) (besides 20 g)
+abbrev pub written_of : MessageType → List ℕ → Result Head HeadError
+written_of message g = found_of (Err Missing) (heading message) (besides 20 g)
 
 module _ {A : Type 0} (missing : A) (found : Part → A) {p q : Part} (e : p ≡ q) where
   pub found_absent : leb p.to p.from ≡ true → missing ≡ found_of missing found q
@@ -95,7 +74,7 @@ record Known {A : Type 0} (text : List ℕ) (at : ℕ) (of : List ℕ → A) (mi
   pub element : (rest : List ℕ) → element_at (text ++ rest) (record { from = at; to = length (text ++ rest) }) 1 ≡ element_at (text ++ rest) (record { from = 0; to = length (text ++ rest) }) 2
   pub good : (rest : List ℕ) → of (text ++ rest) ≡ pick (present (reference_of (text ++ rest))) (found (place_of (text ++ rest) 2 1)) missing
 
-opening : Known head_unob 10 uib_of Wrong Dialogue
+opening : Known head_unob 10 uib_of None Some
 unfolding uib_of part_of first_piece later_pieces plain_on same_text element_at span_of
 opening =
     record {
@@ -103,7 +82,7 @@ opening =
       good = λ rest. refl;
     }
 
-skdupd : Known head_skdupd 20 uih_of Missing (Message Skdupd)
+skdupd : Known head_skdupd 20 uih_of (Err Missing) (heading Skdupd)
 unfolding uih_of part_of first_piece later_pieces plain_on same_text element_at span_of
 skdupd =
     record {
@@ -111,7 +90,7 @@ skdupd =
       good = λ rest. rw (both_true (present (reference_of (head_skdupd ++ rest))));
     }
 
-tsdupd : Known head_tsdupd 20 uih_of Missing (Message Tsdupd)
+tsdupd : Known head_tsdupd 20 uih_of (Err Missing) (heading Tsdupd)
 unfolding uih_of part_of first_piece later_pieces plain_on same_text element_at span_of
 tsdupd =
     record {
@@ -119,7 +98,7 @@ tsdupd =
       good = λ rest. rw (both_true (present (reference_of (head_tsdupd ++ rest))));
     }
 
-tsdupd_12b : Known head_tsdupd_12b 20 uih_of Missing (Message Tsdupd12B)
+tsdupd_12b : Known head_tsdupd_12b 20 uih_of (Err Missing) (heading Tsdupd12B)
 unfolding uih_of part_of first_piece later_pieces plain_on same_text element_at span_of
 tsdupd_12b =
     record {
@@ -171,13 +150,13 @@ unfolding besides
 second_place g {p} e h r = r ∙ behind_component g 0 (length g) p e h
 
 pub opening_head : (g : List ℕ) → begins_with g head_unob ≡ true → opened_of g ≡ uib_of g
-opening_head g q = written head_unob 10 uib_of Wrong Dialogue opening g q
+opening_head g q = written head_unob 10 uib_of None Some opening g q
 
 pub skdupd_head : (g : List ℕ) → begins_with g head_skdupd ≡ true → written_of Skdupd g ≡ uih_of g
-skdupd_head g q = written head_skdupd 20 uih_of Missing (Message Skdupd) skdupd g q
+skdupd_head g q = written head_skdupd 20 uih_of (Err Missing) (heading Skdupd) skdupd g q
 
 pub tsdupd_head : (g : List ℕ) → begins_with g head_tsdupd ≡ true → written_of Tsdupd g ≡ uih_of g
-tsdupd_head g q = written head_tsdupd 20 uih_of Missing (Message Tsdupd) tsdupd g q
+tsdupd_head g q = written head_tsdupd 20 uih_of (Err Missing) (heading Tsdupd) tsdupd g q
 
 pub tsdupd_12b_head : (g : List ℕ) → begins_with g head_tsdupd_12b ≡ true → written_of Tsdupd12B g ≡ uih_of g
-tsdupd_12b_head g q = written head_tsdupd_12b 20 uih_of Missing (Message Tsdupd12B) tsdupd_12b g q
+tsdupd_12b_head g q = written head_tsdupd_12b 20 uih_of (Err Missing) (heading Tsdupd12B) tsdupd_12b g q

@@ -17,20 +17,17 @@ ghost use Rattle.envelope.specs.Written.{begins_with, besides, opened_of, writte
 use messages::MessageType;
 use parts::Part;
 
-/// What a UIB says.
+/// What a good UIH says.
 #[derive(Clone, Copy)]
-pub enum Opened {
-    /// Where its dialogue reference stands in the segment.
-    Dialogue(Part),
-    /// 7: another beginning than `UNOB:4`, or no dialogue reference.
-    Wrong,
+pub struct Head {
+    pub message: MessageType,
+    /// Where the reference 0340 stands in the segment.
+    pub reference: Part,
 }
 
-/// What a UIH says.
-#[derive(Clone, Copy)]
-pub enum Headed {
-    /// The type, and where the reference 0340 stands in the segment.
-    Message(MessageType, Part),
+/// What is wrong with a UIH.
+#[derive(Clone, Copy, PartialEq, Eq, Debug)]
+pub enum HeadError {
     /// 7: a part that must be present is absent.
     Missing,
     /// 8: another type or directory.
@@ -54,6 +51,7 @@ fn is_digits(part: &[u8], n: usize) -> bool
     }
     let mut i = part.len();
     let mut left = n;
+    // The index goes down with the digits that are left, and tells at the last of them whether it is the part's first byte.
     while 0 < i {
         i -= 1;
         if part[i] != 48 + (left % 10) as u8 {
@@ -127,17 +125,7 @@ fn is_present(part: &[u8]) -> bool
 fn begins(segment: &[u8], text: &[u8]) -> bool
     ensures { result ≡ begins_with segment.now text.now }
 {
-    if segment.len() < text.len() {
-        return false;
-    }
-    let mut i = 0;
-    while i < text.len() {
-        if segment[i] != text[i] {
-            return false;
-        }
-        i += 1;
-    }
-    true
+    segment.starts_with(text)
 }
 
 // Where the first component of the next element stands, from an index on: mostly a `+` is there.
@@ -152,35 +140,35 @@ fn behind(segment: &[u8], at: usize) -> Part
 }
 
 // A UIB that begins as most are written: only its dialogue reference may be missing.
-fn open_written(segment: &[u8]) -> Opened
+fn open_written(segment: &[u8]) -> Option<Part>
     ensures { result ≡ opened_of segment.now }
 {
     let dialogue = behind(segment, 10);
     if dialogue.is_absent() {
-        return Opened::Wrong;
+        return None;
     }
-    Opened::Dialogue(dialogue)
+    Some(dialogue)
 }
 
 // A UIB written in any way, part by part.
-fn open_any(segment: &[u8]) -> Opened
+fn open_any(segment: &[u8]) -> Option<Part>
     ensures { result ≡ uib_of segment.now }
 {
     if !values::equals(value(segment, 1, 1), b"UNOB") {
-        return Opened::Wrong;
+        return None;
     }
     if !values::equals(value(segment, 1, 2), b"4") {
-        return Opened::Wrong;
+        return None;
     }
     let dialogue = place(segment, 2, 1);
     if dialogue.is_absent() {
-        return Opened::Wrong;
+        return None;
     }
-    Opened::Dialogue(dialogue)
+    Some(dialogue)
 }
 
-/// Whether a UIB begins `UNOB:4` and where its dialogue reference stands.
-pub fn read_uib(segment: &[u8]) -> Opened
+/// Where the dialogue reference of a UIB stands in the segment. None is 7: another beginning than `UNOB:4`, or no dialogue reference.
+pub fn read_uib(segment: &[u8]) -> Option<Part>
     ensures uib { result ≡ uib_of segment.now }
     ensures said { (at : ℕ) → opening_answer at result ≡ uib_answer at segment.now }
 {
@@ -220,46 +208,55 @@ fn is_directory(version: &[u8], sub_function: &[u8], agency: &[u8]) -> bool
 }
 
 // The message of a type of D.04A whose reference stands at a place.
-fn message(message_type: &[u8], reference: Part) -> Headed
+fn message(message_type: &[u8], reference: Part) -> Result<Head, HeadError>
     ensures { result ≡ typed message_type.now reference }
 {
     if values::equals(message_type, b"SKDUPD") {
-        return Headed::Message(MessageType::Skdupd, reference);
+        return Ok(Head {
+            message: MessageType::Skdupd,
+            reference,
+        });
     }
     if values::equals(message_type, b"TSDUPD") {
-        return Headed::Message(MessageType::Tsdupd, reference);
+        return Ok(Head {
+            message: MessageType::Tsdupd,
+            reference,
+        });
     }
-    Headed::Unknown
+    Err(HeadError::Unknown)
 }
 
 // The same of D.12B, in which TSDUPD alone is taken.
-fn message_12b(message_type: &[u8], reference: Part) -> Headed
+fn message_12b(message_type: &[u8], reference: Part) -> Result<Head, HeadError>
     ensures { result ≡ typed_12b message_type.now reference }
 {
     if !values::equals(message_type, b"TSDUPD") {
-        return Headed::Unknown;
+        return Err(HeadError::Unknown);
     }
-    Headed::Message(MessageType::Tsdupd12B, reference)
+    Ok(Head {
+        message: MessageType::Tsdupd12B,
+        reference,
+    })
 }
 
 // A UIH that begins as most are written: only its reference may be missing.
-fn read_written(segment: &[u8], message: MessageType) -> Headed
+fn read_written(segment: &[u8], message: MessageType) -> Result<Head, HeadError>
     ensures { result ≡ written_of message segment.now }
 {
     let reference = behind(segment, 20);
     if reference.is_absent() {
-        return Headed::Missing;
+        return Err(HeadError::Missing);
     }
-    Headed::Message(message, reference)
+    Ok(Head { message, reference })
 }
 
 // A UIH written in any way, part by part.
-fn read_any(segment: &[u8]) -> Headed
+fn read_any(segment: &[u8]) -> Result<Head, HeadError>
     ensures { result ≡ uih_of segment.now }
 {
     let reference = place(segment, 2, 1);
     if reference.is_absent() {
-        return Headed::Missing;
+        return Err(HeadError::Missing);
     }
     let identifier = occurrence(segment, 1);
     let message_type = value_in(segment, identifier, 1);
@@ -267,10 +264,10 @@ fn read_any(segment: &[u8]) -> Headed
     let release = value_in(segment, identifier, 3);
     let agency = value_in(segment, identifier, 5);
     if !is_complete(message_type, version, release, agency) {
-        return Headed::Missing;
+        return Err(HeadError::Missing);
     }
     if !is_directory(version, value_in(segment, identifier, 4), agency) {
-        return Headed::Unknown;
+        return Err(HeadError::Unknown);
     }
     if values::equals(release, b"04A") {
         return message(message_type, reference);
@@ -278,11 +275,11 @@ fn read_any(segment: &[u8]) -> Headed
     if values::equals(release, b"12B") {
         return message_12b(message_type, reference);
     }
-    Headed::Unknown
+    Err(HeadError::Unknown)
 }
 
 /// The type and the reference of a message, or what is wrong with its UIH.
-pub fn read_uih(segment: &[u8]) -> Headed
+pub fn read_uih(segment: &[u8]) -> Result<Head, HeadError>
     ensures uih { result ≡ uih_of segment.now }
     ensures said { (at : ℕ) → headed_answer at result ≡ uih_answer at segment.now }
 {

@@ -2,7 +2,7 @@
 
 // Holds the proved functions to another implementation of the calendar: data/dates has every date from 1990-01-01 to 2099-12-31 with
 // its day number and weekday, and data/refused has what is no date.
-use dates::{Date, Made, Number};
+use dates::Date;
 use lines::{read_input, say, say_number};
 use std::fs::File;
 use std::io;
@@ -40,13 +40,13 @@ fn line_of(date: [u8; 10], number: usize, weekday: u8) -> [u8; 19] {
 
 // Whether the line reads as a date, and that date's number, turned into a date, makes the line again.
 fn holds(line: &[u8]) -> bool {
-    let Made::Valid(date) = dates::read_date(line, 0) else {
+    let Some(date) = dates::read_date(line, 0) else {
         return false;
     };
-    let Number::Day(number) = date.day_number() else {
+    let Some(number) = date.day_number() else {
         return false;
     };
-    let Made::Valid(again) = Date::from_number(number) else {
+    let Some(again) = Date::from_number(number) else {
         return false;
     };
     let made = line_of(again.text(), number, dates::weekday(number));
@@ -54,10 +54,7 @@ fn holds(line: &[u8]) -> bool {
 }
 
 fn refused(line: &[u8]) -> bool {
-    match dates::read_date(line, 0) {
-        Made::Valid(_) => false,
-        Made::NoDate => true,
-    }
+    dates::read_date(line, 0).is_none()
 }
 
 fn print(rt: &impl Print, name: &[u8], lines: usize, held: usize) -> io::Result<()> {
@@ -109,10 +106,8 @@ fn next_line(file: &mut impl Read, dated: bool, tally: Tally) -> io::Result<Tall
 // All the lines of a file, of dates or of what is none: there are fewer lines than turns.
 fn all_lines(file: &mut impl Read, dated: bool) -> io::Result<Tally> {
     let mut tally = Tally { lines: 0, held: 0 };
-    let mut turn = 0usize;
-    while turn < 50000 {
+    for _ in 0..50000 {
         tally = next_line(file, dated, tally)?;
-        turn += 1;
     }
     Ok(tally)
 }
@@ -136,35 +131,17 @@ fn no_dates(rt: &(impl Files + Print)) -> io::Result<()> {
 
 // Bytes that end before the tenth, and an offset past the end.
 fn short() -> usize {
-    let mut held = 0usize;
-    if refused(b"") {
-        held = std::num::wrapping_add_usize(held, 1);
-    }
-    if refused(b"2000-08-0") {
-        held = std::num::wrapping_add_usize(held, 1);
-    }
-    match dates::read_date(b"2000-08-01", 1) {
-        Made::Valid(_) => held,
-        Made::NoDate => std::num::wrapping_add_usize(held, 1),
-    }
+    let past_end = dates::read_date(b"2000-08-01", 1).is_none();
+    refused(b"") as usize + refused(b"2000-08-0") as usize + past_end as usize
 }
 
 // The number after the last date's has no date.
 fn past_last() -> usize {
-    match Date::from_number(40177) {
-        Made::Valid(_) => 0,
-        Made::NoDate => 1,
-    }
+    Date::from_number(40177).is_none() as usize
 }
 
-fn number_of(made: Made) -> usize {
-    match made {
-        Made::Valid(date) => match date.day_number() {
-            Number::Day(n) => n as usize,
-            Number::NoDay => 99999,
-        },
-        Made::NoDate => 99999,
-    }
+fn number_of(date: Date) -> usize {
+    date.day_number().unwrap_or(99999)
 }
 
 fn main(rt: HostRuntime) -> io::Result<()> {
@@ -173,8 +150,8 @@ fn main(rt: HostRuntime) -> io::Result<()> {
     print(&rt, b"refused for its length: ", 3, short())?;
     print(&rt, b"refused past the last: ", 1, past_last())?;
     say(&rt, b"first and last: ")?;
-    say_number(&rt, number_of(Made::Valid(Date::FIRST)))?;
+    say_number(&rt, number_of(Date::FIRST))?;
     say(&rt, b" ")?;
-    say_number(&rt, number_of(Made::Valid(Date::LAST)))?;
+    say_number(&rt, number_of(Date::LAST))?;
     say(&rt, b"\n")
 }

@@ -1,6 +1,6 @@
 -- A POP as it is written, wherever it stands with its terminator behind it, is one whole segment.
 -- Assumes nothing.
-use Rattle.std.specs.Prelude.{◌≡◌, Bool, true, false, List, [], ◌∷◌, ◌++◌, ℕ, ◌+◌, ◌≤◌, leb, drop}
+use Rattle.std.specs.Prelude.{◌≡◌, Bool, true, false, List, [], ◌∷◌, ◌++◌, ℕ, ◌+◌, ◌≤◌, leb, drop, Ok}
 use Rattle.std.proofs.Math.Path.{refl, sym, ap}
 use Rattle.std.proofs.Common.{◌∙◌, arith, length-drop}
 use Rattle.std.proofs.Math.ListN.{length, length-append}
@@ -9,20 +9,19 @@ use Rattle.laws.specs.Choice.{both, all, all_append}
 use Rattle.syntax.specs.Bytes.{permitted_of, plain_on}
 use Rattle.syntax.specs.Pieces.{first_piece, elements, occurrences, components}
 use Rattle.syntax.specs.Segment.{body_at, tagged, component_fits, occurrence_fits, element_fits, within_limits, well_formed, scan_of, segment_at}
-use Rattle.syntax.specs.declared.segment.Scanned.TheVariants.{End}
 use Rattle.free_texts.specs.Free.{quiet, first_cut, plain_all, numeric, no_quote, no_release, all_permitted}
 use Rattle.free_texts.specs.Parts.{code, one_element, two_elements, with_string, without_string, Cut, string_quiet, string_components, string_elements, string_once, string_cut, dates_quiet, week_components, week_elements, week_once, named_once, named_components, week_cut, alone_elements, alone_cut}
 
 -- where a text goes on from an offset with these bytes and a terminator, they are the body of a whole segment
 abbrev pub Stands : List ℕ → Type 0
-Stands g = (t : List ℕ) (at : ℕ) (rest : List ℕ) → drop at t ≡ g ++ (39 ∷ rest) → (body_at t at ≡ g) × (segment_at t at ≡ End (at + length g))
+Stands g = (t : List ℕ) (at : ℕ) (rest : List ℕ) → drop at t ≡ g ++ (39 ∷ rest) → (body_at t at ≡ g) × (segment_at t at ≡ Ok (at + length g))
 
 -- and so they are by themselves
-pub stands_alone : {g : List ℕ} → Stands g → (body_at (g ++ (39 ∷ [])) 0 ≡ g) × (segment_at (g ++ (39 ∷ [])) 0 ≡ End (length g))
+pub stands_alone : {g : List ℕ} → Stands g → (body_at (g ++ (39 ∷ [])) 0 ≡ g) × (segment_at (g ++ (39 ∷ [])) 0 ≡ Ok (length g))
 stands_alone {g} s =
     let z : 0 + length g ≡ length g = omega arith in
     let p = s (g ++ (39 ∷ [])) 0 [] refl in
-    (p.0, p.1 ∙ ap End z)
+    (p.0, p.1 ∙ ap Ok z)
 
 -- a segment cut into its elements is whole where each of them is within the limits
 module _ (g : List ℕ) (es : List (List ℕ)) (tag : first_piece 43 false g ≡ 80 ∷ 79 ∷ 80 ∷ []) (cut : elements g ≡ es) where

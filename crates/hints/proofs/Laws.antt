@@ -1,5 +1,6 @@
 -- What a right hint tells is the step of the placing rule. Assumes nothing.
-use Rattle.std.specs.Prelude.{◌≡◌, Bool, not, eqb, ltb, leb, get_or}
+use Rattle.std.specs.Option.{option_or}
+use Rattle.std.specs.Prelude.{◌≡◌, Bool, not, eqb, ltb, leb, get_or, Option, Some, None}
 use Rattle.std.proofs.Math.Path.{refl, sym, ap}
 use Rattle.std.proofs.Common.{◌∙◌, subst, zero-add, add-zero}
 use Rattle.std.proofs.Math.Bool.{true, false}
@@ -12,12 +13,9 @@ use Rattle.std.proofs.Math.Dec.{T}
 use Rattle.laws.specs.Choice.{pick, both, either, all, both_left, both_right, holds, choose}
 use Rattle.placing.specs.declared.Place.{Place}
 use Rattle.placing.specs.declared.Fit.{Fit}
-use Rattle.placing.specs.declared.Fit.TheVariants.{At, Nowhere}
-use Rattle.placing.specs.declared.Stepped.{Stepped}
-use Rattle.placing.specs.declared.Stepped.TheVariants.{Placed, OutOfPlace}
 use Rattle.placing.specs.Table.{Table, rows, tag_at, most, level_of, outer, later}
 use Rattle.placing.specs.Place.{count_at, reached_of}
-use Rattle.placing.specs.Rule.{reachable, or_fit, first_fit, fits, go, again, later_ones, choices_from, placed_at, or_stepped, first_of, step_of}
+use Rattle.placing.specs.Rule.{reachable, first_fit, fits, go, again, later_ones, choices_from, placed_at, first_of, step_of}
 use Rattle.placing.proofs.Walks.{first_append, first_pick_none, more_fits, more_none, step_start}
 use Rattle.messages.specs.Tags.{UIT}
 use Rattle.messages.specs.declared.MessageType.{MessageType}
@@ -33,70 +31,70 @@ use Rattle.hints.specs.Laws.{Stood, entered_in}
 
 module _ (t : Table) (p : Place) where
   -- what is told comes true, if no number forbids it
-  abbrev Meets : Told → Stepped → Type 0
-  Meets (More row level r d) s = count_at p level < most t row → s ≡ Placed (reached_of p level (count_at p level + 1) r (4 - d))
-  Meets (Next level r d) s = s ≡ Placed (reached_of p level 1 r (4 - d))
+  abbrev Meets : Told → Option Place → Type 0
+  Meets (More row level r d) s = count_at p level < most t row → s ≡ Some (reached_of p level (count_at p level + 1) r (4 - d))
+  Meets (Next level r d) s = s ≡ Some (reached_of p level 1 r (4 - d))
   Meets Silent s = Unit {0}
 
   -- the later places, `above` being what the levels above them come to
-  next_meets : (level : ℕ) (x : Fit) (b : Bool) (up : Told) (above : Stepped) → Meets up above
-      → Meets (next_told level x b up) (or_stepped (placed_at p level 1 x) (pick b above OutOfPlace))
-  next_meets level (At r d) b up above m = refl
-  next_meets level Nowhere true up above m = m
-  next_meets level Nowhere false up above m = tt
+  next_meets : (level : ℕ) (x : Option Fit) (b : Bool) (up : Told) (above : Option Place) → Meets up above
+      → Meets (next_told level x b up) (option_or (placed_at p level 1 x) (pick b above None))
+  next_meets level (Some f) b up above m = refl
+  next_meets level None true up above m = m
+  next_meets level None false up above m = tt
 
   module _ (tag : ℕ) where
-    or_placed : (level : ℕ) (x y : Fit) → or_stepped (placed_at p level 1 x) (placed_at p level 1 y) ≡ placed_at p level 1 (or_fit x y)
-    or_placed level (At r d) y = refl
-    or_placed level Nowhere y = refl
+    or_placed : (level : ℕ) (x y : Option Fit) → option_or (placed_at p level 1 x) (placed_at p level 1 y) ≡ placed_at p level 1 (option_or x y)
+    or_placed level (Some f) y = refl
+    or_placed level None y = refl
 
     first_map : (level : ℕ) (l : List ℕ) → first_of t p tag (map (λ r. go r level 1) l) ≡ placed_at p level 1 (first_fit (fits (4 - level) t tag) l)
     unfolding first_of first_fit
     first_map level [] = refl
     first_map level (r ∷ l) = rw (first_map level l) (or_placed level (fits (4 - level) t tag r) (first_fit (fits (4 - level) t tag) l))
 
-    none_more : (b : Bool) (x : Fit) (level : ℕ) → or_stepped (placed_at p level 1 x) OutOfPlace ≡ or_stepped (placed_at p level 1 x) (pick b OutOfPlace OutOfPlace)
+    none_more : (b : Bool) (x : Option Fit) (level : ℕ) → option_or (placed_at p level 1 x) None ≡ option_or (placed_at p level 1 x) (pick b None None)
     none_more true x level = refl
     none_more false x level = refl
 
-    or_last : (s : Stepped) → or_stepped s OutOfPlace ≡ s
-    or_last (Placed q) = refl
-    or_last OutOfPlace = refl
+    or_last : (s : Option Place) → option_or s None ≡ s
+    or_last (Some q) = refl
+    or_last None = refl
 
     -- the choices of a level: the same place again, the later places, and those above
     outermost : (row : ℕ) → first_of t p tag (choices_from 0 t p row)
-        ≡ or_stepped (first_of t p tag (again t p 0 row)) (or_stepped (placed_at p 0 1 (later_fit 0 t tag row)) (pick (passed 0 t row) OutOfPlace OutOfPlace))
+        ≡ option_or (first_of t p tag (again t p 0 row)) (option_or (placed_at p 0 1 (later_fit 0 t tag row)) (pick (passed 0 t row) None None))
     unfolding choices_from later_ones
     outermost row =
         first_append t p tag (again t p 0 row) (map (λ r. go r 0 1) (reachable t (later t 0 row)))
-        ∙ ap (λ x. or_stepped (first_of t p tag (again t p 0 row)) x)
+        ∙ ap (λ x. option_or (first_of t p tag (again t p 0 row)) x)
         (first_map 0 (reachable t (later t 0 row)) ∙ sym (or_last (placed_at p 0 1 (later_fit 0 t tag row))) ∙ none_more (passed 0 t row) (later_fit 0 t tag row) 0)
 
     one_up : (level row : ℕ) → first_of t p tag (choices_from (suc level) t p row)
-        ≡ or_stepped (first_of t p tag (again t p (suc level) row))
-        (or_stepped (placed_at p (suc level) 1 (later_fit (suc level) t tag row)) (pick (passed (suc level) t row) (first_of t p tag (choices_from level t p (outer t row))) OutOfPlace))
+        ≡ option_or (first_of t p tag (again t p (suc level) row))
+        (option_or (placed_at p (suc level) 1 (later_fit (suc level) t tag row)) (pick (passed (suc level) t row) (first_of t p tag (choices_from level t p (outer t row))) None))
     unfolding choices_from later_ones
     one_up level row = rw (first_append, first_append, first_map (suc level), first_pick_none)
 
     -- nothing is once more where the place does not fit
-    not_again : (level row : ℕ) → Nowhere ≡ fits (4 - level) t tag row → first_of t p tag (again t p level row) ≡ OutOfPlace
+    not_again : (level row : ℕ) → None ≡ fits (4 - level) t tag row → first_of t p tag (again t p level row) ≡ None
     not_again level row e =
         elim (dec_lt (count_at p level) (most t row)) [
-          | yes l ↦ more_fits t p tag level row (count_at p level) (most t row) (4 - level) Nowhere refl refl l refl e
+          | yes l ↦ more_fits t p tag level row (count_at p level) (most t row) (4 - level) None refl refl l refl e
           | no l ↦ more_none t p tag level row (count_at p level) (most t row) refl refl (omega arith)
         ]
 
-    level_meets : (level row : ℕ) (f : Fit) → f ≡ fits (4 - level) t tag row → (x : Fit) (b : Bool) (up : Told) (above : Stepped) → Meets up above
-        → Meets (told_by level row f x b up) (or_stepped (first_of t p tag (again t p level row)) (or_stepped (placed_at p level 1 x) (pick b above OutOfPlace)))
-    level_meets level row (At r d) e x b up above m =
+    level_meets : (level row : ℕ) (f : Option Fit) → f ≡ fits (4 - level) t tag row → (x : Option Fit) (b : Bool) (up : Told) (above : Option Place) → Meets up above
+        → Meets (told_by level row f x b up) (option_or (first_of t p tag (again t p level row)) (option_or (placed_at p level 1 x) (pick b above None)))
+    level_meets level row (Some f) e x b up above m =
         λ l.
-        let k = more_fits t p tag level row (count_at p level) (most t row) (4 - level) (At r d) refl refl l refl e in
+        let k = more_fits t p tag level row (count_at p level) (most t row) (4 - level) (Some f) refl refl l refl e in
         rw k
-    level_meets level row Nowhere e x b up above m = rw (not_again level row e) (next_meets level x b up above m)
+    level_meets level row None e x b up above m = rw (not_again level row e) (next_meets level x b up above m)
 
     told_meets : (level row : ℕ) → Meets (told_from level t tag row) (first_of t p tag (choices_from level t p row))
     unfolding told_from
-    told_meets zero row = rw (outermost row) (level_meets 0 row (fits 4 t tag row) refl (later_fit 0 t tag row) (passed 0 t row) Silent OutOfPlace tt)
+    told_meets zero row = rw (outermost row) (level_meets 0 row (fits 4 t tag row) refl (later_fit 0 t tag row) (passed 0 t row) Silent None tt)
     told_meets (suc level) row =
         rw (one_up level row) (level_meets (suc level) row (fits (4 - suc level) t tag row) refl (later_fit (suc level) t tag row) (passed (suc level) t row)
         (told_from level t tag (outer t row)) (first_of t p tag (choices_from level t p (outer t row))) (told_meets level (outer t row)))
@@ -105,7 +103,7 @@ module _ (t : Table) (p : Place) where
     unfolding anew_from
     anew_meets zero row h =
         rw (outermost row, more_none t p tag 0 row (count_at p 0) (most t row) refl refl h)
-        (next_meets 0 (later_fit 0 t tag row) (passed 0 t row) Silent OutOfPlace tt)
+        (next_meets 0 (later_fit 0 t tag row) (passed 0 t row) Silent None tt)
     anew_meets (suc level) row h =
         rw (one_up level row, more_none t p tag (suc level) row (count_at p (suc level)) (most t row) refl refl h)
         (next_meets (suc level) (later_fit (suc level) t tag row) (passed (suc level) t row) (told_from level t tag (outer t row)) (first_of t p tag (choices_from level t p (outer t row)))
@@ -122,18 +120,18 @@ once a n e m q = rw e (omega arith)
 never : (a n : ℕ) → a ≡ 0 → 0 ≡ a * n
 never a n e = rw e (omega arith)
 
-module _ (t : Table) (p : Place) (h : ℕ) (s : Stepped) where
+module _ (t : Table) (p : Place) (h : ℕ) (s : Option Place) where
   -- the place that a hint says
   abbrev Said : ℕ → Type 0
-  Said n = s ≡ Placed (reached_of p (kind_in h).level n (row_in h) (last_in h))
+  Said n = s ≡ Some (reached_of p (kind_in h).level n (row_in h) (last_in h))
 
-  said_is : (level r d n : ℕ) → T (says_hint h level r d) → s ≡ Placed (reached_of p level n r (4 - d)) → (level ≡ (kind_in h).level) × Said n
+  said_is : (level r d n : ℕ) → T (says_hint h level r d) → s ≡ Some (reached_of p level n r (4 - d)) → (level ≡ (kind_in h).level) × Said n
   said_is level r d n g q =
       let a = eqb-true level (kind_in h).level (holds _ (both_left (eqb level (kind_in h).level) (both (eqb r (row_in h)) (eqb (4 - d) (last_in h))) g)) in
       let k = both_right (eqb level (kind_in h).level) (both (eqb r (row_in h)) (eqb (4 - d) (last_in h))) g in
       let b = eqb-true r (row_in h) (holds _ (both_left (eqb r (row_in h)) (eqb (4 - d) (last_in h)) k)) in
       let c = eqb-true (4 - d) (last_in h) (holds _ (both_right (eqb r (row_in h)) (eqb (4 - d) (last_in h)) k)) in
-      (a, q ∙ ap (λ x. Placed (reached_of p level n r x)) c ∙ ap (λ x. Placed (reached_of p level n x (last_in h))) b ∙ ap (λ x. Placed (reached_of p x n (row_in h) (last_in h))) a)
+      (a, q ∙ ap (λ x. Some (reached_of p level n r x)) c ∙ ap (λ x. Some (reached_of p level n x (last_in h))) b ∙ ap (λ x. Some (reached_of p x n (row_in h) (last_in h))) a)
 
   told_said : (x : Told) → T (agrees t h x) → Meets t p x s → entered_in p h < (kind_in h).number → Said (entered_in p h + 1)
   told_said (More row level r d) g m l =
@@ -180,7 +178,7 @@ module _ (t : Table) (p : Place) (h : ℕ) (g : T (hint_right t p.row h)) where
         other false q n = q
 
     pub hint_step : Stood t p → entered_in p h < (kind_in h).number
-        → step_of t p (tag_at t (row_in h)) ≡ Placed (reached_of p (kind_in h).level (entered_in p h + 1) (row_in h) (last_in h))
+        → step_of t p (tag_at t (row_in h)) ≡ Some (reached_of p (kind_in h).level (entered_in p h + 1) (row_in h) (last_in h))
     hint_step w l =
         told_said t p h (step_of t p (tag_at t (row_in h))) (hint_told t (tag_at t (row_in h)) p.row)
         (both_left (agrees t h (hint_told t (tag_at t (row_in h)) p.row)) (both (eqb (level_of t (row_in h)) (last_in h)) (not (eqb (tag_at t (row_in h)) UIT))) right_parts)

@@ -1,10 +1,9 @@
 -- A place in two numbers moved on by a hint. Assumes nothing.
-use Rattle.std.specs.Prelude.{◌≡◌, refl, Bool, true, false, List, [], ℕ, ◌+◌, ◌*◌, ◌%◌, ◌^◌, ◌<◌, ◌≤◌, ◌⊎◌, T, eqb, leb, get_or}
+use Rattle.std.specs.Prelude.{◌≡◌, refl, Bool, true, false, List, [], ℕ, ◌+◌, ◌*◌, ◌%◌, ◌^◌, ◌<◌, ◌≤◌, ◌⊎◌, T, eqb, leb, get_or, Some}
 use Rattle.std.proofs.Common.{sym, ap, ◌∙◌, subst, arith, inl, inr, ⊎_elim, eqb-true, leb-true}
 use Rattle.laws.specs.Choice.{pick, both, either, both_left, both_right, holds, choose}
 use Rattle.laws.specs.Sweep.{below, at}
 use Rattle.placing.specs.declared.Place.{Place}
-use Rattle.placing.specs.declared.Stepped.TheVariants.{Placed}
 use Rattle.placing.specs.Table.{Table, rows, tag_at, level_of}
 use Rattle.placing.specs.Place.{count_at, reached_of}
 use Rattle.placing.specs.Rule.{step_of}
@@ -61,7 +60,7 @@ reached_stood p row m level deeper h l =
 
 -- one step on: the rule's own, to a place that has come; never by UIT
 pub record Onward (t : Table) (row n tag to m : ℕ) : Type 0 where
-  pub step : step_of t (place_of row n) tag ≡ Placed (place_of to m)
+  pub step : step_of t (place_of row n) tag ≡ Some (place_of to m)
   pub stood : Stood t (place_of to m)
   pub inside : tag ≡ UIT → ⊥
 
@@ -97,7 +96,7 @@ module _ (t : Table) (l : List (List ℕ)) (g : T (right t l)) (row n j : ℕ) (
         let p = sound_parts (kind_in h) sound_told in
         let d = reached_stood (place_of row n) (row_in h) ((kind_in h).again * count_at (place_of row n) (kind_in h).level) (kind_in h).level (kind_in h).deeper p.0 p.1 in
         record {
-          step = ap (step_of t (place_of row n)) (sym k) ∙ hint_step t (place_of row n) h own some s m.1 ∙ ap Placed (sym m.0);
+          step = ap (step_of t (place_of row n)) (sym k) ∙ hint_step t (place_of row n) h own some s m.1 ∙ ap Some (sym m.0);
           stood = subst (λ x. 1 ≤ count_at x (level_of t (row_in h))) (sym m.0) (subst (λ x. 1 ≤ count_at (reached_of (place_of row n) (kind_in h).level ((kind_in h).again * count_at (place_of row n) (kind_in h).level + 1) (row_in h) (last_in h)) x) (sym (hint_level t (place_of row n) h own some)) d);
           inside = λ q. hint_inside t (place_of row n) h own some (k ∙ q);
         }

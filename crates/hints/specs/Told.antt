@@ -1,9 +1,8 @@
 -- What may be told of the next place by the row reached and the tag alone, the counts left aside. Assumes nothing.
-use Rattle.std.specs.Prelude.{ℕ, zero, suc, ◌-◌, ◌%◌, Bool, true, false, not, List, [], ◌∷◌, eqb, ltb, leb}
+use Rattle.std.specs.Prelude.{ℕ, zero, suc, ◌-◌, ◌%◌, Bool, true, false, not, List, [], ◌∷◌, eqb, ltb, leb, Option, Some, None}
 use Rattle.laws.specs.Choice.{pick, both, either, all}
 use Rattle.messages.specs.Tags.{UIT}
 use Rattle.placing.specs.declared.Fit.{Fit}
-use Rattle.placing.specs.declared.Fit.TheVariants.{At, Nowhere}
 use Rattle.placing.specs.Table.{Table, rows, tag_at, most, level_of, outer, later}
 use Rattle.placing.specs.Rule.{reachable, none_left, first_fit, fits}
 use Rattle.hints.specs.Kinds.{row_in, kind_in, last_in}
@@ -15,16 +14,16 @@ pub data Told : Type 0 where
   Silent : Told
 
 -- what the later places of a level tell, by the first that fits and whether none of them must be filled; `above` is what the levels above it tell
-abbrev pub next_told : ℕ → Fit → Bool → Told → Told
-next_told level (At r d) none above = Next level r d
-next_told level Nowhere none above = pick none above Silent
+abbrev pub next_told : ℕ → Option Fit → Bool → Told → Told
+next_told level (Some f) none above = Next level f.row f.depth
+next_told level None none above = pick none above Silent
 
-abbrev pub told_by : ℕ → ℕ → Fit → Fit → Bool → Told → Told
-told_by level row (At r d) x none above = More row level r d
-told_by level row Nowhere x none above = next_told level x none above
+abbrev pub told_by : ℕ → ℕ → Option Fit → Option Fit → Bool → Told → Told
+told_by level row (Some f) x none above = More row level f.row f.depth
+told_by level row None x none above = next_told level x none above
 
 -- the first of the later places that fits
-abbrev pub later_fit : ℕ → Table → ℕ → ℕ → Fit
+abbrev pub later_fit : ℕ → Table → ℕ → ℕ → Option Fit
 later_fit level t tag row = first_fit (fits (4 - level) t tag) (reachable t (later t level row))
 
 abbrev pub passed : ℕ → Table → ℕ → Bool

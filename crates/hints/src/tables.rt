@@ -1,9 +1,9 @@
 //! For each row of the segment tables and each tag that may follow on it, the row to which the placing rule of document 01 leads.
 ghost use Rattle.std.specs.Prelude.{◌≡◌};
-ghost use Rattle.laws.specs.Lists.{between};
 ghost use Rattle.hints.specs.Hints.{hints, hints_in};
 
 use messages::MessageType;
+use placing::rows_between;
 
 /// The hints of all types, sixteen for each row of the tables of D.04A; TSDUPD of D.12B has those of TSDUPD. A hint is 32 times the row to which it leads, and its kind.
 pub fn hints() -> [[u16; 16]; 104]
@@ -199,22 +199,6 @@ pub fn hints() -> [[u16; 16]; 104]
         [0, 0, 0, 0, 0, 0, 0, 1348, 0, 0, 0, 0, 0, 1483, 0, 0],
         [0, 0, 0, 0, 0, 0, 0, 0, 0, 0, 0, 0, 0, 0, 0, 0],
     ]
-}
-
-// The rows from one index up to and without another.
-fn rows_between(hints: &[[u16; 16]], from: usize, to: usize) -> &[[u16; 16]]
-    ensures { result.now ≡ between hints.now from to }
-{
-    if to <= from {
-        return &hints[0..0];
-    }
-    if hints.len() <= from {
-        return &hints[0..0];
-    }
-    if hints.len() < to {
-        return &hints[from..];
-    }
-    &hints[from..to]
 }
 
 /// A type's own hints among those of all types.

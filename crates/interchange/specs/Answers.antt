@@ -1,6 +1,6 @@
 -- What is answered, and what the lent buffer holds then.
 -- Assumes nothing.
-use Rattle.std.specs.Prelude.{◌≡◌, Bool, true, false, ℕ, ◌+◌, ◌*◌, ◌/◌, ◌≤◌, ◌<◌, eqb, ltb, take}
+use Rattle.std.specs.Prelude.{Result, Ok, Err, ◌≡◌, Bool, true, false, ℕ, ◌+◌, ◌*◌, ◌/◌, ◌≤◌, ◌<◌, eqb, ltb, take}
 use Rattle.std.proofs.Math.Path.{refl, sym}
 use Rattle.std.proofs.Common.{ap, ◌∙◌, eq-eqb, ne_eqb, lt-ltb, le-ltb, ltb-true, ltb-false, length-take-le}
 use mathlib.Core.List.{List, [], ◌∷◌, append-nil}
@@ -13,8 +13,6 @@ use Rattle.steps.specs.declared.state.State.{State}
 use Rattle.steps.specs.declared.state.Row.{Row}
 use Rattle.answers.specs.Answers.{Answer, done, refused, bad_size, output_too_short}
 use Rattle.answers.specs.Laws.{done≢refused, one_case}
-use Rattle.interchange.specs.declared.reader.Reading.{Reading}
-use Rattle.interchange.specs.declared.reader.Reading.TheVariants.{Rows, Refused}
 use Rattle.steps.specs.State.{opening_state}
 use Rattle.interchange.specs.Reader.{Verdict, accepted, Outcome, read_on, reading_of, numbers, read_answer, outcome_answer, rows_after}
 use Rattle.interchange.specs.Laws.{length_numbers}
@@ -173,13 +171,13 @@ module _ (n : ℕ) (w : Outcome) (lent : List ℕ) where
     )
 
 -- what `read` answers fixes its case
-abbrev case : Answer ℕ → Reading
-case (done n) = Rows n
-case (refused refusal) = Refused refusal
+abbrev case : Answer ℕ → Result ℕ Refusal
+case (done n) = Ok n
+case (refused refusal) = Err refusal
 
-back : (x : Reading) → case (read_answer x) ≡ x
-back (Rows n) = refl
-back (Refused x) = refl
+back : (x : Result ℕ Refusal) → case (read_answer x) ≡ x
+back (Ok n) = refl
+back (Err x) = refl
 
-pub reading_same : (x y : Reading) → read_answer x ≡ read_answer y → x ≡ y
+pub reading_same : (x y : Result ℕ Refusal) → read_answer x ≡ read_answer y → x ≡ y
 reading_same = one_case read_answer case back

@@ -1,6 +1,6 @@
 -- Some rows of a reading, gathered in a room of the reader's own: what is told of them.
 -- Assumes nothing.
-use Rattle.std.specs.Prelude.{◌≡◌, refl, Bool, true, false, List, [], ◌∷◌, ◌++◌, ℕ, ◌+◌, ◌-◌, ◌*◌, ◌≤◌, ◌<◌, length, take}
+use Rattle.std.specs.Prelude.{Result, Ok, Err, ◌≡◌, refl, Bool, true, false, List, [], ◌∷◌, ◌++◌, ℕ, ◌+◌, ◌-◌, ◌*◌, ◌≤◌, ◌<◌, length, take}
 use Rattle.std.proofs.Common.{sym, ap, ◌∙◌, subst, append-nil, arith}
 use Rattle.laws.specs.Choice.{pick}
 use Rattle.answers.specs.Answers.{Answer, done, refused, wrong_envelope}
@@ -8,10 +8,8 @@ use Rattle.answers.specs.declared.Refusal.{Refusal}
 use Rattle.placing.specs.Tables.{tables}
 use Rattle.steps.specs.declared.state.Phase.{Phase}
 use Rattle.steps.specs.declared.state.State.{State}
-use Rattle.interchange.specs.declared.turn.Turn.{Turn}
-use Rattle.interchange.specs.declared.turn.Turn.TheVariants.{Stop}
 use Rattle.interchange.specs.declared.gather.Gathered.{Gathered}
-use Rattle.interchange.specs.declared.gather.Gathered.TheVariants.{Numbers, Full, Faulty}
+use Rattle.interchange.specs.declared.gather.Gathered.TheVariants.{Numbers, Full}
 use Rattle.interchange.specs.Reader.{Outcome, accepted, fault, is_closed, turn_at, after_turn, read_on, numbers}
 use Rattle.interchange.specs.Laws.{read_past, read_on_lem, read_accepted, read_stops}
 use Rattle.interchange.specs.Fuel.{fuel_same}
@@ -24,12 +22,12 @@ abbrev pub whole_from : List ℕ → State → ℕ → Outcome
 whole_from s st at = read_on (length s + 1) s st at
 
 -- all rows, or a fault
-abbrev pub gathered_by : Answer ℕ → Gathered
-gathered_by (done n) = Numbers n
-gathered_by (refused refusal) = Faulty refusal
+abbrev pub gathered_by : Answer ℕ → Result Gathered Refusal
+gathered_by (done n) = Ok (Numbers n)
+gathered_by (refused refusal) = Err refusal
 
 -- what is told at the input's end
-abbrev pub ended_at : Bool → ℕ → ℕ → Gathered
+abbrev pub ended_at : Bool → ℕ → ℕ → Result Gathered Refusal
 ended_at closed n size = gathered_by (pick closed (done n) (wrong_envelope size))
 
 -- what is gathered of a reading: all its rows; those before the room was full, the rest being read from another state on; or its fault
@@ -38,12 +36,12 @@ pub record Filled (w rest : Outcome) (n : ℕ) (room : List ℕ) : Type 0 where
   pub rows : take n room ++ numbers rest.rows ≡ numbers w.rows
   pub count : n + 3 * length rest.rows ≡ 3 * length w.rows
 
-abbrev pub Chunk : List ℕ → State → ℕ → Gathered → List ℕ → Type 0
-Chunk s st at (Numbers n) room = Filled (whole_from s st at) (record { rows = []; verdict = accepted }) n room × (n ≤ room_size)
-Chunk s st at (Full next then n) room = Filled (whole_from s st at) (whole_from s next then) n room × (n ≤ room_size) × (then ≤ length s) × (4 * n + 3 * at ≤ 3 * then) × (full_from ≤ n)
-Chunk s st at (Faulty x) room = (whole_from s st at).verdict ≡ refused x
+abbrev pub Chunk : List ℕ → State → ℕ → Result Gathered Refusal → List ℕ → Type 0
+Chunk s st at (Ok (Numbers n)) room = Filled (whole_from s st at) (record { rows = []; verdict = accepted }) n room × (n ≤ room_size)
+Chunk s st at (Ok (Full f)) room = Filled (whole_from s st at) (whole_from s f.state f.at) f.numbers room × (f.numbers ≤ room_size) × (f.at ≤ length s) × (4 * f.numbers + 3 * at ≤ 3 * f.at) × (full_from ≤ f.numbers)
+Chunk s st at (Err x) room = (whole_from s st at).verdict ≡ refused x
 
-pub chunk_as : (s : List ℕ) (st : State) (at : ℕ) (r x : Gathered) (room : List ℕ) → r ≡ x → Chunk s st at r room → Chunk s st at x room
+pub chunk_as : (s : List ℕ) (st : State) (at : ℕ) (r x : Result Gathered Refusal) (room : List ℕ) → r ≡ x → Chunk s st at r room → Chunk s st at x room
 chunk_as s st at r x room e c = subst (λ y. Chunk s st at y room) e c
 
 module _ (s : List ℕ) (st₀ : State) (at₀ : ℕ) (room₀ : List ℕ) (st : State) (at n : ℕ) (room : List ℕ) (m : Moved s st₀ at₀ 0 room₀ st at n room) where
@@ -69,7 +67,7 @@ module _ (s : List ℕ) (st₀ : State) (at₀ : ℕ) (room₀ : List ℕ) (st :
     pub chunk_past : is_closed st.phase ≡ true → Chunk s st₀ at₀ (gathered_by (wrong_envelope at)) room
     chunk_past c = sym (filled (fault (wrong_envelope at)) (read_past enough s st at h left.enough c)).verdict
 
-    pub chunk_stop : is_closed st.phase ≡ false → (x : Refusal) → turn_at tables s st at ≡ Stop x → Chunk s st₀ at₀ (Faulty x) room
+    pub chunk_stop : is_closed st.phase ≡ false → (x : Refusal) → turn_at tables s st at ≡ Err x → Chunk s st₀ at₀ (Err x) room
     chunk_stop c x e =
         sym (filled (fault (refused x)) (read_on_lem enough s st at h left.enough c ∙ ap (after_turn (read_on (enough - 1) s)) e)).verdict
 
@@ -78,7 +76,7 @@ module _ (s : List ℕ) (st₀ : State) (at₀ : ℕ) (room₀ : List ℕ) (st :
     chunk_ended true c = (filled (record { rows = []; verdict = accepted }) (read_accepted enough s st at h g left.enough c), k)
     chunk_ended false c = sym (filled (fault (wrong_envelope (length s))) (read_stops enough s st at h g left.enough c)).verdict
 
-  pub chunk_full : at ≤ length s → n ≤ room_size → full_from ≤ n → Chunk s st₀ at₀ (Full st at n) room
+  pub chunk_full : at ≤ length s → n ≤ room_size → full_from ≤ n → Chunk s st₀ at₀ (Ok (Full (record { state = st; at = at; numbers = n }))) room
   chunk_full g k f =
       let p = m.paced in
       (filled (whole_from s st at) (fuel_same s enough (length s + 1) st at g left.enough (omega arith)), k, g, omega arith, f)

@@ -1,6 +1,6 @@
 -- How many segments a reading may still take does not matter, where they are enough.
 -- Assumes nothing.
-use Rattle.std.specs.Prelude.{◌≡◌, refl, Bool, true, false, List, ℕ, zero, suc, ◌+◌, ◌-◌, ◌≤◌, ◌<◌, length}
+use Rattle.std.specs.Prelude.{Result, Ok, Err, ◌≡◌, refl, Bool, true, false, List, ℕ, zero, suc, ◌+◌, ◌-◌, ◌≤◌, ◌<◌, length}
 use Rattle.std.proofs.Common.{sym, ap, ◌∙◌, arith, lt-ltb}
 use Rattle.std.proofs.Math.Decide.{dec_lt}
 use Rattle.laws.specs.Choice.{choose}
@@ -9,7 +9,6 @@ use Rattle.answers.specs.declared.Refusal.{Refusal}
 use Rattle.steps.specs.declared.state.State.{State}
 use Rattle.steps.specs.declared.state.Row.{Row}
 use Rattle.interchange.specs.declared.turn.Turn.{Turn}
-use Rattle.interchange.specs.declared.turn.Turn.TheVariants.{On, Stop}
 use Rattle.interchange.specs.Reader.{Outcome, before, is_closed, turn_at, after_turn, read_on}
 use Rattle.interchange.specs.Laws.{read_past, read_accepted, read_stops}
 use Rattle.interchange.specs.Offsets.{turn_on}
@@ -22,12 +21,12 @@ module _ (s : List ℕ) where
 
   -- after a turn that is the same, what follows is the same
   turn_same : (f g : ℕ) → ((st : State) (at : ℕ) → at ≤ length s → length s < at + f → length s < at + g → read_on f s st at ≡ read_on g s st at)
-      → (st : State) (at : ℕ) → length s < at + suc f → length s < at + suc g → (x : Turn) → turn_at tables s st at ≡ x
+      → (st : State) (at : ℕ) → length s < at + suc f → length s < at + suc g → (x : Result Turn Refusal) → turn_at tables s st at ≡ x
       → after_turn (read_on f s) x ≡ after_turn (read_on g s) x
-  turn_same f g h st at a b (On next r n) e =
-      let w = turn_on tables s st at next r n e in
-      ap (before r) (h next n w.2 (omega arith) (omega arith))
-  turn_same f g h st at a b (Stop x) e = refl
+  turn_same f g h st at a b (Ok t) e =
+      let w = turn_on tables s st at t.state t.row t.then e in
+      ap (before t.row) (h t.state t.then w.2 (omega arith) (omega arith))
+  turn_same f g h st at a b (Err x) e = refl
 
   pub fuel_same : (f g : ℕ) (st : State) (at : ℕ) → at ≤ length s → length s < at + f → length s < at + g → read_on f s st at ≡ read_on g s st at
   fuel_same zero g st at h a b = absurd (omega arith)

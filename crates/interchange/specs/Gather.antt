@@ -6,8 +6,7 @@ use Rattle.placing.specs.Tables.{tables}
 use Rattle.steps.specs.declared.state.State.{State}
 use Rattle.steps.specs.declared.state.Row.{Row}
 use Rattle.interchange.specs.declared.turn.Turn.{Turn}
-use Rattle.interchange.specs.declared.turn.Turn.TheVariants.{On}
-use Rattle.interchange.specs.Reader.{Outcome, before, is_closed, turn_at, after_turn, read_on, numbers}
+use Rattle.interchange.specs.Reader.{Outcome, before, is_closed, turn_at, after_turn, read_on, numbers, goes_on}
 use Rattle.interchange.specs.Laws.{read_on_lem, put_row, rows_step}
 
 -- what is left from a state and an offset on leads to the whole reading w, n numbers being gathered
@@ -25,7 +24,7 @@ module _ (s : List ℕ) (f : ℕ) (st : State) (at n : ℕ) (room : List ℕ) (w
   left_verdict o e = sym (ap (λ (x : Outcome). x.verdict) e) ∙ v.verdict
 
   pub left_step : at < length s → is_closed st.phase ≡ false → (next : State) (r : Row) (then : ℕ)
-      → turn_at tables s st at ≡ On next r then → at + 4 ≤ then → n + 2 < length room
+      → turn_at tables s st at ≡ goes_on next r then → at + 4 ≤ then → n + 2 < length room
       → Left s (f - 1) next then (n + 3) (put_row room n r) w
   left_step h c next r then e g k =
       let q = read_on_lem f s st at h v.enough c ∙ ap (after_turn (read_on (f - 1) s)) e in

@@ -9,7 +9,7 @@ use Rattle.laws.specs.Lists.{drop_here}
 use Rattle.laws.specs.Put.{put_at, put_step, put_none}
 use Rattle.answers.specs.Answers.{wrong_envelope}
 use Rattle.answers.specs.declared.Refusal.{Refusal}
-use Rattle.syntax.specs.declared.segment.Scanned.{Scanned}
+use Rattle.syntax.specs.declared.segment.ScanError.{ScanError}
 use Rattle.placing.specs.Tables.{tables}
 use Rattle.steps.specs.declared.state.Phase.{Phase}
 use Rattle.steps.specs.declared.state.State.{State}

@@ -5,8 +5,7 @@ use Rattle.std.proofs.Common.{sym, ap, ◌∙◌, arith}
 use Rattle.placing.specs.Tables.{tables}
 use Rattle.steps.specs.declared.state.State.{State}
 use Rattle.steps.specs.declared.state.Row.{Row}
-use Rattle.interchange.specs.declared.turn.Turn.TheVariants.{On}
-use Rattle.interchange.specs.Reader.{Outcome, is_closed, turn_at}
+use Rattle.interchange.specs.Reader.{Outcome, is_closed, turn_at, goes_on}
 use Rattle.interchange.specs.Laws.{put_row, length_put_row}
 use Rattle.interchange.specs.Offsets.{turn_on}
 use Rattle.interchange.specs.Gather.{Left, left_step}
@@ -35,7 +34,7 @@ moved_both s a b =
 
 -- by one turn, its row put behind those that stand
 pub moved_turn : (s : List ℕ) (st : State) (at n : ℕ) (room : List ℕ) (next : State) (r : Row) (then : ℕ) → is_closed st.phase ≡ false → at < length s
-    → turn_at tables s st at ≡ On next r then → n + 2 < length room → Moved s st at n room next then (n + 3) (put_row room n r)
+    → turn_at tables s st at ≡ goes_on next r then → n + 2 < length room → Moved s st at n room next then (n + 3) (put_row room n r)
 moved_turn s st at n room next r then c h e k =
     let p = turn_on tables s st at next r then e in
     record {

@@ -1,14 +1,14 @@
 -- A refusal of the reader has a part beside 10 alone, and there one of the six.
 -- Assumes nothing.
-use Rattle.std.specs.Prelude.{◌≡◌, Bool, true, List, ltb, length}
+use Rattle.std.specs.Prelude.{◌≡◌, Bool, true, List, ltb, length, Result, Ok, Err}
 use Rattle.std.proofs.Math.Path.{refl}
 use Rattle.std.proofs.Common.{subst}
 use Prim.Native.Nat.{ℕ, zero, suc, ◌+◌}
 use Rattle.laws.specs.Choice.{choose}
 use Rattle.answers.specs.declared.Refusal.{Refusal}
 use Rattle.answers.specs.Answers.{Answer, done, refused}
-use Rattle.syntax.specs.declared.segment.Scanned.{Scanned}
-use Rattle.syntax.specs.declared.segment.Scanned.TheVariants.{End, NotPermitted, Unended, Malformed}
+use Rattle.syntax.specs.declared.segment.ScanError.{ScanError}
+use Rattle.syntax.specs.declared.segment.ScanError.TheVariants.{NotPermitted, Unended, Malformed}
 use Rattle.syntax.specs.Segment.{body_at, segment_at}
 use Rattle.placing.specs.Tables.{tables}
 use Rattle.steps.specs.declared.state.State.{State}
@@ -23,13 +23,13 @@ module _ (s : List ℕ) where
     stepped next (done (taken st r)) p = more st next
     stepped next (refused x) p = p
 
-    scanned : (x : Scanned) → Parted (after_turn (read_on f s) (turn_scan tables s from at x)).verdict
-    scanned (End e) =
+    scanned : (x : Result ℕ ScanError) → Parted (after_turn (read_on f s) (turn_scan tables s from at x)).verdict
+    scanned (Ok e) =
         stepped (e + 1) (segment_step tables from at (body_at s at) (dialogue_of s from) (headed_reference s from))
         (step_parted tables from at (body_at s at) (dialogue_of s from) (headed_reference s from))
-    scanned (NotPermitted i) = refl
-    scanned Unended = refl
-    scanned Malformed = refl
+    scanned (Err (NotPermitted i)) = refl
+    scanned (Err Unended) = refl
+    scanned (Err Malformed) = refl
 
     turned : Parted (after_turn (read_on f s) (turn_at tables s from at)).verdict
     unfolding turn_at

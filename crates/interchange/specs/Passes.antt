@@ -1,10 +1,9 @@
 -- Some segments of a message, one after the other, and their rows in a room.
 -- Assumes nothing.
-use Rattle.std.specs.Prelude.{◌≡◌, List, [], ◌∷◌, ◌++◌, ℕ, suc, ◌+◌, ◌*◌, ◌≤◌, ◌<◌, length}
+use Rattle.std.specs.Prelude.{◌≡◌, List, [], ◌∷◌, ◌++◌, ℕ, suc, ◌+◌, ◌*◌, ◌≤◌, ◌<◌, length, Ok}
 use Rattle.std.proofs.Common.{sym, ap, ◌∙◌, arith, length-append}
 use Rattle.laws.specs.Put.{put_at, put_none, put_put, length_put}
 use Rattle.answers.specs.Answers.{done}
-use Rattle.syntax.specs.declared.segment.Scanned.TheVariants.{End}
 use Rattle.syntax.specs.Segment.{body_at, segment_at}
 use Rattle.syntax.specs.Ends.{end_within}
 use Rattle.placing.specs.Tables.{tables}
@@ -12,8 +11,7 @@ use Rattle.steps.specs.declared.state.Phase.TheVariants.{Inside}
 use Rattle.steps.specs.declared.state.State.{State}
 use Rattle.steps.specs.declared.state.Row.{Row}
 use Rattle.steps.specs.Step.{taken, segment_step}
-use Rattle.interchange.specs.declared.turn.Turn.TheVariants.{On}
-use Rattle.interchange.specs.Reader.{is_closed, dialogue_of, headed_reference, turn_step, turn_at, numbers, row_numbers}
+use Rattle.interchange.specs.Reader.{is_closed, dialogue_of, headed_reference, turn_step, turn_at, numbers, row_numbers, goes_on}
 use Rattle.interchange.specs.Laws.{put_row, length_put_row, put_row_is, numbers_append, length_numbers}
 use Rattle.interchange.specs.Turns.{turn_is}
 use Rattle.interchange.specs.Moves.{Moved, moved_none, moved_turn, moved_both}
@@ -25,7 +23,7 @@ row_with at group tag = record { offset = at; group = group; tag = tag }
 pub record Inner (s : List ℕ) (st : State) (at : ℕ) (next : State) (group tag e : ℕ) : Type 0 where
   pub from : st.phase ≡ Inside
   pub to : next.phase ≡ Inside
-  pub whole : segment_at s at ≡ End e
+  pub whole : segment_at s at ≡ Ok e
   pub step : (offset : ℕ) (dialogue reference : List ℕ) → segment_step tables st offset (body_at s at) dialogue reference ≡ done (taken next (row_with offset group tag))
 
 -- some of them, from a state and an offset to another state and offset, and their rows
@@ -95,9 +93,9 @@ passed_more s {n = n} {then = then} {k = k} {group = group} {tag = tag} {room = 
     }
 
 -- the turn of such a segment
-turn_inner : (s : List ℕ) {st next : State} {at group tag e : ℕ} → Inner s st at next group tag e → turn_at tables s st at ≡ On next (row_with at group tag) (e + 1)
+turn_inner : (s : List ℕ) {st next : State} {at group tag e : ℕ} → Inner s st at next group tag e → turn_at tables s st at ≡ goes_on next (row_with at group tag) (e + 1)
 turn_inner s {st = st} {at = at} {e = e} i =
-    sym (turn_is tables s st at (End e) i.whole)
+    sym (turn_is tables s st at (Ok e) i.whole)
     ∙ ap (turn_step (e + 1)) (i.step at (dialogue_of s st) (headed_reference s st))
 
 passes_moved : (s : List ℕ) {st last : State} {at end : ℕ} {rs : List Row} → Passes s st at rs last end → (n k : ℕ) (room put : List ℕ) → k ≡ n + 3 * length rs

@@ -1,12 +1,12 @@
 -- How an interchange is read, and what its first fault is (document 01, "What each number means").
 -- Assumes nothing.
-use Rattle.std.specs.Prelude.{ℕ, zero, suc, ◌+◌, ◌*◌, Bool, true, false, List, [], ◌∷◌, ◌++◌, eqb, ltb, length, drop}
+use Rattle.std.specs.Prelude.{Result, Ok, Err, ℕ, zero, suc, ◌+◌, ◌*◌, Bool, true, false, List, [], ◌∷◌, ◌++◌, eqb, ltb, length, drop}
 use Rattle.laws.specs.Choice.{pick, either}
 use Rattle.laws.specs.Put.{put_at}
 use Rattle.answers.specs.Answers.{Answer, done, refused, bad_size, wrong_envelope, output_too_short}
 use Rattle.answers.specs.declared.Refusal.{Refusal}
-use Rattle.syntax.specs.declared.segment.Scanned.{Scanned}
-use Rattle.syntax.specs.declared.segment.Scanned.TheVariants.{End, NotPermitted, Unended, Malformed}
+use Rattle.syntax.specs.declared.segment.ScanError.{ScanError}
+use Rattle.syntax.specs.declared.segment.ScanError.TheVariants.{NotPermitted, Unended, Malformed}
 use Rattle.syntax.specs.Segment.{body_at, segment_at, refusal_of}
 use Rattle.parts.specs.Places.{bytes_of}
 use Rattle.placing.specs.Tables.{tables}
@@ -17,9 +17,6 @@ use Rattle.steps.specs.declared.state.Row.{Row}
 use Rattle.steps.specs.State.{opening_state}
 use Rattle.placing.specs.Table.{Table}
 use Rattle.interchange.specs.declared.turn.Turn.{Turn}
-use Rattle.interchange.specs.declared.turn.Turn.TheVariants.{On, Stop}
-use Rattle.interchange.specs.declared.reader.Reading.{Reading}
-use Rattle.interchange.specs.declared.reader.Reading.TheVariants.{Rows, Refused}
 use Rattle.steps.specs.Step.{Taken, taken, segment_step}
 
 -- what a reading ends with: the interchange is accepted, or its first fault is named with its place
@@ -55,27 +52,28 @@ abbrev pub headed_reference : List ℕ → State → List ℕ
 headed_reference s st = bytes_of (drop st.headed_at s) st.reference
 
 -- "the first faulty segment from the left, in it 4, 5, 6", then its step: the state and the offset after it, and its row
-abbrev pub turn_step : ℕ → Answer Taken → Turn
-turn_step next (done (taken st r)) = On st r next
-turn_step next (refused refusal) = Stop refusal
+abbrev pub goes_on : State → Row → ℕ → Result Turn Refusal
+goes_on st r next = Ok (record { state = st; row = r; then = next })
+
+abbrev pub turn_step : ℕ → Answer Taken → Result Turn Refusal
+turn_step next (done (taken st r)) = goes_on st r next
+turn_step next (refused refusal) = Err refusal
 
 -- dialogue and reference are the UIB's and the UIH's as written
-abbrev pub turn_with : Table → List ℕ → List ℕ → List ℕ → State → ℕ → Scanned → Turn
-turn_with t s dialogue reference st at (End e) = turn_step (e + 1) (segment_step t st at (body_at s at) dialogue reference)
-turn_with t s dialogue reference st at (NotPermitted i) = Stop (refusal_of at (NotPermitted i))
-turn_with t s dialogue reference st at Unended = Stop (refusal_of at Unended)
-turn_with t s dialogue reference st at Malformed = Stop (refusal_of at Malformed)
+abbrev pub turn_with : Table → List ℕ → List ℕ → List ℕ → State → ℕ → Result ℕ ScanError → Result Turn Refusal
+turn_with t s dialogue reference st at (Ok e) = turn_step (e + 1) (segment_step t st at (body_at s at) dialogue reference)
+turn_with t s dialogue reference st at (Err error) = Err (refusal_of at error)
 
-abbrev pub turn_scan : Table → List ℕ → State → ℕ → Scanned → Turn
+abbrev pub turn_scan : Table → List ℕ → State → ℕ → Result ℕ ScanError → Result Turn Refusal
 turn_scan t s st at x = turn_with t s (dialogue_of s st) (headed_reference s st) st at x
 
-unfoldable pub turn_at : Table → List ℕ → State → ℕ → Turn
+unfoldable pub turn_at : Table → List ℕ → State → ℕ → Result Turn Refusal
 turn_at t s st at = turn_scan t s st at (segment_at s at)
 
 -- `more` reads on from a state and an offset
-abbrev pub after_turn : (State → ℕ → Outcome) → Turn → Outcome
-after_turn more (On st r next) = before r (more st next)
-after_turn more (Stop x) = fault (refused x)
+abbrev pub after_turn : (State → ℕ → Outcome) → Result Turn Refusal → Outcome
+after_turn more (Ok t) = before t.row (more t.state t.then)
+after_turn more (Err x) = fault (refused x)
 
 -- "Bytes after a good UIZ are 7 at the first of them and not tested further."
 -- "Input that stops between segments before UIZ is 7 at its length."
@@ -104,9 +102,9 @@ numbers [] = []
 numbers (r ∷ l) = row_numbers r ++ numbers l
 
 -- what each case answers: how many rows were written, or the refusal
-abbrev pub read_answer : Reading → Answer ℕ
-read_answer (Rows n) = done n
-read_answer (Refused x) = refused x
+abbrev pub read_answer : Result ℕ Refusal → Answer ℕ
+read_answer (Ok n) = done n
+read_answer (Err x) = refused x
 
 -- "17 last": the answer for a buffer of that room, and what the buffer holds then
 abbrev pub verdict_answer : List Row → ℕ → Verdict → Answer ℕ

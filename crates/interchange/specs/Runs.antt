@@ -1,15 +1,13 @@
 -- The segments of a message that only move its place on.
 -- Assumes nothing.
-use Rattle.std.specs.Prelude.{◌≡◌, refl, Bool, true, false, not, List, ℕ, ◌+◌, ◌-◌, ◌/◌, ◌≤◌, ◌<◌, T, eqb, ltb, leb, length, drop}
+use Rattle.std.specs.Prelude.{◌≡◌, refl, Bool, true, false, not, List, ℕ, ◌+◌, ◌-◌, ◌/◌, ◌≤◌, ◌<◌, T, eqb, ltb, leb, length, drop, Some, Result, Ok, Err}
 use Rattle.std.proofs.Math.Path.{sym, ap}
 use Rattle.std.proofs.Common.{◌∙◌, subst, arith, ne_eqb, lt-ltb, le-ltb, ltb-true, ltb-false, leb-true, leb-false}
 use Rattle.laws.specs.Choice.{pick, both, either, both_left, both_right, choose, false≢true}
 use Rattle.laws.specs.Sweep.{below, at}
-use Rattle.syntax.specs.declared.segment.Scanned.TheVariants.{End}
 use Rattle.syntax.specs.Segment.{tag_number, body_at, segment_at}
 use Rattle.syntax.specs.Ends.{end_tag}
 use Rattle.placing.specs.declared.Place.{Place}
-use Rattle.placing.specs.declared.Stepped.TheVariants.{Placed}
 use Rattle.messages.specs.declared.MessageType.{MessageType}
 use Rattle.messages.specs.declared.MessageType.TheVariants.{Skdupd, Tsdupd, Tsdupd12B}
 use Rattle.messages.specs.Tags.{UIT}
@@ -31,8 +29,6 @@ use Rattle.hints.specs.Told.{right}
 use Rattle.hints.proofs.Laws.{own_right}
 use Rattle.hints.specs.Packing.{place_of}
 use Rattle.hints.proofs.Onward.{Onward}
-use Rattle.period.specs.declared.Period.{Period}
-use Rattle.period.specs.declared.Period.TheVariants as period
 use Rattle.period.specs.Period.{is_good, period_of}
 use Rattle.steps.specs.declared.state.Phase.{Phase}
 use Rattle.steps.specs.declared.state.Phase.TheVariants.{Opening, Between, Inside, Closed}
@@ -45,6 +41,8 @@ use Rattle.interchange.specs.Heads.{capital_tag}
 use Rattle.interchange.specs.Laws.{put_row}
 use Rattle.steps.specs.Ways.{inside_placed}
 use Rattle.interchange.specs.Passes.{row_with, Inner, Passed, passed_none, passed_more, passed_as}
+use Rattle.period.specs.declared.Period.{Period}
+use Rattle.period.specs.declared.Fault.{Fault}
 
 abbrev pub is_inside : Phase → Bool
 is_inside Opening = false
@@ -63,9 +61,9 @@ abbrev pub good_part : Bool → MessageType → ℕ → ℕ → List ℕ → Boo
 good_part wish message tag group g = pick (is_period message tag group) (is_good (period_of wish g)) true
 
 module _ (st : State) (at : ℕ) (g reference : List ℕ) (p : Place) (group : ℕ) where
-  judged_good : (x : Period) → is_good x ≡ true → judged st at g p group x ≡ done (taken (onward_state st p) (row_of at g group))
-  judged_good (period.Good first days form) q = refl
-  judged_good (period.Wrong x) q = absurd (false≢true q)
+  judged_good : (x : Result Period Fault) → is_good x ≡ true → judged st at g p group x ≡ done (taken (onward_state st p) (row_of at g group))
+  judged_good (Ok v) q = refl
+  judged_good (Err x) q = absurd (false≢true q)
 
   placed_good : (tag_number g ≡ UIT → ⊥) → good_part st.wish st.message (tag_number g) group g ≡ true → placed st at g reference group p ≡ done (taken (onward_state st p) (row_of at g group))
   unfolding placed
@@ -73,14 +71,14 @@ module _ (st : State) (at : ℕ) (g reference : List ℕ) (p : Place) (group : �
       rw (ne_eqb (tag_number g) UIT h)
       (choose (is_period st.message (tag_number g) group) (λ e. rw e (judged_good (period_of st.wish g) (rw e at q))) (λ e. rw e))
 
-module _ (s : List ℕ) (st : State) (at e : ℕ) (h : segment_at s at ≡ End e) (i : st.phase ≡ Inside) (p : Place) where
+module _ (s : List ℕ) (st : State) (at e : ℕ) (h : segment_at s at ≡ Ok e) (i : st.phase ≡ Inside) (p : Place) where
   abbrev body : List ℕ
   body = body_at s at
 
   abbrev table : Table
   table = table_of st.message
 
-  step_inside : (offset : ℕ) (dialogue reference : List ℕ) → step_of table st.place (tag_number body) ≡ Placed p → (tag_number body ≡ UIT → ⊥)
+  step_inside : (offset : ℕ) (dialogue reference : List ℕ) → step_of table st.place (tag_number body) ≡ Some p → (tag_number body ≡ UIT → ⊥)
       → good_part st.wish st.message (tag_number body) (group_of table p) body ≡ true
       → segment_step tables st offset body dialogue reference ≡ done (taken (onward_state st p) (row_of offset body (group_of table p)))
   unfolding step_by
@@ -89,7 +87,7 @@ module _ (s : List ℕ) (st : State) (at e : ℕ) (h : segment_at s at ≡ End e
       ∙ sym (inside_placed st offset body table reference p x)
       ∙ placed_good st offset body reference p (group_of table p) u q
 
-  inner_is : step_of table st.place (tag_number body) ≡ Placed p → (tag_number body ≡ UIT → ⊥)
+  inner_is : step_of table st.place (tag_number body) ≡ Some p → (tag_number body ≡ UIT → ⊥)
       → good_part st.wish st.message (tag_number body) (group_of table p) body ≡ true
       → Inner s st at (onward_state st p) (group_of table p) (tag_number body) e
   inner_is x u q = record { from = i; to = refl; whole = h; step = λ offset dialogue reference. step_inside offset dialogue reference x u q }
@@ -236,8 +234,8 @@ onward_capitals message t e row n tag to m o =
 -- one segment more of the message, its row put behind those that stand
 module _ (s : List ℕ) (from : State) (start n₀ : ℕ) (room₀ : List ℕ) (st : State) (i : st.phase ≡ Inside) where
   pub passed_inside : (p : Place) (k at n : ℕ) (room : List ℕ) → Passed s from start n₀ room₀ (moved_state st p k) at n room
-      → (e : ℕ) → segment_at s at ≡ End e → (t : Table) → t ≡ table_of st.message
-      → (tag : ℕ) → tag ≡ tag_number (drop at s) → (tag ≡ UIT → ⊥) → (q : Place) → step_of t p tag ≡ Placed q
+      → (e : ℕ) → segment_at s at ≡ Ok e → (t : Table) → t ≡ table_of st.message
+      → (tag : ℕ) → tag ≡ tag_number (drop at s) → (tag ≡ UIT → ⊥) → (q : Place) → step_of t p tag ≡ Some q
       → (group : ℕ) → group ≡ group_of t q → good_part st.wish st.message tag group (body_at s at) ≡ true
       → n + 2 < length room → (put : List ℕ) → put ≡ put_row room n (record { offset = at; group = group; tag = tag })
       → Passed s from start n₀ room₀ (moved_state st q (one_more k)) (e + 1) (n + 3) put
@@ -248,7 +246,7 @@ module _ (s : List ℕ) (from : State) (start n₀ : ℕ) (room₀ : List ℕ) (
 
   -- the same by a place in two numbers, which a hint moves on
   pub passed_told : (t : Table) → t ≡ table_of st.message → (row counts k at n : ℕ) (room : List ℕ) → Passed s from start n₀ room₀ (moved_state st (place_of row counts) k) at n room
-      → (e : ℕ) → segment_at s at ≡ End e → (tag : ℕ) → tag ≡ tag_number (drop at s) → (to next : ℕ) → Onward t row counts tag to next
+      → (e : ℕ) → segment_at s at ≡ Ok e → (tag : ℕ) → tag ≡ tag_number (drop at s) → (to next : ℕ) → Onward t row counts tag to next
       → (period : ℕ) → period ≡ period_row st.message → pick (eqb to period) (is_good (period_of st.wish (body_at s at))) true ≡ true
       → (group : ℕ) → group ≡ group_at t to
       → n + 2 < length room → (put : List ℕ) → put ≡ put_row room n (record { offset = at; group = group; tag = tag })

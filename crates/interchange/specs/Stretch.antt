@@ -1,7 +1,7 @@
 -- The whole segments at the front of some bytes that are read in one phase; the last of them may change it. So one reference is needed at most: the dialogue's between
 -- messages, the message's inside one.
 -- Assumes nothing.
-use Rattle.std.specs.Prelude.{ℕ, zero, suc, ◌+◌, Bool, true, false, List, [], ◌∷◌, eqb, ltb, length}
+use Rattle.std.specs.Prelude.{Result, Ok, Err, Option, Some, None, ℕ, zero, suc, ◌+◌, Bool, true, false, List, [], ◌∷◌, eqb, ltb, length}
 use Rattle.answers.specs.Answers.{refused}
 use Rattle.laws.specs.Choice.{pick, both}
 use Rattle.syntax.specs.Segment.{body_at, segment_at}
@@ -10,10 +10,8 @@ use Rattle.steps.specs.declared.state.Phase.{Phase}
 use Rattle.steps.specs.declared.state.Phase.TheVariants.{Opening, Between, Inside, Closed}
 use Rattle.steps.specs.declared.state.State.{State}
 use Rattle.steps.specs.declared.state.Row.{Row}
-use Rattle.interchange.specs.declared.stretch.Halt.{Halt}
-use Rattle.interchange.specs.declared.stretch.Halt.TheVariants.{Sound, Faulty}
+use Rattle.answers.specs.declared.Refusal.{Refusal}
 use Rattle.interchange.specs.declared.turn.Turn.{Turn}
-use Rattle.interchange.specs.declared.turn.Turn.TheVariants.{On, Stop}
 use Rattle.interchange.specs.Reader.{Verdict, accepted, turn_with}
 use Rattle.interchange.specs.Room.{room_size, room_rows}
 
@@ -54,9 +52,9 @@ abbrev pub is_ended : List ℕ → ℕ → Bool
 is_ended s at = ltb (at + length (body_at s at)) (length s)
 
 -- `more` reads on from a state and an offset
-abbrev pub stretch_turn : (State → ℕ → Stretched) → State → ℕ → Turn → Stretched
-stretch_turn more st at (On next r then) = ahead r (pick (same_phase st.phase next.phase) (more next then) (halted next then accepted))
-stretch_turn more st at (Stop x) = halted st at (refused x)
+abbrev pub stretch_turn : (State → ℕ → Stretched) → State → ℕ → Result Turn Refusal → Stretched
+stretch_turn more st at (Ok t) = ahead t.row (pick (same_phase st.phase t.state.phase) (more t.state t.then) (halted t.state t.then accepted))
+stretch_turn more st at (Err x) = halted st at (refused x)
 
 -- the segments from an offset on, n at most
 unfoldable pub stretch_on : ℕ → List ℕ → List ℕ → State → ℕ → Stretched
@@ -71,6 +69,6 @@ unfoldable pub stretch_of : List ℕ → List ℕ → State → ℕ → Stretche
 stretch_of s reference st room = stretch_on (pick (both (eqb room room_size) (ltb (length s) 60001)) room_rows 0) s reference st 0
 
 -- whether the next segment has a fault, by value
-abbrev pub halt_verdict : Halt → Verdict
-halt_verdict Sound = accepted
-halt_verdict (Faulty x) = refused x
+abbrev pub halt_verdict : Option Refusal → Verdict
+halt_verdict None = accepted
+halt_verdict (Some x) = refused x

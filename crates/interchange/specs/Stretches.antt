@@ -1,13 +1,12 @@
 -- What is left of a stretch while its rows are gathered.
 -- Assumes nothing.
-use Rattle.std.specs.Prelude.{◌≡◌, refl, Bool, true, false, List, [], ◌∷◌, ◌++◌, ℕ, suc, ◌+◌, ◌-◌, ◌*◌, ◌≤◌, ◌<◌, eqb, ltb, length, drop}
+use Rattle.std.specs.Prelude.{◌≡◌, refl, Bool, true, false, List, [], ◌∷◌, ◌++◌, ℕ, suc, ◌+◌, ◌-◌, ◌*◌, ◌≤◌, ◌<◌, eqb, ltb, length, drop, Result, Err, Ok}
 use Rattle.std.proofs.Common.{sym, ◌∙◌, subst, append_assoc, append-nil, arith, length-append, length-drop, eq-eqb, ne_eqb, lt-ltb, le-ltb}
 use Rattle.std.proofs.Math.Path.{ap}
 use Rattle.answers.specs.Answers.{refused}
 use Rattle.laws.specs.Choice.{pick, both, both_false, choose}
 use Rattle.laws.specs.Put.{put_at, put_none, put_put, length_put}
 use Rattle.answers.specs.declared.Refusal.{Refusal}
-use Rattle.syntax.specs.declared.segment.Scanned.TheVariants.{End}
 use Rattle.syntax.specs.Segment.{body_at, segment_at}
 use Rattle.syntax.specs.Ends.{ended}
 use Rattle.syntax.specs.Pieces.{first_piece}
@@ -17,38 +16,12 @@ use Rattle.steps.specs.declared.state.Phase.TheVariants.{Opening, Between, Insid
 use Rattle.steps.specs.declared.state.State.{State}
 use Rattle.steps.specs.declared.state.Row.{Row}
 use Rattle.interchange.specs.declared.turn.Turn.{Turn}
-use Rattle.interchange.specs.declared.turn.Turn.TheVariants.{On, Stop}
-use Rattle.interchange.specs.Reader.{Verdict, accepted, turn_step, turn_with, numbers}
+use Rattle.interchange.specs.Reader.{Verdict, accepted, turn_step, turn_with, numbers, goes_on}
 use Rattle.interchange.specs.Room.{room_size, room_rows, full_from}
 use Rattle.interchange.specs.Laws.{put_row, numbers_append, length_numbers}
 use Rattle.interchange.specs.Offsets.{with_end}
 use Rattle.interchange.specs.Passes.{row_with, Passes, none, more, Passed, put_row_behind}
 use Rattle.interchange.specs.Stretch.{same_phase, Stretched, halted, ahead, is_ended, stretch_turn, stretch_on, stretch_of}
-
--- a number for each phase
-abbrev pub phase_number : Phase → ℕ
-phase_number Opening = 0
-phase_number Between = 1
-phase_number Inside = 2
-phase_number Closed = 3
-
-pub same_number : (a b : Phase) → eqb (phase_number a) (phase_number b) ≡ same_phase a b
-same_number Opening Opening = refl
-same_number Opening Between = refl
-same_number Opening Inside = refl
-same_number Opening Closed = refl
-same_number Between Opening = refl
-same_number Between Between = refl
-same_number Between Inside = refl
-same_number Between Closed = refl
-same_number Inside Opening = refl
-same_number Inside Between = refl
-same_number Inside Inside = refl
-same_number Inside Closed = refl
-same_number Closed Opening = refl
-same_number Closed Between = refl
-same_number Closed Inside = refl
-same_number Closed Closed = refl
 
 same_inside : (a b : Phase) → a ≡ Inside → b ≡ Inside → same_phase a b ≡ true
 same_inside a b e f = rw (e, f)
@@ -64,7 +37,7 @@ aheads_both : (k l : List Row) (x : Stretched) → aheads k (aheads l x) ≡ ahe
 aheads_both k l x = ap (λ (m : List Row). record { state = x.state; at = x.at; rows = m; verdict = x.verdict }) (sym (append_assoc k l x.rows))
 
 -- a terminator stands behind a whole segment
-ended_whole : (s : List ℕ) (at e : ℕ) → segment_at s at ≡ End e → is_ended s at ≡ true
+ended_whole : (s : List ℕ) (at e : ℕ) → segment_at s at ≡ Ok e → is_ended s at ≡ true
 ended_whole s at e h =
     let w = ended s at e h in
     let p = w.place in
@@ -91,10 +64,10 @@ module _ (s reference : List ℕ) where
   stretch_none k st at e = rw e
 
   module _ (k : ℕ) (st : State) (at : ℕ) where
-    abbrev turn : Turn
+    abbrev turn : Result Turn Refusal
     turn = turn_with tables s reference reference st at (segment_at s at)
 
-    stretch_on_lem : (next : State) (r : Row) (then : ℕ) → turn ≡ On next r then
+    stretch_on_lem : (next : State) (r : Row) (then : ℕ) → turn ≡ goes_on next r then
         → stretch_on (suc k) s reference st at ≡ ahead r (pick (same_phase st.phase next.phase) (stretch_on k s reference next then) (halted next then accepted))
     unfolding stretch_on
     stretch_on_lem next r then q =
@@ -102,22 +75,22 @@ module _ (s reference : List ℕ) where
         ap (λ (b : Bool). pick b (stretch_turn (stretch_on k s reference) st at turn) (halted st at accepted)) (ended_whole s at w.0 w.1)
         ∙ ap (stretch_turn (stretch_on k s reference) st at) q
 
-    stretch_same : (next : State) (r : Row) (then : ℕ) → turn ≡ On next r then → same_phase st.phase next.phase ≡ true
+    stretch_same : (next : State) (r : Row) (then : ℕ) → turn ≡ goes_on next r then → same_phase st.phase next.phase ≡ true
         → stretch_on (suc k) s reference st at ≡ ahead r (stretch_on k s reference next then)
     stretch_same next r then q p =
         stretch_on_lem next r then q
         ∙ ap (λ (b : Bool). ahead r (pick b (stretch_on k s reference next then) (halted next then accepted))) p
 
-    stretch_other : (next : State) (r : Row) (then : ℕ) → turn ≡ On next r then → same_phase st.phase next.phase ≡ false
+    stretch_other : (next : State) (r : Row) (then : ℕ) → turn ≡ goes_on next r then → same_phase st.phase next.phase ≡ false
         → stretch_on (suc k) s reference st at ≡ ahead r (halted next then accepted)
     stretch_other next r then q p =
         stretch_on_lem next r then q
         ∙ ap (λ (b : Bool). ahead r (pick b (stretch_on k s reference next then) (halted next then accepted))) p
 
-    stretch_stop : (x : Refusal) → turn ≡ Stop x → stretch_on (suc k) s reference st at ≡ halted st at (pick (is_ended s at) (refused x) accepted)
+    stretch_stop : (x : Refusal) → turn ≡ Err x → stretch_on (suc k) s reference st at ≡ halted st at (pick (is_ended s at) (refused x) accepted)
     unfolding stretch_on
     stretch_stop x q =
-        ap (λ (y : Turn). pick (is_ended s at) (stretch_turn (stretch_on k s reference) st at y) (halted st at accepted)) q
+        ap (λ (y : Result Turn Refusal). pick (is_ended s at) (stretch_turn (stretch_on k s reference) st at y) (halted st at accepted)) q
         ∙ choose (is_ended s at) (λ e. rw e) (λ e. rw e)
 
   -- the segments of a message
@@ -215,12 +188,12 @@ module _ (s reference : List ℕ) (w : Stretched) (lent : List ℕ) (size : leng
     abbrev again : (x : Stretched) → stretch_on (suc (v.free - 1)) s reference st at ≡ x → aheads v.rows x ≡ w
     again x e = ap (aheads v.rows) (sym (ap (λ (j : ℕ). stretch_on j s reference st at) one_more ∙ e)) ∙ v.whole
 
-    pub rest_stop : (x : Refusal) → turn_with tables s reference reference st at (segment_at s at) ≡ Stop x → Reached w lent st at n (pick (is_ended s at) (refused x) accepted) room
+    pub rest_stop : (x : Refusal) → turn_with tables s reference reference st at (segment_at s at) ≡ Err x → Reached w lent st at n (pick (is_ended s at) (refused x) accepted) room
     rest_stop x q =
         reached w lent v.rows st at n (pick (is_ended s at) (refused x) accepted) room
         (again (halted st at (pick (is_ended s at) (refused x) accepted)) (stretch_stop s reference (v.free - 1) st at x q)) v.count v.put
 
-    module _ (next : State) (r : Row) (then : ℕ) (q : turn_with tables s reference reference st at (segment_at s at) ≡ On next r then) (put : List ℕ) (b : put ≡ put_row room n r) where
+    module _ (next : State) (r : Row) (then : ℕ) (q : turn_with tables s reference reference st at (segment_at s at) ≡ goes_on next r then) (put : List ℕ) (b : put ≡ put_row room n r) where
       put_behind : put ≡ put_at lent 0 (numbers (v.rows ++ (r ∷ [])))
       put_behind =
           let c = v.count in

@@ -1,9 +1,9 @@
 -- One turn of the reading.
 -- Assumes nothing.
-use Rattle.std.specs.Prelude.{◌≡◌, List, [], ℕ, ◌-◌, ◌<◌, length, drop}
+use Rattle.std.specs.Prelude.{◌≡◌, List, [], ℕ, ◌-◌, ◌<◌, length, drop, Result}
 use Rattle.std.proofs.Common.{sym, ap, ◌∙◌, arith}
 use Rattle.laws.specs.Lists.{between_past, drop_past}
-use Rattle.syntax.specs.declared.segment.Scanned.{Scanned}
+use Rattle.syntax.specs.declared.segment.ScanError.{ScanError}
 use Rattle.syntax.specs.Segment.{segment_at}
 use Rattle.parts.specs.declared.Part.{Part}
 use Rattle.parts.specs.Places.{bytes_of}
@@ -16,11 +16,11 @@ pub lent_past : (s : List ℕ) (at : ℕ) (p : Part) → length s < at → [] �
 lent_past s at p h = sym (ap (λ (x : List ℕ). bytes_of x p) (drop_past s at (omega arith)) ∙ between_past {A = ℕ} [] p.from p.to (omega arith))
 
 -- by what the scan found
-pub turn_is : (t : Table) (s : List ℕ) (st : State) (at : ℕ) (x : Scanned) → segment_at s at ≡ x → turn_scan t s st at x ≡ turn_at t s st at
+pub turn_is : (t : Table) (s : List ℕ) (st : State) (at : ℕ) (x : Result ℕ ScanError) → segment_at s at ≡ x → turn_scan t s st at x ≡ turn_at t s st at
 unfolding turn_at
 turn_is t s st at x e = ap (turn_scan t s st at) (sym e)
 
-pub with_is : (t : Table) (s d r : List ℕ) (st : State) (at : ℕ) (x : Scanned) → segment_at s at ≡ x → turn_with t s d r st at x ≡ turn_with t s d r st at (segment_at s at)
+pub with_is : (t : Table) (s d r : List ℕ) (st : State) (at : ℕ) (x : Result ℕ ScanError) → segment_at s at ≡ x → turn_with t s d r st at x ≡ turn_with t s d r st at (segment_at s at)
 with_is t s d r st at x e = ap (turn_with t s d r st at) (sym e)
 
 -- with its own references lent it is the turn

@@ -14,8 +14,8 @@ use crate::led::PeriodRow;
 use crate::rows::put_row;
 use crate::run::{FULL, Ran, run, stay};
 use crate::standing::{Standing, is_closed, is_inside};
-use crate::turn::{Turn, take_turn};
-use answers::Refusal;
+use crate::turn::take_turn;
+use answers::{Reason, Refusal};
 use hints::tables::hints_of;
 use messages::MessageType;
 use segment_tables::{table_of, tsdupd_12b};
@@ -26,28 +26,23 @@ const PERIOD: usize = 22;
 
 const NO_PERIOD: usize = 104;
 
-/// What is gathered of a reading.
+/// What is gathered of a reading without a fault.
 #[derive(Clone, Copy)]
 pub(crate) enum Gathered {
     /// All its rows: how many numbers they are.
     Numbers(usize),
-    /// The room is full: the state and the offset from which the rest is to be read, and how many numbers are gathered.
-    Full(State, usize, usize),
-    Faulty(Refusal),
+    /// The room is full: where the rest is to be read from, and how many numbers are gathered.
+    Full(Standing),
 }
 
 // The input is at its end.
-fn ended(phase: Phase, numbers: usize, size: usize) -> Gathered
+fn ended(phase: Phase, numbers: usize, size: usize) -> Result<Gathered, Refusal>
     ensures { result ≡ ended_at (is_closed phase) numbers size }
 {
     if is_closed(phase) {
-        return Gathered::Numbers(numbers);
+        return Ok(Gathered::Numbers(numbers));
     }
-    Gathered::Faulty(Refusal {
-        number: 7,
-        position: size,
-        part: 0,
-    })
+    Err(Reason::WrongEnvelope.at(size))
 }
 
 /// Where a message stands, its segments that only move its place on; elsewhere none.
@@ -96,14 +91,10 @@ pub(crate) fn run_on(
 }
 
 // A segment past the UIZ.
-fn past_end(at: usize) -> Gathered
+fn past_end(at: usize) -> Result<Gathered, Refusal>
     ensures { result ≡ gathered_by (wrong_envelope at) }
 {
-    Gathered::Faulty(Refusal {
-        number: 7,
-        position: at,
-        part: 0,
-    })
+    Err(Reason::WrongEnvelope.at(at))
 }
 
 /// The segments one after the other, their rows into a room of the reader's own, until it is full.
@@ -114,7 +105,7 @@ pub(crate) fn gather(
     tables: &[[u32; 8]],
     hints: &[[u16; 16]],
     room: &mut [u32],
-) -> Gathered
+) -> Result<Gathered, Refusal>
     requires { (tables.now ≡ placing.tables) × (hints.now ≡ hinting.hints) × (length s.now ≤ 60000) × (length room.old ≡ room_size) × (from ≤ length s.now) }
     ensures { Chunk s.now start from result room.new × (length room.new ≡ room_size) }
 {
@@ -135,23 +126,21 @@ pub(crate) fn gather(
         if is_closed(phase) {
             return past_end(at);
         }
-        match take_turn(s, st, at, tables) {
-            Turn::On(next, row, then) => {
-                put_row(room, numbers, at as u32, row);
-                let after = Standing {
-                    state: next,
-                    at: then,
-                    numbers: numbers + 3,
-                };
-                let ran = run_on(s, after, tables, hints, room);
-                st = ran.led(next);
-                at = ran.at;
-                numbers = ran.numbers;
-            }
-            Turn::Stop(refusal) => {
-                return Gathered::Faulty(refusal);
-            }
-        }
+        let turn = take_turn(s, st, at, tables)?;
+        put_row(room, numbers, at as u32, turn.row);
+        let after = Standing {
+            state: turn.state,
+            at: turn.then,
+            numbers: numbers + 3,
+        };
+        let ran = run_on(s, after, tables, hints, room);
+        st = ran.led(turn.state);
+        at = ran.at;
+        numbers = ran.numbers;
     }
-    Gathered::Full(st, at, numbers)
+    Ok(Gathered::Full(Standing {
+        state: st,
+        at,
+        numbers,
+    }))
 }

@@ -1,15 +1,13 @@
 //! What a segment begins with, its tag and the byte behind it, and where it ends.
 
-ghost use Rattle.std.specs.Prelude.{◌≡◌, true, ℕ, ◌+◌, ◌/◌, ◌≤◌, length};
-ghost use Rattle.syntax.specs.declared.segment.Scanned.TheVariants.{End};
-ghost use Rattle.syntax.specs.declared.segment.Quick.TheVariants.{Ends};
+ghost use Rattle.std.specs.Prelude.{◌≡◌, true, Some, Ok, ℕ, ◌+◌, ◌/◌, ◌≤◌, length};
 ghost use Rattle.laws.specs.Choice.{pick};
 ghost use Rattle.syntax.specs.Segment.{body_at, segment_at};
 ghost use Rattle.period.specs.Period.{is_good, period_of};
 ghost use Rattle.interchange.specs.Heads.{four_at, head_at, Bytes, capitals};
 
-use period::{Pop, pop_at};
-use syntax::segment::{Quick, quick_end};
+use period::pop_at;
+use syntax::segment::quick_end;
 
 fn wide(b: u8) -> u32
     ensures { result ≡ b }
@@ -41,20 +39,25 @@ pub(crate) fn head_at(s: &[u8], at: usize) -> u32
 }
 
 // The end of a good POP.
-fn pop_end(s: &[u8], at: usize, wish: bool) -> Quick
-    ensures { (e : ℕ) → result ≡ Ends e → (segment_at s.now at ≡ End e) × (is_good (period_of wish (body_at s.now at)) ≡ true) }
+fn pop_end(s: &[u8], at: usize, wish: bool) -> Option<usize>
+    ensures { (e : ℕ) → result ≡ Some e → (segment_at s.now at ≡ Ok e) × (is_good (period_of wish (body_at s.now at)) ≡ true) }
 {
-    match pop_at(s, at, wish) {
-        Pop::Whole(end, _, _, _) => Quick::Ends(end),
-        Pop::Other => Quick::Unsure,
-    }
+    let pop = pop_at(s, at, wish)?;
+    Some(pop.end)
 }
 
 /// The end of a segment with a given tag and a mark behind it, where it is small, or a good POP where it is read as one. The tag and the mark
 /// take one test.
-pub(crate) fn end_at(s: &[u8], at: usize, head: u32, tag: u32, read: bool, wish: bool) -> Quick
+pub(crate) fn end_at(
+    s: &[u8],
+    at: usize,
+    head: u32,
+    tag: u32,
+    read: bool,
+    wish: bool,
+) -> Option<usize>
     requires { (at + 4 ≤ length s.now) × Bytes s.now at × (head ≡ head_at s.now at) × (head / 256 ≡ tag → capitals s.now at ≡ true) }
-    ensures { (e : ℕ) → result ≡ Ends e → (segment_at s.now at ≡ End e) × (head / 256 ≡ tag) × (pick read (is_good (period_of wish (body_at s.now at))) true ≡ true) }
+    ensures { (e : ℕ) → result ≡ Some e → (segment_at s.now at ≡ Ok e) × (head / 256 ≡ tag) × (pick read (is_good (period_of wish (body_at s.now at))) true ≡ true) }
 {
     let wanted = tag as u64 * 256;
     let found = head as u64;
@@ -65,10 +68,10 @@ pub(crate) fn end_at(s: &[u8], at: usize, head: u32, tag: u32, read: bool, wish:
         return quick_end(s, at);
     }
     if read {
-        return Quick::Unsure;
+        return None;
     }
     if found == wanted + 39 {
-        return Quick::Ends(at + 3);
+        return Some(at + 3);
     }
-    Quick::Unsure
+    None
 }

@@ -1,46 +1,35 @@
 //! A place in two numbers: its row, and the counts of all its levels in one. A hint moves it on in a few instructions.
 
-ghost use Rattle.std.specs.Prelude.{◌≡◌, true, false, ◌<◌, T, length};
+ghost use Rattle.std.specs.Prelude.{◌≡◌, ◌<◌, T, length, IfSome};
 ghost use Rattle.hints.specs.Told.{right};
 ghost use Rattle.hints.specs.Laws.{Stood};
 ghost use Rattle.hints.specs.Packing.{place_of};
 ghost use Rattle.interchange.specs.Packs.{narrow, Packs, Leads};
 
 use hints::{bound_of, kept_mask, more_of, slot_of};
-use placing::{Place, entry};
+use placing::{LEVEL, Place, entry};
 
-/// A packed place. Where it is not told there is none.
+/// A packed place.
 #[derive(Clone, Copy)]
 pub(crate) struct Packed {
-    pub told: bool,
     pub row: usize,
     pub counts: u64,
 }
 
-// The level's column of a table.
-const LEVEL: usize = 5;
-
-fn untold() -> Packed
-    ensures { result.told ≡ false }
-{
-    Packed {
-        told: false,
-        row: 0,
-        counts: 0,
-    }
-}
-
-/// The place of a row and counts.
-pub(crate) fn unpack(row: usize, counts: u64) -> Place
-    ensures { result ≡ place_of row counts }
-{
-    Place {
-        row,
-        c0: (counts % 16384) as u32,
-        c1: ((counts >> 14) % 16384) as u32,
-        c2: ((counts >> 28) % 16384) as u32,
-        c3: ((counts >> 42) % 16384) as u32,
-        c4: (counts >> 56) as u32,
+impl Packed {
+    /// The place of its row and counts.
+    pub(crate) fn unpack(self) -> Place
+        ensures { result ≡ place_of self.row self.counts }
+    {
+        let counts = self.counts;
+        Place {
+            row: self.row,
+            c0: (counts % 16384) as u32,
+            c1: ((counts >> 14) % 16384) as u32,
+            c2: ((counts >> 28) % 16384) as u32,
+            c3: ((counts >> 42) % 16384) as u32,
+            c4: (counts >> 56) as u32,
+        }
     }
 }
 
@@ -48,35 +37,23 @@ pub(crate) fn unpack(row: usize, counts: u64) -> Place
 fn is_narrow(place: Place) -> bool
     ensures { result ≡ narrow place }
 {
-    if 16384 <= place.c0 {
-        return false;
-    }
-    if 16384 <= place.c1 {
-        return false;
-    }
-    if 16384 <= place.c2 {
-        return false;
-    }
-    if 16384 <= place.c3 {
-        return false;
-    }
-    place.c4 < 256
+    place.c0 < 16384 && place.c1 < 16384 && place.c2 < 16384 && place.c3 < 16384 && place.c4 < 256
 }
 
 /// A place of a table that has room and that has itself come.
-pub(crate) fn pack(place: Place, table: &[[u32; 8]]) -> Packed
-    ensures { result.told ≡ true → Packs table.now place result.row result.counts }
+pub(crate) fn pack(place: Place, table: &[[u32; 8]]) -> Option<Packed>
+    ensures { IfSome result (λ packed. Packs table.now place packed.row packed.counts) }
 {
     let row = place.row;
     let level = entry(table, row, LEVEL);
     if table.len() <= row {
-        return untold();
+        return None;
     }
     if 4 < level {
-        return untold();
+        return None;
     }
     if !is_narrow(place) {
-        return untold();
+        return None;
     }
     let counts = place.c0 as u64
         + place.c1 as u64 * 0x4000
@@ -84,36 +61,30 @@ pub(crate) fn pack(place: Place, table: &[[u32; 8]]) -> Packed
         + place.c3 as u64 * 0x400_0000_0000
         + place.c4 as u64 * 0x100_0000_0000_0000;
     if (counts >> (14 * level)) % 16384 == 0 {
-        return untold();
+        return None;
     }
-    Packed {
-        told: true,
-        row,
-        counts,
-    }
+    Some(Packed { row, counts })
 }
 
 /// The place to which the hint for a tag leads, where there is room for it there. Whether the tag is the one of that row is not tested.
 pub(crate) fn next_place(
     table: &[[u32; 8]],
     hints: &[[u16; 16]],
-    row: usize,
-    counts: u64,
+    place: Packed,
     tag: u32,
-) -> Packed
-    requires { (row < length hints.now) × (length hints.now ≡ length table.now) × T (right table.now hints.now) × Stood table.now (place_of row counts) }
-    ensures { result.told ≡ true → Leads table.now row counts result.row result.counts }
+) -> Option<Packed>
+    requires { (place.row < length hints.now) × (length hints.now ≡ length table.now) × T (right table.now hints.now) × Stood table.now (place_of place.row place.counts) }
+    ensures { IfSome result (λ next. Leads table.now place.row place.counts next.row next.counts) }
 {
-    let hint = hints[row][slot_of(tag)];
+    let hint = hints[place.row][slot_of(tag)];
     let to = (hint / 32) as usize;
     let kind = (hint % 32) as usize;
-    let kept = counts & kept_mask(kind);
+    let kept = place.counts & kept_mask(kind);
     if bound_of(kind) <= kept {
-        return untold();
+        return None;
     }
-    Packed {
-        told: true,
+    Some(Packed {
         row: to,
         counts: kept + more_of(kind),
-    }
+    })
 }

@@ -13,7 +13,7 @@ use crate::gather::{Gathered, gather};
 use crate::rows::copy_rows;
 use crate::run::ROOM;
 use crate::standing::Standing;
-use answers::Refusal;
+use answers::{Reason, Refusal};
 use hints::tables::hints;
 use segment_tables::tables;
 use steps::state::State;
@@ -21,34 +21,17 @@ use steps::state::State;
 // Each call but the last reads 500 bytes at least, so that so many are enough for 60,000.
 const CALLS: usize = 121;
 
-/// What reading an interchange comes to.
-#[derive(Clone, Copy)]
-pub enum Reading {
-    /// Accepted; how many rows were written.
-    Rows(usize),
-    /// 3 to 10, or 17.
-    Refused(Refusal),
-}
-
 /// Reads an interchange and writes its rows, three numbers each, to the front of a lent buffer. The wish is whether the caller asks for the
-/// old reading of a POP with neither form. A refusal leaves the buffer as it was, and what stands past the rows stays too.
-pub fn read(interchange: &[u8], wish: bool, rows: &mut [u32]) -> Reading
+/// old reading of a POP with neither form. An accepted one gives how many rows were written, any other a refusal, 3 to 10 or 17. A refusal leaves the buffer as it was, and what stands past the rows stays too.
+pub fn read(interchange: &[u8], wish: bool, rows: &mut [u32]) -> Result<usize, Refusal>
     ensures told { read_answer result ≡ outcome_answer (reading_of wish interchange.now) (length rows.old) }
     ensures left { rows.new ≡ rows_after (reading_of wish interchange.now) rows.old }
 {
     if interchange.len() == 0 {
-        return Reading::Refused(Refusal {
-            number: 3,
-            position: 0,
-            part: 0,
-        });
+        return Err(Reason::BadSize.at(0));
     }
     if 60000 < interchange.len() {
-        return Reading::Refused(Refusal {
-            number: 3,
-            position: 0,
-            part: 0,
-        });
+        return Err(Reason::BadSize.at(0));
     }
     read_sized(interchange, wish, rows)
 }
@@ -62,42 +45,37 @@ fn read_on(
     hints: &[[u16; 16]],
     rows: &mut [u32],
     calls: usize,
-) -> Reading
+) -> Result<usize, Refusal>
     requires { (tables.now ≡ placing.tables) × (hints.now ≡ hinting.hints) × (length s.now ≤ 60000) × (from.at ≤ length s.now) × (4 * from.numbers ≤ 3 * from.at) × (length s.now < from.at + least_bytes * calls) }
     ensures { Behind from.numbers (whole_from s.now from.state from.at) rows.old (read_answer result) rows.new }
 {
     let st = from.state;
     let behind = from.numbers;
     let mut room = [0u32; ROOM];
-    match gather(s, st, from.at, tables, hints, &mut room) {
+    let gathered = gather(s, st, from.at, tables, hints, &mut room)?;
+    match gathered {
         Gathered::Numbers(n) => {
             if rows.len() < behind + n {
-                return Reading::Refused(Refusal {
-                    number: 17,
-                    position: 0,
-                    part: 0,
-                });
+                return Err(Reason::OutputTooShort.at(0));
             }
             copy_rows(&room, n, rows, behind);
-            Reading::Rows((behind + n) / 3)
+            Ok((behind + n) / 3)
         }
-        Gathered::Full(state, at, n) => {
-            let numbers = behind + n;
-            let rest = Standing { state, at, numbers };
-            match read_on(s, rest, tables, hints, rows, calls - 1) {
-                Reading::Rows(m) => {
-                    copy_rows(&room, n, rows, behind);
-                    Reading::Rows(m)
-                }
-                Reading::Refused(refusal) => Reading::Refused(refusal),
-            }
+        Gathered::Full(full) => {
+            let n = full.numbers;
+            let rest = Standing {
+                numbers: behind + n,
+                ..full
+            };
+            let m = read_on(s, rest, tables, hints, rows, calls - 1)?;
+            copy_rows(&room, n, rows, behind);
+            Ok(m)
         }
-        Gathered::Faulty(refusal) => Reading::Refused(refusal),
     }
 }
 
 // The same for an interchange of 1 to 60,000 bytes.
-fn read_sized(s: &[u8], wish: bool, rows: &mut [u32]) -> Reading
+fn read_sized(s: &[u8], wish: bool, rows: &mut [u32]) -> Result<usize, Refusal>
     requires { length s.now ≤ 60000 }
     ensures told { read_answer result ≡ outcome_answer (whole_from s.now (opening_state wish) 0) (length rows.old) }
     ensures left { rows.new ≡ rows_after (whole_from s.now (opening_state wish) 0) rows.old }

@@ -21,9 +21,5 @@ pub(crate) fn copy_rows(from: &[u32], n: usize, to: &mut [u32], at: usize)
     requires { (n ≤ length from.now) × (at + n ≤ length to.old) }
     ensures { to.new ≡ put_at to.old at (take n from.now) }
 {
-    let mut i = 0;
-    while i < n {
-        to[at + i] = from[i];
-        i += 1;
-    }
+    to[at..at + n].copy_from_slice(&from[..n]);
 }

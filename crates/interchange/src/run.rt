@@ -10,11 +10,11 @@ ghost use Rattle.interchange.specs.Room.{room_size};
 ghost use Rattle.interchange.specs.Passes.{Passed};
 ghost use Rattle.interchange.specs.Runs.{period_row, counted_of, placed_row};
 
-use crate::led::{Led, PeriodRow, lead_on};
-use crate::packed::{Packed, pack, unpack};
+use crate::led::{PeriodRow, lead_on};
+use crate::packed::pack;
 use crate::rows::put_row;
 use crate::standing::Standing;
-use placing::Place;
+use placing::{GROUP, Place, TAG};
 use steps::state::{Phase, Row, State};
 
 /// The numbers of a room: 128 rows, three numbers each.
@@ -22,11 +22,6 @@ pub(crate) const ROOM: usize = 384;
 
 /// A room with so many numbers has no place for a row more.
 pub(crate) const FULL: usize = 382;
-
-// The columns of a table that a row has.
-const TAG: usize = 1;
-
-const GROUP: usize = 4;
 
 /// Where some segments of a message led.
 #[derive(Clone, Copy)]
@@ -78,10 +73,7 @@ pub fn counted(segments: usize, more: usize) -> usize
 fn is_within(s: &[u8], at: usize) -> bool
     ensures { result ≡ true → (8 ≤ length s.now) × (at ≤ length s.now) }
 {
-    if s.len() < 8 {
-        return false;
-    }
-    at <= s.len()
+    8 <= s.len() && at <= s.len()
 }
 
 // The row of a segment that is placed.
@@ -110,39 +102,32 @@ pub(crate) fn run(
 {
     let st = from.state;
     let reached = st.place;
-    let start = pack(reached, table);
     if !is_within(s, from.at) {
         return stay(from);
     }
-    if !start.told {
+    let Some(start) = pack(reached, table) else {
         return stay(from);
-    }
+    };
     let last = s.len() - 8;
     let first = from.numbers;
-    let mut row = start.row;
-    let mut counts = start.counts;
+    let mut place = start;
     let mut at = from.at;
     let mut numbers = first;
     while numbers < FULL {
         if last < at + 4 {
             break;
         }
-        let place = Packed {
-            told: true,
-            row,
-            counts,
-        };
-        let Led::To(to, next, end) = lead_on(s, at, table, hints, place, period) else {
+        let Some(led) = lead_on(s, at, table, hints, place, period) else {
             break;
         };
-        put_row(room, numbers, at as u32, placed(table, to, at));
-        row = to;
-        counts = next;
-        at = end + 1;
+        let next = led.place;
+        put_row(room, numbers, at as u32, placed(table, next.row, at));
+        place = next;
+        at = led.end + 1;
         numbers += 3;
     }
     Ran {
-        place: unpack(row, counts),
+        place: place.unpack(),
         segments: counted(st.segments, (numbers - first) / 3),
         at,
         numbers,

@@ -4,7 +4,6 @@ ghost use Rattle.std.specs.Prelude.{◌≡◌};
 ghost use Rattle.interchange.specs.Reader.{is_closed};
 ghost use Rattle.interchange.specs.Runs.{is_inside};
 ghost use Rattle.interchange.specs.Stretch.{same_phase};
-ghost use Rattle.interchange.specs.Stretches.{phase_number};
 
 use steps::state::{Phase, State};
 
@@ -20,39 +19,18 @@ pub(crate) struct Standing {
 pub fn is_closed(phase: Phase) -> bool
     ensures { result ≡ is_closed phase }
 {
-    match phase {
-        Phase::Opening => false,
-        Phase::Between => false,
-        Phase::Inside => false,
-        Phase::Closed => true,
-    }
+    matches!(phase, Phase::Closed)
 }
 
 /// Whether a segment of a message comes next.
 pub fn is_inside(phase: Phase) -> bool
     ensures { result ≡ is_inside phase }
 {
-    match phase {
-        Phase::Opening => false,
-        Phase::Between => false,
-        Phase::Inside => true,
-        Phase::Closed => false,
-    }
-}
-
-fn phase_number(phase: Phase) -> u8
-    ensures { result ≡ phase_number phase }
-{
-    match phase {
-        Phase::Opening => 0,
-        Phase::Between => 1,
-        Phase::Inside => 2,
-        Phase::Closed => 3,
-    }
+    matches!(phase, Phase::Inside)
 }
 
 pub(crate) fn is_same(phase: Phase, other: Phase) -> bool
     ensures { result ≡ same_phase phase other }
 {
-    phase_number(phase) == phase_number(other)
+    phase == other
 }

@@ -22,13 +22,6 @@ use hints::tables::hints;
 use segment_tables::tables;
 use steps::state::State;
 
-/// Whether the next segment has a fault.
-#[derive(Clone, Copy)]
-pub enum Halt {
-    Sound,
-    Faulty(Refusal),
-}
-
 /// What some segments come to. Offsets count from the front of the bytes.
 #[derive(Clone, Copy)]
 pub struct Stretch {
@@ -38,10 +31,11 @@ pub struct Stretch {
     pub at: usize,
     /// How many numbers their rows are.
     pub numbers: usize,
-    pub halt: Halt,
+    /// The fault of the next segment, where it has one.
+    pub halt: Option<Refusal>,
 }
 
-fn halted(state: State, at: usize, numbers: usize, halt: Halt) -> Stretch
+fn halted(state: State, at: usize, numbers: usize, halt: Option<Refusal>) -> Stretch
     ensures { (result.state ≡ state) × (result.at ≡ at) × (result.numbers ≡ numbers) × (result.halt ≡ halt) }
 {
     Stretch {
@@ -53,16 +47,16 @@ fn halted(state: State, at: usize, numbers: usize, halt: Halt) -> Stretch
 }
 
 // The fault of the segment at an offset, where a terminator stands behind it; a segment that is cut may still be sound.
-fn halt_at(s: &[u8], at: usize, refusal: Refusal) -> Halt
+fn halt_at(s: &[u8], at: usize, refusal: Refusal) -> Option<Refusal>
     requires { at ≤ length s.now }
     ensures { halt_verdict result ≡ pick (is_ended s.now at) (refused refusal) accepted }
 {
     let rest = &s[at..];
     let ending = find_terminator(rest, false);
     if ending.at < rest.len() {
-        return Halt::Faulty(refusal);
+        return Some(refusal);
     }
-    Halt::Sound
+    None
 }
 
 // The segments one after the other, until the phase changes, one is cut or has a fault, or the room is full.
@@ -89,16 +83,16 @@ fn stretch_on(
     while numbers < FULL {
         let phase = state.phase;
         match turn_with(s, state, at, reference, reference, tables) {
-            Turn::On(next, row, then) => {
-                put_row(room, numbers, at as u32, row);
+            Ok(turn) => {
+                let next = turn.state;
+                put_row(room, numbers, at as u32, turn.row);
                 numbers += 3;
-                let reached = next.phase;
-                if !is_same(phase, reached) {
-                    return halted(next, then, numbers, Halt::Sound);
+                if !is_same(phase, next.phase) {
+                    return halted(next, turn.then, numbers, None);
                 }
                 let after = Standing {
                     state: next,
-                    at: then,
+                    at: turn.then,
                     numbers,
                 };
                 let ran = run_on(s, after, tables, hints, room);
@@ -106,13 +100,13 @@ fn stretch_on(
                 at = ran.at;
                 numbers = ran.numbers;
             }
-            Turn::Stop(refusal) => {
+            Err(refusal) => {
                 let halt = halt_at(s, at, refusal);
                 return halted(state, at, numbers, halt);
             }
         }
     }
-    halted(state, at, numbers, Halt::Sound)
+    halted(state, at, numbers, None)
 }
 
 /// The whole segments at the front of some bytes, read from a state on; the last may change the phase, and then no more are read. The reference lent is the dialogue's between
@@ -122,10 +116,10 @@ pub fn read_stretch(s: &[u8], from: State, reference: &[u8], room: &mut [u32]) -
     ensures left { room.new ≡ put_at room.old 0 (numbers (stretch_of s.now reference.now from (length room.old)).rows) }
 {
     if room.len() != ROOM {
-        return halted(from, 0, 0, Halt::Sound);
+        return halted(from, 0, 0, None);
     }
     if 60000 < s.len() {
-        return halted(from, 0, 0, Halt::Sound);
+        return halted(from, 0, 0, None);
     }
     let all = tables();
     let hinted = hints();

@@ -10,14 +10,14 @@ use answers::Refusal;
 use parts::{Part, bytes_of};
 use steps::state::{Row, State, Step};
 use steps::step::step_segment;
-use syntax::segment::{Scanned, read_segment};
+use syntax::segment::read_segment;
 
-/// What a turn comes to.
+/// What a turn comes to: the next state, the segment's row, and the offset of the next segment.
 #[derive(Clone, Copy)]
-pub enum Turn {
-    /// The next state, the segment's row, and the offset of the next segment.
-    On(State, Row, usize),
-    Stop(Refusal),
+pub struct Turn {
+    pub state: State,
+    pub row: Row,
+    pub then: usize,
 }
 
 // A part of what starts at an offset.
@@ -31,13 +31,11 @@ fn lent(s: &[u8], at: usize, part: Part) -> &[u8]
 }
 
 // What the step of a segment comes to; the next segment stands at an offset.
-fn turned(step: Step, then: usize) -> Turn
+fn turned(step: Result<Step, Refusal>, then: usize) -> Result<Turn, Refusal>
     ensures { result ≡ turn_step then (step_answer step) }
 {
-    match step {
-        Step::Next(next, row) => Turn::On(next, row, then),
-        Step::Refused(refusal) => Turn::Stop(refusal),
-    }
+    let Step { state, row } = step?;
+    Ok(Turn { state, row, then })
 }
 
 /// The step of the segment at an offset, or what is wrong with it, for a reader whose earlier bytes are gone: the references of its UIB and of its
@@ -49,23 +47,25 @@ pub fn turn_with(
     dialogue: &[u8],
     reference: &[u8],
     tables: &[[u32; 8]],
-) -> Turn
+) -> Result<Turn, Refusal>
     ensures { result ≡ turn_with tables.now s.now dialogue.now reference.now st at (segment_at s.now at) }
 {
-    let found = read_segment(s, at);
-    match found {
-        Scanned::End(end) => {
+    match read_segment(s, at) {
+        Ok(end) => {
             let step = step_segment(st, at, &s[at..end], dialogue, reference, tables);
             turned(step, end + 1)
         }
-        Scanned::NotPermitted(_) => Turn::Stop(found.refusal(at)),
-        Scanned::Unended => Turn::Stop(found.refusal(at)),
-        Scanned::Malformed => Turn::Stop(found.refusal(at)),
+        Err(error) => Err(error.refusal(at)),
     }
 }
 
 /// The step of the segment at an offset, or what is wrong with it.
-pub(crate) fn take_turn(s: &[u8], st: State, at: usize, tables: &[[u32; 8]]) -> Turn
+pub(crate) fn take_turn(
+    s: &[u8],
+    st: State,
+    at: usize,
+    tables: &[[u32; 8]],
+) -> Result<Turn, Refusal>
     ensures { result ≡ turn_at tables.now s.now st at }
 {
     let dialogue = st.dialogue;

@@ -1,6 +1,6 @@
 -- The PRDs in group 2 among the rows of an interchange are the beginnings of its groups 2.
 -- Assumes nothing.
-use Rattle.std.specs.Prelude.{◌≡◌, Bool, true, false, not, ℕ, zero, suc, ◌+◌, ◌<◌, eqb, get_or}
+use Rattle.std.specs.Prelude.{◌≡◌, Bool, true, false, not, ℕ, zero, suc, ◌+◌, ◌<◌, eqb, get_or, Option, Some, None}
 use Rattle.std.proofs.Math.Path.{refl}
 use Rattle.std.proofs.Common.{sym, ap, ◌∙◌, add-zero, zero-add}
 use mathlib.Core.List.{List, [], ◌∷◌, ◌++◌, map, append-nil}
@@ -9,8 +9,6 @@ use Rattle.std.proofs.Math.ListN.{length, length-append}
 use Rattle.laws.specs.Choice.{pick, both, all, both_comm, both_parts}
 use Rattle.syntax.specs.Segment.{tag_number}
 use Rattle.placing.specs.declared.Place.{Place}
-use Rattle.placing.specs.declared.Stepped.{Stepped}
-use Rattle.placing.specs.declared.Stepped.TheVariants.{Placed, OutOfPlace}
 use Rattle.messages.specs.declared.MessageType.{MessageType}
 use Rattle.messages.specs.declared.MessageType.TheVariants.{Skdupd, Tsdupd, Tsdupd12B}
 use Rattle.messages.specs.Tags.{PRD}
@@ -56,7 +54,7 @@ begin_append at (e ∷ k) l =
     ∙ keep_append (begins e) at (beginnings (at + length e.0 + 1) k) (beginnings (at + (length e.0 + 1 + size k)) l)
 
 -- how many bytes a message has
-size_places : (t : Table) (p : Stepped) (gs : List (List ℕ)) → size (map (with_group t) (places_from t p gs)) ≡ length (segments_written gs)
+size_places : (t : Table) (p : Option Place) (gs : List (List ℕ)) → size (map (with_group t) (places_from t p gs)) ≡ length (segments_written gs)
 unfolding size places_from segments_written
 size_places t p [] = refl
 size_places t p (g ∷ gs) =
@@ -77,9 +75,9 @@ not_is false e = refl
 -- where a table has no service, none of its segments begins a group 2
 module _ (t : Table) (none : NoService t) where
   module _ (tag : ℕ) where
-    step_none : (p : Place) (x : Stepped) → step_of t p tag ≡ x → both (eqb (group_in t x) 2) (eqb tag PRD) ≡ false
-    step_none p OutOfPlace e = refl
-    step_none p (Placed q) e =
+    step_none : (p : Place) (x : Option Place) → step_of t p tag ≡ x → both (eqb (group_in t x) 2) (eqb tag PRD) ≡ false
+    step_none p None e = refl
+    step_none p (Some q) e =
         let row = get_or t q.row [] in
         let a = entry_in t q.row 1 (omega arith) in
         let b = entry_in t q.row 4 (omega arith) in
@@ -89,11 +87,11 @@ module _ (t : Table) (none : NoService t) where
         ∙ ap (λ (x : ℕ). both (eqb (get_or row 1 0) PRD) (eqb x 2)) b
         ∙ not_is (both (eqb (get_or row 1 0) PRD) (eqb (get_or row 4 0) 2)) w
 
-    after_none : (p : Stepped) → both (eqb (group_in t (place_after t p tag)) 2) (eqb tag PRD) ≡ false
-    after_none (Placed p) = step_none p (step_of t p tag) refl
-    after_none OutOfPlace = refl
+    after_none : (p : Option Place) → both (eqb (group_in t (place_after t p tag)) 2) (eqb tag PRD) ≡ false
+    after_none (Some p) = step_none p (step_of t p tag) refl
+    after_none None = refl
 
-  table_none : (at : ℕ) (p : Stepped) (gs : List (List ℕ)) → beginnings at (map (with_group t) (places_from t p gs)) ≡ []
+  table_none : (at : ℕ) (p : Option Place) (gs : List (List ℕ)) → beginnings at (map (with_group t) (places_from t p gs)) ≡ []
   unfolding beginnings places_from
   table_none at p [] = refl
   table_none at p (g ∷ gs) = rw (after_none (tag_number g) p) (table_none (at + length g + 1) (place_after t p (tag_number g)) gs)
@@ -104,8 +102,8 @@ module _ (at : ℕ) (m : Message) where
   other_begins : (t : Table) → NoService t → table_of (message_type_of m) ≡ t → is_skdupd (message_type_of m) ≡ false → beginnings at (groups_in m) ≡ groups_at at m
   unfolding beginnings
   other_begins t none e k =
-      ap (λ (x : Table). beginnings (at + length m.heading + 1) (map (with_group x) (places_from x (Placed start_place) (m.within ++ (m.trailer ∷ []))))) e
-      ∙ table_none t none (at + length m.heading + 1) (Placed start_place) (m.within ++ (m.trailer ∷ []))
+      ap (λ (x : Table). beginnings (at + length m.heading + 1) (map (with_group x) (places_from x (Some start_place) (m.within ++ (m.trailer ∷ []))))) e
+      ∙ table_none t none (at + length m.heading + 1) (Some start_place) (m.within ++ (m.trailer ∷ []))
       ∙ sym (ap (λ (b : Bool). pick b (beginnings at (groups_in m)) []) k)
 
   message_begins : beginnings at (groups_in m) ≡ groups_at at m
@@ -119,7 +117,7 @@ module _ (at : ℕ) (m : Message) where
   message_size : at + size (groups_in m) ≡ at + length (segments_written (segments_in m))
   unfolding size segments_written
   message_size =
-      let h = size_places (table_of (message_type_of m)) (Placed start_place) (m.within ++ (m.trailer ∷ [])) in
+      let h = size_places (table_of (message_type_of m)) (Some start_place) (m.within ++ (m.trailer ∷ [])) in
       let l = length-append m.heading (39 ∷ segments_written (m.within ++ (m.trailer ∷ []))) in
       omega arith
 

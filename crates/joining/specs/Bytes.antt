@@ -1,6 +1,6 @@
 -- Joining keeps bytes bytes.
 -- Assumes nothing.
-use Rattle.std.specs.Prelude.{Bool, true, false, List, ℕ, zero, suc, ◌+◌, ◌-◌, ◌*◌, ◌/◌, ◌%◌, ◌^◌, ◌≤◌, ◌<◌, ltb, length, get_or, set}
+use Rattle.std.specs.Prelude.{Bool, true, false, List, ℕ, zero, suc, ◌+◌, ◌-◌, ◌*◌, ◌/◌, ◌%◌, ◌^◌, ◌≤◌, ◌<◌, ltb, length, get_or, set, Result, Ok, Err}
 use Rattle.std.proofs.Common.{arith, ltb→lt, get_or-set_same, get_or-set_other}
 use Rattle.std.proofs.Math.Decide.{dec_lt, ℕ_discrete}
 use Rattle.std.proofs.lemmas.Nat.{or_lt}
@@ -9,9 +9,9 @@ use Rattle.laws.specs.Choice.{pick}
 use Rattle.laws.specs.Sweep.{at}
 use Rattle.calendar.specs.Days.{with_bit, with_day}
 use Rattle.period.specs.Period.{period_of, runs_by}
-use Rattle.period.specs.declared.Period.{Period}
-use Rattle.period.specs.declared.Period.TheVariants.{Good, Wrong}
 use Rattle.joining.specs.Joined.{marked, in_window, window_days, joined_by, days_joined}
+use Rattle.period.specs.declared.Period.{Period}
+use Rattle.period.specs.declared.Fault.{Fault}
 
 -- each element is a byte
 abbrev pub AreBytes : List ℕ → Type 0
@@ -51,13 +51,13 @@ unfolding marked
 marked_bytes t c at k zero a = a
 marked_bytes t c at k (suc m) a = marked_bytes t (pick (t k) (with_day c (at + k)) c) at (k + 1) m (picked_bytes (t k) c (at + k) a)
 
-by_bytes : (p : Period) (c : List ℕ) (o : ℕ) (g : List ℕ) → AreBytes c → AreBytes (joined_by c o g p)
+by_bytes : (p : Result Period Fault) (c : List ℕ) (o : ℕ) (g : List ℕ) → AreBytes c → AreBytes (joined_by c o g p)
 unfolding window_days
-by_bytes (Wrong x) c o g a = a
-by_bytes (Good f n form) c o g a = either_one (in_window (8 * length c) o f n)
+by_bytes (Err x) c o g a = a
+by_bytes (Ok v) c o g a = either_one (in_window (8 * length c) o v.days.first v.days.count)
   where
-    either_one : (q : Bool) → AreBytes (pick q (marked (runs_by g form f) c (f - o) 0 n) c)
-    either_one true = marked_bytes (runs_by g form f) c (f - o) 0 n a
+    either_one : (q : Bool) → AreBytes (pick q (marked (runs_by g v.form v.days.first) c (v.days.first - o) 0 v.days.count) c)
+    either_one true = marked_bytes (runs_by g v.form v.days.first) c (v.days.first - o) 0 v.days.count a
     either_one false = a
 
 pub joined_bytes : (wish : Bool) (c : List ℕ) (o : ℕ) (g : List ℕ) → AreBytes c → AreBytes (days_joined wish c o g)

@@ -1,16 +1,16 @@
 -- The union of periods over a window of days. "A service's days are those selected by at least one of its periods."
 -- Document 01, "Calendars", "What each number means": 10 and 13.
 -- Assumes nothing.
-use Rattle.std.specs.Prelude.{ℕ, zero, suc, ◌+◌, ◌-◌, ◌*◌, ◌%◌, Bool, false, List, [], ◌∷◌, leb, length}
+use Rattle.std.specs.Prelude.{ℕ, zero, suc, ◌+◌, ◌-◌, ◌*◌, ◌%◌, Bool, false, List, [], ◌∷◌, leb, length, Result, Ok, Err}
 use Rattle.laws.specs.Choice.{pick, both, either}
 use Rattle.answers.specs.Answers.{Answer, done, refused, wrong_period, outside_window}
 use Rattle.calendar.specs.Days.{with_bit, with_day}
 use Rattle.period.specs.Period.{Given, period_of, fault_number, pop_answer, runs_by, runs_in}
 use Rattle.period.specs.declared.Form.{Form}
 use Rattle.period.specs.declared.Period.{Period}
-use Rattle.period.specs.declared.Period.TheVariants.{Good, Wrong}
-use Rattle.joining.specs.declared.Joined.{Joined}
-use Rattle.joining.specs.declared.Joined.TheVariants.{Done, WrongPeriod, Outside}
+use Rattle.period.specs.declared.Fault.{Fault}
+use Rattle.joining.specs.declared.JoinError.{JoinError}
+use Rattle.joining.specs.declared.JoinError.TheVariants.{WrongPeriod, Outside}
 
 -- the calendar with those of the m days from day k on selected too of which a test holds; day 0 is at an index of the calendar
 unfoldable pub marked : (ℕ → Bool) → List ℕ → ℕ → ℕ → ℕ → List ℕ
@@ -21,24 +21,27 @@ marked t c at k (suc m) = marked t (pick (t k) (with_day c (at + k)) c) at (k + 
 abbrev pub in_window : ℕ → ℕ → ℕ → ℕ → Bool
 in_window days o f n = both (leb o f) (leb (f - o + n) days)
 
-unfoldable pub window_answer : ℕ → ℕ → ℕ → ℕ → Joined
-window_answer bytes o f n = pick (in_window (8 * bytes) o f n) Done Outside
+abbrev pub joined : Result (Unit {0}) JoinError
+joined = Ok tt
+
+unfoldable pub window_answer : ℕ → ℕ → ℕ → ℕ → Result (Unit {0}) JoinError
+window_answer bytes o f n = pick (in_window (8 * bytes) o f n) joined (Err Outside)
 
 unfoldable pub window_days : List ℕ → ℕ → List ℕ → ℕ → ℕ → Form → List ℕ
 window_days c o g f n form = pick (in_window (8 * length c) o f n) (marked (runs_by g form f) c (f - o) 0 n) c
 
 -- joining what a POP g says to a caller with a wish: 10, then 13
-abbrev pub window_answer_by : ℕ → ℕ → Period → Joined
-window_answer_by bytes o (Wrong x) = WrongPeriod x
-window_answer_by bytes o (Good f n form) = window_answer bytes o f n
+abbrev pub window_answer_by : ℕ → ℕ → Result Period Fault → Result (Unit {0}) JoinError
+window_answer_by bytes o (Err x) = Err (WrongPeriod x)
+window_answer_by bytes o (Ok v) = window_answer bytes o v.days.first v.days.count
 
-unfoldable pub answered : Bool → ℕ → ℕ → List ℕ → Joined
+unfoldable pub answered : Bool → ℕ → ℕ → List ℕ → Result (Unit {0}) JoinError
 answered wish bytes o g = window_answer_by bytes o (period_of wish g)
 
 -- a refusal leaves the calendar as it was
-abbrev pub joined_by : List ℕ → ℕ → List ℕ → Period → List ℕ
-joined_by c o g (Wrong x) = c
-joined_by c o g (Good f n form) = window_days c o g f n form
+abbrev pub joined_by : List ℕ → ℕ → List ℕ → Result Period Fault → List ℕ
+joined_by c o g (Err x) = c
+joined_by c o g (Ok v) = window_days c o g v.days.first v.days.count v.form
 
 unfoldable pub days_joined : Bool → List ℕ → ℕ → List ℕ → List ℕ
 days_joined wish c o g = joined_by c o g (period_of wish g)
@@ -49,10 +52,10 @@ join_all wish c o [] = c
 join_all wish c o (g ∷ gs) = join_all wish (days_joined wish c o g) o gs
 
 -- what each case answers, of a POP at an offset
-abbrev pub joined_answer : ℕ → Joined → Answer (Unit {0})
-joined_answer at Done = done tt
-joined_answer at (WrongPeriod x) = wrong_period at (fault_number x)
-joined_answer at Outside = outside_window at
+abbrev pub joined_answer : ℕ → Result (Unit {0}) JoinError → Answer (Unit {0})
+joined_answer at (Ok x) = done tt
+joined_answer at (Err (WrongPeriod x)) = wrong_period at (fault_number x)
+joined_answer at (Err Outside) = outside_window at
 
 -- the POP's own answer first, then 13, at the POP
 abbrev pub windowed : ℕ → ℕ → ℕ → Answer Given → Answer (Unit {0})
@@ -63,9 +66,9 @@ abbrev pub join_answer : Bool → ℕ → ℕ → ℕ → List ℕ → Answer (U
 join_answer wish at bytes o g = windowed at bytes o (pop_answer wish at g)
 
 -- whether a POP selects the day with a number
-abbrev pub selects_by : List ℕ → Period → ℕ → Bool
-selects_by g (Wrong x) d = false
-selects_by g (Good f n form) d = both (leb f d) (runs_in g (Good f n form) (d - f))
+abbrev pub selects_by : List ℕ → Result Period Fault → ℕ → Bool
+selects_by g (Err x) d = false
+selects_by g (Ok v) d = both (leb v.days.first d) (runs_in g (Ok v) (d - v.days.first))
 
 unfoldable pub selects : Bool → List ℕ → ℕ → Bool
 selects wish g d = selects_by g (period_of wish g) d

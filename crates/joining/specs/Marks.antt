@@ -26,9 +26,6 @@ length_marked t c at k (suc m) = length_marked t (pick (t k) (with_day c (at + k
 
 module _ (t : ℕ → Bool) (at : ℕ) where
   -- the days left to mark
-  pub mark_starts : (c : List ℕ) (n : ℕ) → marked t c at 0 (n - 0) ≡ marked t c at 0 n
-  mark_starts c n = ap (marked t c at 0) (omega arith)
-
   pub mark_step : (c : List ℕ) (k n : ℕ) {last : List ℕ} {w : Bool} → k < n → w ≡ t k → last ≡ pick w (with_day c (at + k)) c
       → marked t last at (k + 1) (n - (k + 1)) ≡ marked t c at k (n - k)
   unfolding marked

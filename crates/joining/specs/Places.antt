@@ -1,7 +1,7 @@
 -- Where the day string of a good period stands: the parts before it have so many bytes that it may be the rest of the POP.
 -- Assumes nothing.
 use Rattle.std.proofs.Math.Path.{◌≡◌}
-use Rattle.std.specs.Prelude.{refl, Bool, false, List, [], ◌∷◌, ◌++◌, ℕ, suc, ◌+◌, ◌-◌, ◌≤◌, ◌<◌, eqb, leb, length, get_or, drop}
+use Rattle.std.specs.Prelude.{refl, Bool, false, List, [], ◌∷◌, ◌++◌, ℕ, suc, ◌+◌, ◌-◌, ◌≤◌, ◌<◌, eqb, leb, length, get_or, drop, Err}
 use Rattle.std.proofs.Common.{sym, ap, ◌∙◌, arith, length-drop, drop-drop, get_or-drop, take_all, eqb-true, ne_eqb, leb-true}
 use Rattle.std.proofs.Math.Bool.{true}
 use Rattle.std.proofs.Math.Decide.{dec_lt, ℕ_discrete}
@@ -18,8 +18,7 @@ use Rattle.values.specs.Values.{same_text}
 use Rattle.period.specs.declared.Form.{Form}
 use Rattle.period.specs.declared.Form.TheVariants.{ByString}
 use Rattle.period.specs.declared.Fault.TheVariants.{BadDates}
-use Rattle.period.specs.declared.Period.TheVariants.{Good, Wrong}
-use Rattle.period.specs.Period.{qualifier, first_last, day_text, week_text, span_in, zero_or_one, day_string, fits_days, form_of, rest_good, period_of}
+use Rattle.period.specs.Period.{qualifier, first_last, day_text, week_text, span_in, zero_or_one, day_string, fits_days, form_of, rest_good, period_of, period_from}
 use Rattle.period.specs.Facts.{good_told, form_told}
 use Rattle.joining.specs.Gathered.{all_drop}
 
@@ -193,14 +192,14 @@ pub record Spoken (g : List ℕ) (n : ℕ) : Type 0 where
   pub some : 1 ≤ length (day_text g)
   pub few : length (day_text g) ≤ n
 
-module _ (g : List ℕ) (f n : ℕ) {form : Form} (e : period_of true g ≡ Good f n form) where
+module _ (g : List ℕ) (f n : ℕ) {form : Form} (e : period_of true g ≡ period_from f n form) where
   dates_length : length (first_last g) ≡ 21
   unfolding period_of span_in
   dates_length =
       elim (ℕ_discrete (length (first_last g)) 21) [
         | yes q ↦ q
         | no q ↦
-            let w : Wrong BadDates ≡ Good f n form = rw (ne_eqb (length (first_last g)) 21 q) at e in
+            let w : Err BadDates ≡ period_from f n form = rw (ne_eqb (length (first_last g)) 21 q) at e in
             let z : ◌≡◌ {A = ℕ} 0 1 = cc in
             absurd (omega arith)
       ]

@@ -1,6 +1,6 @@
 -- The days of a calendar into which periods were joined: "A service's days are those selected by at least one of its periods."
 -- Assumes nothing.
-use Rattle.std.specs.Prelude.{◌≡◌, Bool, true, false, List, [], ◌∷◌, eqb, leb, ltb, length, get_or, replicate}
+use Rattle.std.specs.Prelude.{◌≡◌, Bool, true, false, List, [], ◌∷◌, eqb, leb, ltb, length, get_or, replicate, Result, Ok, Err}
 use Rattle.std.proofs.Math.Path.{refl, sym, ap}
 use Rattle.std.proofs.Common.{◌∙◌, arith, eq-eqb, ne_eqb, lt-ltb, le-ltb, le-leb, leb-true}
 use Prim.Native.Nat.{ℕ, zero, suc, ◌+◌, ◌-◌, ◌*◌, ◌/◌, ◌%◌, ◌≤◌, ◌<◌}
@@ -13,11 +13,11 @@ use Rattle.calendar.specs.Days.{day, with_day}
 use Rattle.calendar.specs.Bits.{bit_none}
 use Rattle.calendar.specs.Laws.{day_same, day_other}
 use Rattle.period.specs.Period.{period_of, runs_by, runs_in}
-use Rattle.period.specs.declared.Period.{Period}
-use Rattle.period.specs.declared.Period.TheVariants.{Good, Wrong}
-use Rattle.joining.specs.declared.Joined.TheVariants.{Done, Outside}
-use Rattle.joining.specs.Joined.{marked, in_window, window_answer, window_days, window_answer_by, answered, joined_by, days_joined, join_all, selects_by, selects, any_selects}
+use Rattle.joining.specs.Joined.{marked, in_window, window_answer, window_days, window_answer_by, answered, joined_by, days_joined, join_all, selects_by, selects, any_selects, joined}
 use Rattle.joining.specs.Marks.{length_step, length_marked}
+use Rattle.period.specs.declared.Period.{Period}
+use Rattle.period.specs.declared.Fault.{Fault}
+use Rattle.joining.specs.declared.JoinError.TheVariants.{Outside}
 
 pub either_false : (a : Bool) → either a false ≡ a
 either_false true = refl
@@ -84,12 +84,12 @@ record Inside (bytes o f n : ℕ) : Type 0 where
   pub from : o ≤ f
   pub to : f - o + n ≤ 8 * bytes
 
-inside_by : (p q : Bool) (bytes o f n : ℕ) → leb o f ≡ p → leb (f - o + n) (8 * bytes) ≡ q → pick (both p q) Done Outside ≡ Done → Inside bytes o f n
+inside_by : (p q : Bool) (bytes o f n : ℕ) → leb o f ≡ p → leb (f - o + n) (8 * bytes) ≡ q → pick (both p q) joined (Err Outside) ≡ joined → Inside bytes o f n
 inside_by true true bytes o f n a b e = record { from = leb-true o f a; to = leb-true (f - o + n) (8 * bytes) b }
 inside_by true false bytes o f n a b e = let z : ◌≡◌ {A = ℕ} 0 1 = cc in absurd (omega arith)
 inside_by false q bytes o f n a b e = let z : ◌≡◌ {A = ℕ} 0 1 = cc in absurd (omega arith)
 
-inside : (bytes o f n : ℕ) → window_answer bytes o f n ≡ Done → Inside bytes o f n
+inside : (bytes o f n : ℕ) → window_answer bytes o f n ≡ joined → Inside bytes o f n
 unfolding window_answer
 inside bytes o f n e = inside_by (leb o f) (leb (f - o + n) (8 * bytes)) bytes o f n refl refl e
 
@@ -107,42 +107,42 @@ by_number t o f n j h =
           ])
     ]
 
-by_day : (p : Period) (c : List ℕ) (o : ℕ) (g : List ℕ) (j : ℕ) → window_answer_by (length c) o p ≡ Done
+by_day : (p : Result Period Fault) (c : List ℕ) (o : ℕ) (g : List ℕ) (j : ℕ) → window_answer_by (length c) o p ≡ joined
     → day (joined_by c o g p) j ≡ either (day c j) (selects_by g p (o + j))
 unfolding window_days runs_in
-by_day (Wrong x) c o g j e = let z : ◌≡◌ {A = ℕ} 0 1 = cc in absurd (omega arith)
-by_day (Good f n form) c o g j e =
-    let i = inside (length c) o f n e in
+by_day (Err x) c o g j e = let z : ◌≡◌ {A = ℕ} 0 1 = cc in absurd (omega arith)
+by_day (Ok v) c o g j e =
+    let i = inside (length c) o v.days.first v.days.count e in
     let k = i.to in
-    rw (le-leb o f i.from, le-leb (f - o + n) (8 * length c) i.to)
-    (day_marked (runs_by g form f) (f - o) j c 0 n (omega arith) ∙ ap (either (day c j)) (by_number (runs_by g form f) o f n j i.from))
+    rw (le-leb o v.days.first i.from, le-leb (v.days.first - o + v.days.count) (8 * length c) i.to)
+    (day_marked (runs_by g v.form v.days.first) (v.days.first - o) j c 0 v.days.count (omega arith) ∙ ap (either (day c j)) (by_number (runs_by g v.form v.days.first) o v.days.first v.days.count j i.from))
 
-refused_by : (p : Period) (c : List ℕ) (o : ℕ) (g : List ℕ) → (window_answer_by (length c) o p ≡ Done → ⊥) → joined_by c o g p ≡ c
+refused_by : (p : Result Period Fault) (c : List ℕ) (o : ℕ) (g : List ℕ) → (window_answer_by (length c) o p ≡ joined → ⊥) → joined_by c o g p ≡ c
 unfolding window_days window_answer
-refused_by (Wrong x) c o g e = refl
-refused_by (Good f n form) c o g e = outside (in_window (8 * length c) o f n) refl
+refused_by (Err x) c o g e = refl
+refused_by (Ok v) c o g e = outside (in_window (8 * length c) o v.days.first v.days.count) refl
   where
-    outside : (q : Bool) → in_window (8 * length c) o f n ≡ q → window_days c o g f n form ≡ c
+    outside : (q : Bool) → in_window (8 * length c) o v.days.first v.days.count ≡ q → window_days c o g v.days.first v.days.count v.form ≡ c
     outside true a = absurd (e (rw a))
     outside false a = rw a
 
-length_by : (p : Period) (c : List ℕ) (o : ℕ) (g : List ℕ) → length (joined_by c o g p) ≡ length c
+length_by : (p : Result Period Fault) (c : List ℕ) (o : ℕ) (g : List ℕ) → length (joined_by c o g p) ≡ length c
 unfolding window_days
-length_by (Wrong x) c o g = refl
-length_by (Good f n form) c o g = picked (in_window (8 * length c) o f n)
+length_by (Err x) c o g = refl
+length_by (Ok v) c o g = picked (in_window (8 * length c) o v.days.first v.days.count)
   where
-    picked : (q : Bool) → length (pick q (marked (runs_by g form f) c (f - o) 0 n) c) ≡ length c
-    picked true = length_marked (runs_by g form f) c (f - o) 0 n
+    picked : (q : Bool) → length (pick q (marked (runs_by g v.form v.days.first) c (v.days.first - o) 0 v.days.count) c) ≡ length c
+    picked true = length_marked (runs_by g v.form v.days.first) c (v.days.first - o) 0 v.days.count
     picked false = refl
 
 module _ (wish : Bool) (c : List ℕ) (o : ℕ) (g : List ℕ) where
   -- after a period is joined a day is selected exactly when it was before or the period selects it
-  pub joined_day : answered wish (length c) o g ≡ Done → (j : ℕ) → day (days_joined wish c o g) j ≡ either (day c j) (selects wish g (o + j))
+  pub joined_day : answered wish (length c) o g ≡ joined → (j : ℕ) → day (days_joined wish c o g) j ≡ either (day c j) (selects wish g (o + j))
   unfolding answered days_joined selects
   joined_day e j = by_day (period_of wish g) c o g j e
 
   -- a refusal changes nothing
-  pub joined_refused : (answered wish (length c) o g ≡ Done → ⊥) → days_joined wish c o g ≡ c
+  pub joined_refused : (answered wish (length c) o g ≡ joined → ⊥) → days_joined wish c o g ≡ c
   unfolding answered days_joined
   joined_refused e = refused_by (period_of wish g) c o g e
 
@@ -153,7 +153,7 @@ module _ (wish : Bool) (c : List ℕ) (o : ℕ) (g : List ℕ) where
 -- each of some POPs is good and in the window
 abbrev pub AllDone : Bool → ℕ → ℕ → List (List ℕ) → Type 0
 AllDone wish bytes o [] = Unit {0}
-AllDone wish bytes o (g ∷ gs) = (answered wish bytes o g ≡ Done) × AllDone wish bytes o gs
+AllDone wish bytes o (g ∷ gs) = (answered wish bytes o g ≡ joined) × AllDone wish bytes o gs
 
 pub joined_all : (wish : Bool) (gs : List (List ℕ)) (c : List ℕ) (o j : ℕ) → AllDone wish (length c) o gs
     → day (join_all wish c o gs) j ≡ either (day c j) (any_selects wish gs (o + j))

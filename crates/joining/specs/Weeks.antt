@@ -22,15 +22,6 @@ use Rattle.period.specs.declared.Form.TheVariants.{Every, ByString, ByWeekdays}
 use Rattle.joining.specs.Joined.{week_bits, marked}
 use Rattle.joining.specs.Marks.{mark_same}
 
--- a text read digit by digit
-pub week_goes : (t l : List ℕ) (x b : ℕ) {r : ℕ} → t ≡ b ∷ l → r ≡ with_bit x (b % 8) → week_bits r l ≡ week_bits x t
-unfolding week_bits
-week_goes t l x b f e = rw (f, e)
-
-pub week_ends : (t : List ℕ) (x : ℕ) → t ≡ [] → x ≡ week_bits x t
-unfolding week_bits
-week_ends t x f = rw f
-
 -- a weekday's bit
 pub week_bit : (n week : ℕ) {w : ℕ} {r : Bool} → w ≡ weekday_of n → r ≡ has_bit week (w % 8) → r ≡ has_bit week (weekday_of n)
 week_bit n week {w} e f =

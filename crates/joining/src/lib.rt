@@ -2,7 +2,7 @@
 
 #![tactic(auto)]
 
-ghost use Rattle.std.specs.Prelude.{◌≡◌, true, ℕ, ◌+◌, ◌*◌, ◌%◌, ◌≤◌, ◌<◌, min, eqb, length, get_or, drop};
+ghost use Rattle.std.specs.Prelude.{◌≡◌, true, ℕ, ◌+◌, ◌*◌, ◌%◌, ◌≤◌, ◌<◌, min, eqb, length, get_or, drop, Ok};
 ghost use Rattle.laws.specs.Choice.{pick, all};
 ghost use Rattle.syntax.specs.Bytes.{plain};
 ghost use Rattle.syntax.specs.Pieces.{part_of};
@@ -11,7 +11,6 @@ ghost use Rattle.parts.specs.Places.{bytes_of};
 ghost use Rattle.dates.specs.Days.{weekday_of};
 ghost use Rattle.calendar.specs.Days.{has_bit, with_day};
 ghost use Rattle.period.specs.Period.{day_text, week_text, zero_or_one, runs_by, period_of};
-ghost use Rattle.period.specs.declared.Period.TheVariants.{Good};
 ghost use Rattle.joining.specs.Joined.{marked, week_bits, window_answer, window_days, answered, days_joined, joined_answer, join_answer};
 ghost use Rattle.joining.specs.Gathered.{gathered_of};
 ghost use Rattle.joining.specs.Places.{Dated, Tagged, Bare, Spoken};
@@ -20,17 +19,16 @@ ghost use Rattle.joining.specs.Weekdays.{plain_week, Marked};
 
 use calendar::{set_day, with_bit};
 use parts::{Part, bytes_of, segment_at};
-use period::{Fault, Form, Period, Pop, are_days, part_of, pop_at, read_period};
-use raw_bytes::{Eight, eight_at};
-use values::{Next, next_byte};
+use period::{Fault, Form, Period, are_days, part_of, pop_at, read_period};
+use raw_bytes::eight_at;
+use values::characters;
 
 // The lowest bit of each of eight bytes.
 const LOWEST: usize = 0x0101_0101_0101_0101;
 
-/// What came of joining a period.
-#[derive(Clone, Copy)]
-pub enum Joined {
-    Done,
+/// Why a period is not joined.
+#[derive(Clone, Copy, PartialEq, Eq, Debug)]
+pub enum JoinError {
     /// 10: which part is wrong.
     WrongPeriod(Fault),
     /// 13: the period is not wholly in the window.
@@ -48,21 +46,13 @@ fn set_if(days: &mut [u8], k: usize, wanted: bool)
 }
 
 // The weekdays that a part names, as the bits of a byte: the digit w, 48 + w, is w past a multiple of 8.
+#[tactic(auto, unfolding(crate::specs::Joined::week_bits))]
 fn week_of(part: &[u8]) -> u8
     ensures { result ≡ week_bits 0 (plain part.now) }
 {
-    let mut week = 0u8;
-    let mut i = 0;
-    while i < part.len() {
-        match next_byte(part, i) {
-            Next::Byte(b, k) => {
-                week = with_bit(week, b as usize);
-                i = k;
-            }
-            Next::Done => {
-                return week;
-            }
-        }
+    let mut week = 0;
+    for b in characters(part) {
+        week = with_bit(week, b as usize);
     }
     week
 }
@@ -134,7 +124,7 @@ fn day_bits(text: &[u8], from: usize, m: usize) -> u8
     requires { (m ≤ 8) × (from + m ≤ length text.now) × (all zero_or_one text.now ≡ true) }
     ensures { (j : ℕ) → j < m → has_bit result j ≡ eqb (get_or text.now (from + j) 0) 49 }
 {
-    if let Eight::Word(word) = eight_at(text, from) {
+    if let Some(word) = eight_at(text, from) {
         return eight_bits(word);
     }
     let mut bits = 0u8;
@@ -157,7 +147,7 @@ fn mark_text(days: &mut [u8], at: usize, text: &[u8])
     mark_bits(days, at, day_bits(text, 0, m), m);
     let mut k = lead;
     loop {
-        let Eight::Word(word) = eight_at(text, k) else {
+        let Some(word) = eight_at(text, k) else {
             if n <= k {
                 return;
             }
@@ -175,19 +165,8 @@ fn mark_released(days: &mut [u8], at: usize, part: &[u8], n: usize)
     requires { at + n ≤ 65536 }
     ensures { days.new ≡ marked (λ k. eqb (get_or (plain part.now) k 0) 49) days.old at 0 n }
 {
-    let mut i = 0;
-    let mut k = 0;
-    while k < n {
-        match next_byte(part, i) {
-            Next::Byte(b, next) => {
-                set_if(days, at + k, b == b'1');
-                i = next;
-                k += 1;
-            }
-            Next::Done => {
-                return;
-            }
-        }
+    for (k, b) in (at..at + n).zip(characters(part)) {
+        set_if(days, k, b == b'1');
     }
 }
 
@@ -319,11 +298,13 @@ fn week_in(g: &[u8]) -> u8
 }
 
 // Selects the days of a period that run; its first day is at an index of the calendar.
-fn mark_form(days: &mut [u8], at: usize, g: &[u8], first: usize, n: usize, form: Form)
-    requires { (at + n ≤ 8 * length days.old) × (at + n ≤ 65536) × (period_of true g.now ≡ Good first n form) }
-    ensures { days.new ≡ marked (runs_by g.now form first) days.old at 0 n }
+fn mark_form(days: &mut [u8], at: usize, g: &[u8], period: Period)
+    requires { (at + period.days.count ≤ 8 * length days.old) × (at + period.days.count ≤ 65536) × (period_of true g.now ≡ Ok period) }
+    ensures { days.new ≡ marked (runs_by g.now period.form period.days.first) days.old at 0 period.days.count }
 {
-    match form {
+    let first = period.days.first;
+    let n = period.days.count;
+    match period.form {
         Form::Every => {
             mark_weekdays(days, at, first, n, 254);
         }
@@ -337,42 +318,53 @@ fn mark_form(days: &mut [u8], at: usize, g: &[u8], first: usize, n: usize, form:
 }
 
 // The same where the period lies in the window.
-fn join_form(days: &mut [u8], origin: usize, g: &[u8], first: usize, n: usize, form: Form) -> Joined
-    requires { period_of true g.now ≡ Good first n form }
-    ensures { (result ≡ window_answer (length days.old) origin first n) × (days.new ≡ window_days days.old origin g.now first n form) }
+fn join_form(days: &mut [u8], origin: usize, g: &[u8], period: Period) -> Result<(), JoinError>
+    requires { period_of true g.now ≡ Ok period }
+    ensures { (result ≡ window_answer (length days.old) origin period.days.first period.days.count) × (days.new ≡ window_days days.old origin g.now period.days.first period.days.count period.form) }
 {
+    let first = period.days.first;
     if first < origin {
-        return Joined::Outside;
+        return Err(JoinError::Outside);
     }
     let at = first - origin;
-    if days.len() <= (at + n - 1) / 8 {
-        return Joined::Outside;
+    if days.len() <= (at + period.days.count - 1) / 8 {
+        return Err(JoinError::Outside);
     }
-    mark_form(days, at, g, first, n, form);
-    Joined::Done
+    mark_form(days, at, g, period);
+    Ok(())
 }
 
 /// Selects the days of a POP's period in a calendar of 8 days for each byte, whose first day has the number `origin`. The wish is whether the
 /// caller asks for the old reading of a POP with neither form. On a refusal the calendar stays as it was.
-pub fn join_period(days: &mut [u8], origin: usize, s: &[u8], segment: Part, wish: bool) -> Joined
+pub fn join_period(
+    days: &mut [u8],
+    origin: usize,
+    s: &[u8],
+    segment: Part,
+    wish: bool,
+) -> Result<(), JoinError>
     ensures told { (result ≡ answered wish (length days.old) origin (bytes_of s.now segment)) × (days.new ≡ days_joined wish days.old origin (bytes_of s.now segment)) }
     ensures said { joined_answer segment.from result ≡ join_answer wish segment.from (length days.old) origin (bytes_of s.now segment) }
 {
     match read_period(s, segment, wish) {
-        Period::Wrong(fault) => Joined::WrongPeriod(fault),
-        Period::Good(first, n, form) => {
-            join_form(days, origin, bytes_of(s, segment), first, n, form)
-        },
+        Ok(period) => join_form(days, origin, bytes_of(s, segment), period),
+        Err(fault) => Err(JoinError::WrongPeriod(fault)),
     }
 }
 
 /// Selects the days of the POP at an offset, up to its terminator or to the input's end, as `join_period` does of a segment.
-pub fn join_at(days: &mut [u8], origin: usize, s: &[u8], at: usize, wish: bool) -> Joined
+pub fn join_at(
+    days: &mut [u8],
+    origin: usize,
+    s: &[u8],
+    at: usize,
+    wish: bool,
+) -> Result<(), JoinError>
     ensures told { (result ≡ answered wish (length days.old) origin (body_at s.now at)) × (days.new ≡ days_joined wish days.old origin (body_at s.now at)) }
     ensures said { joined_answer at result ≡ join_answer wish at (length days.old) origin (body_at s.now at) }
 {
     match pop_at(s, at, wish) {
-        Pop::Whole(end, first, n, form) => join_form(days, origin, &s[at..end], first, n, form),
-        Pop::Other => join_period(days, origin, s, segment_at(s, at), wish),
+        Some(pop) => join_form(days, origin, &s[at..pop.end], pop.period),
+        None => join_period(days, origin, s, segment_at(s, at), wish),
     }
 }

@@ -1,57 +1,55 @@
 -- What is found, by what the scan of a segment comes to; and that the reader never walks back. Assumes nothing.
 use Rattle.std.proofs.Math.Path.{◌≡◌, refl, ap}
 use Rattle.std.proofs.Common.{sym, arith, le-leb}
-use Rattle.std.specs.Prelude.{List, leb, length}
+use Rattle.std.specs.Prelude.{List, leb, length, Option, Some, None, Result, Ok, Err}
 use Prim.Native.Nat.{ℕ, zero, suc, ◌+◌, ◌≤◌, ◌<◌}
 use Rattle.std.proofs.Math.Numerals.{add-one}
 use Rattle.std.proofs.Math.Nat.{zero-add, suc-add}
 use Rattle.std.proofs.lemmas.Bool.{lt-leb}
 use Rattle.laws.specs.Choice.{choose}
-use Rattle.syntax.specs.declared.segment.Scanned.{Scanned}
-use Rattle.syntax.specs.declared.segment.Scanned.TheVariants.{End, NotPermitted, Unended, Malformed}
+use Rattle.syntax.specs.declared.segment.ScanError.{ScanError}
 use Rattle.syntax.specs.Segment.{segment_at}
 use Rattle.syntax.specs.Ends.{end_within}
-use Rattle.lent.specs.declared.Found.{Found}
-use Rattle.lent.specs.declared.Found.TheVariants.{Segment, Over}
+use Rattle.answers.specs.declared.Refusal.{Refusal}
+use Rattle.lent.specs.declared.Segment.{Segment}
 use Rattle.lent.specs.Lent.{scanned_found, segment_found, after_found, offset_after, offset_past}
 
 module _ (s : List ℕ) (at : ℕ) where
-  pub found_over : length s ≤ at → Over ≡ segment_found s at
+  pub found_over : length s ≤ at → Ok None ≡ segment_found s at
   unfolding segment_found
   found_over h = rw (le-leb (length s) at h)
 
-  pub found_told : (x : Scanned) → at < length s → segment_at s at ≡ x → scanned_found s at x ≡ segment_found s at
+  pub found_told : (x : Result ℕ ScanError) → at < length s → segment_at s at ≡ x → scanned_found s at x ≡ segment_found s at
   unfolding segment_found
   found_told x h e = rw (lt-leb (length s) at h) (ap (scanned_found s at) (sym e))
 
-  pub after_found_lem : (x : Found) → segment_found s at ≡ x → after_found at x ≡ offset_after s at
+  pub after_found_lem : (x : Result (Option Segment) Refusal) → segment_found s at ≡ x → after_found at x ≡ offset_after s at
   unfolding offset_after
   after_found_lem x e = ap (after_found at) (sym e)
 
-  told_forward : (x : Scanned) → segment_at s at ≡ x → at ≤ after_found at (scanned_found s at x)
-  told_forward (End e) q = let w = end_within s at e q in omega arith
-  told_forward (NotPermitted i) q = omega arith
-  told_forward Unended q = omega arith
-  told_forward Malformed q = omega arith
+  told_forward : (x : Result ℕ ScanError) → segment_at s at ≡ x → at ≤ after_found at (scanned_found s at x)
+  told_forward (Ok e) q = let w = end_within s at e q in omega arith
+  told_forward (Err error) q = omega arith
 
   -- "The reader walks forward only"
   pub after_forward : at ≤ offset_after s at
   unfolding offset_after segment_found
   after_forward = choose (leb (length s) at) (λ yes. rw yes (omega arith)) (λ no. rw no (told_forward (segment_at s at) refl))
 
-  told_within : (x : Scanned) (tag after : ℕ) → segment_at s at ≡ x → scanned_found s at x ≡ Segment tag after → (at + 4 ≤ after) × (after ≤ length s)
-  told_within (End e) tag after q t = let w = end_within s at e q in let same : e + 1 ≡ after = cc in (omega arith, omega arith)
-  told_within (NotPermitted i) tag after q t = let z : ◌≡◌ {A = ℕ} 0 1 = cc in absurd (omega arith)
-  told_within Unended tag after q t = let z : ◌≡◌ {A = ℕ} 0 1 = cc in absurd (omega arith)
-  told_within Malformed tag after q t = let z : ◌≡◌ {A = ℕ} 0 1 = cc in absurd (omega arith)
+  told_within : (x : Result ℕ ScanError) (g : Segment) → segment_at s at ≡ x → scanned_found s at x ≡ Ok (Some g) → (at + 4 ≤ g.after) × (g.after ≤ length s)
+  told_within (Ok e) g q t =
+      let w = end_within s at e q in
+      let same : e + 1 ≡ g.after = ap (after_found at) t in
+      (omega arith, omega arith)
+  told_within (Err error) g q t = let z : ◌≡◌ {A = ℕ} 0 1 = cc in absurd (omega arith)
 
   -- a segment is passed whole, its tag and its terminator at least, and never past the interchange
-  pub found_within : (tag after : ℕ) → segment_found s at ≡ Segment tag after → (at + 4 ≤ after) × (after ≤ length s)
+  pub found_within : (g : Segment) → segment_found s at ≡ Ok (Some g) → (at + 4 ≤ g.after) × (g.after ≤ length s)
   unfolding segment_found
-  found_within tag after e =
+  found_within g e =
       choose (leb (length s) at)
-      (λ yes. let o : Over ≡ Segment tag after = rw yes at e in let z : ◌≡◌ {A = ℕ} 0 1 = cc in absurd (omega arith))
-      (λ no. told_within (segment_at s at) tag after refl (rw no at e))
+      (λ yes. let o : Ok None ≡ Ok (Some g) = rw yes at e in let z : ◌≡◌ {A = ℕ} 0 1 = cc in absurd (omega arith))
+      (λ no. told_within (segment_at s at) g refl (rw no at e))
 
 module _ (s : List ℕ) where
   pub past_none : offset_past s 0 ≡ 0

@@ -8,17 +8,13 @@ ghost use Rattle.lent.specs.Lent.{offset_after, offset_past};
 ghost use Rattle.lent.specs.Answer.{Told};
 
 use answers::Refusal;
-use syntax::segment::{Scanned, read_segment, tag_at};
+use syntax::segment::{read_segment, tag_at};
 
-/// What stands where the reader has come to.
-#[derive(Clone, Copy)]
-pub enum Found {
-    /// A segment: its tag, and the offset past its terminator.
-    Segment(u32, usize),
-    /// Nothing: the interchange is at its end.
-    Over,
-    /// 4, 5 or 6, with its place.
-    Refused(Refusal),
+/// A segment: its tag, and the offset past its terminator.
+#[derive(Clone, Copy, PartialEq, Eq, Debug)]
+pub struct Segment {
+    pub tag: u32,
+    pub after: usize,
 }
 
 /// A reader over the lent interchange, remembering how far it has come.
@@ -28,19 +24,19 @@ pub struct Reader<'a> {
     at: usize,
 }
 
-/// What stands at an offset of an interchange.
-pub fn segment_at(s: &[u8], at: usize) -> Found
+/// The segment at an offset of an interchange, or none where the interchange is at its end. It is refused with 4, 5 or 6, and its place.
+pub fn segment_at(s: &[u8], at: usize) -> Result<Option<Segment>, Refusal>
     ensures { Told s.now at result }
 {
     if s.len() <= at {
-        return Found::Over;
+        return Ok(None);
     }
-    let scanned = read_segment(s, at);
-    match scanned {
-        Scanned::End(end) => Found::Segment(tag_at(s, at), end + 1),
-        Scanned::NotPermitted(_) => Found::Refused(scanned.refusal(at)),
-        Scanned::Unended => Found::Refused(scanned.refusal(at)),
-        Scanned::Malformed => Found::Refused(scanned.refusal(at)),
+    match read_segment(s, at) {
+        Ok(end) => Ok(Some(Segment {
+            tag: tag_at(s, at),
+            after: end + 1,
+        })),
+        Err(error) => Err(error.refusal(at)),
     }
 }
 
@@ -49,9 +45,9 @@ pub fn offset_after(s: &[u8], at: usize) -> usize
     ensures { result ≡ offset_after s.now at }
 {
     match segment_at(s, at) {
-        Found::Segment(_, after) => after,
-        Found::Over => at,
-        Found::Refused(_) => at,
+        Ok(Some(segment)) => segment.after,
+        Ok(None) => at,
+        Err(_) => at,
     }
 }
 
@@ -63,7 +59,7 @@ pub fn new<'a>(src: &'a [u8]) -> Reader<'a>
 }
 
 /// What stands next.
-pub fn next<'a>(r: Reader<'a>) -> Found
+pub fn next<'a>(r: Reader<'a>) -> Result<Option<Segment>, Refusal>
     ensures { Told r.entry.src.now r.entry.at result }
 {
     segment_at(r.src, r.at)
@@ -80,14 +76,12 @@ pub fn passed<'a>(r: Reader<'a>) -> Reader<'a>
 }
 
 /// What a reader finds once it has passed n segments of an interchange.
-pub fn found_past(s: &[u8], n: usize) -> Found
+pub fn found_past(s: &[u8], n: usize) -> Result<Option<Segment>, Refusal>
     ensures { Told s.now (offset_past s.now n) result }
 {
     let mut r = new(s);
-    let mut i = 0;
-    while i < n {
+    for _ in 0..n {
         r = passed(r);
-        i += 1;
     }
     next(r)
 }

@@ -1,8 +1,8 @@
 -- Bytes that a text names: `~`, which is 126, and two hexadecimal digits.
 -- Assumes nothing.
-use Rattle.std.specs.Prelude.{ℕ, zero, suc, ◌+◌, ◌-◌, ◌*◌, ◌≤◌, ◌<◌, ◌≡◌, ◌⊎◌, eqb, leb, length, get_or, set, take, drop}
+use Rattle.std.specs.Prelude.{Option, Some, None, ℕ, zero, suc, ◌+◌, ◌-◌, ◌*◌, ◌≤◌, ◌<◌, ◌≡◌, ◌⊎◌, eqb, leb, length, get_or, set, take, drop}
 use Rattle.std.proofs.Math.Path.{refl}
-use Rattle.std.proofs.Common.{sym, ap, ◌∙◌, inl, inr, length-drop, length-set, drop-drop}
+use Rattle.std.proofs.Common.{sym, ap, subst, ◌∙◌, inl, inr, length-drop, length-set, drop-drop}
 use mathlib.Core.List.{List, [], ◌∷◌}
 use native.Mathlib.Omega.{arith}
 use Rattle.std.proofs.Math.Seq.{take-nil}
@@ -22,13 +22,13 @@ abbrev sign : ℕ → ℕ → Sign
 sign byte next = record { byte = byte; next = next }
 
 -- the sign at the front of what stands from an index on
-unfoldable pub sign_in : List ℕ → ℕ → Sign
-sign_in [] i = sign 0 i
-sign_in (b ∷ []) i = sign b (i + 1)
-sign_in (b ∷ (x ∷ [])) i = sign b (i + 1)
-sign_in (b ∷ (x ∷ (y ∷ l))) i = pick (eqb b 126) (sign (hex_of x * 16 + hex_of y) (i + 3)) (sign b (i + 1))
+unfoldable pub sign_in : List ℕ → ℕ → Option Sign
+sign_in [] i = None
+sign_in (b ∷ []) i = Some (sign b (i + 1))
+sign_in (b ∷ (x ∷ [])) i = Some (sign b (i + 1))
+sign_in (b ∷ (x ∷ (y ∷ l))) i = Some (pick (eqb b 126) (sign (hex_of x * 16 + hex_of y) (i + 3)) (sign b (i + 1)))
 
-abbrev pub sign_at : List ℕ → ℕ → Sign
+abbrev pub sign_at : List ℕ → ℕ → Option Sign
 sign_at s i = sign_in (drop i s) i
 
 -- the bytes that a text says
@@ -66,38 +66,44 @@ module _ (b : ℕ) where
 
 -- the ways through a sign
 module _ (s : List ℕ) (i : ℕ) where
-  pub sign_none : length s ≤ i → sign 0 i ≡ sign_at s i
+  pub sign_none : length s ≤ i → None ≡ sign_at s i
   unfolding sign_in
   sign_none h = rw (drop_past s i h)
 
   module _ (h : i < length s) where
-    sign_lone : (l : List ℕ) → length l < 3 → 0 < length l → sign (get_or l 0 0) (i + 1) ≡ sign_in l i
+    sign_lone : (l : List ℕ) → length l < 3 → 0 < length l → Some (sign (get_or l 0 0) (i + 1)) ≡ sign_in l i
     unfolding sign_in
     sign_lone [] a b = absurd (omega arith)
     sign_lone (x ∷ []) a b = refl
     sign_lone (x ∷ (y ∷ [])) a b = refl
     sign_lone (x ∷ (y ∷ (z ∷ l))) a b = absurd (omega arith)
 
-    sign_plain : (l : List ℕ) → 0 < length l → (get_or l 0 0 ≡ 126 → ⊥) → sign (get_or l 0 0) (i + 1) ≡ sign_in l i
+    sign_plain : (l : List ℕ) → 0 < length l → (get_or l 0 0 ≡ 126 → ⊥) → Some (sign (get_or l 0 0) (i + 1)) ≡ sign_in l i
     unfolding sign_in
     sign_plain [] a b = absurd (omega arith)
     sign_plain (x ∷ []) a b = refl
     sign_plain (x ∷ (y ∷ [])) a b = refl
     sign_plain (x ∷ (y ∷ (z ∷ l))) a b = rw (ne_eqb x 126 b)
 
-    pub sign_other : (get_or s i 0 ≡ 126 → ⊥) → sign (get_or s i 0) (i + 1) ≡ sign_at s i
+    pub sign_other : (get_or s i 0 ≡ 126 → ⊥) → Some (sign (get_or s i 0) (i + 1)) ≡ sign_at s i
     sign_other q = rw (drop_here s i h) (sign_plain (get_or s i 0 ∷ drop (i + 1) s) (omega arith) q)
 
-    pub sign_short : length s - i < 3 → sign (get_or s i 0) (i + 1) ≡ sign_at s i
+    pub sign_short : length s - i < 3 → Some (sign (get_or s i 0) (i + 1)) ≡ sign_at s i
     sign_short q =
         let l = length-drop (i + 1) s in
         rw (drop_here s i h) (sign_lone (get_or s i 0 ∷ drop (i + 1) s) (omega arith) (omega arith))
 
-    pub sign_coded : get_or s i 0 ≡ 126 → 3 ≤ length s - i → (a b : ℕ) → a ≡ hex_of (get_or s (i + 1) 0) → b ≡ hex_of (get_or s (i + 2) 0) → sign (a * 16 + b) (i + 3) ≡ sign_at s i
+    pub sign_coded : get_or s i 0 ≡ 126 → 3 ≤ length s - i → (a b : ℕ) → a ≡ hex_of (get_or s (i + 1) 0) → b ≡ hex_of (get_or s (i + 2) 0) → Some (sign (a * 16 + b) (i + 3)) ≡ sign_at s i
     unfolding sign_in
     sign_coded q k a b ea eb =
         let e : i + 1 + 1 ≡ i + 2 = omega arith in
         rw (drop_here s i h, drop_here s (i + 1) (omega arith), e, drop_here s (i + 2) (omega arith), eq-eqb (get_or s i 0) 126 q, ea, eb)
+
+none≢some : {x : Sign} → ◌≡◌ {A = Option Sign} None (Some x) → ⊥
+none≢some q = let z : ◌≡◌ {A = ℕ} 0 1 = cc in omega arith
+
+some_is : {x y : Sign} → Some x ≡ Some y → x ≡ y
+some_is q = cc
 
 -- a sign takes one byte or three, and the text goes on behind it
 past_one : (i : ℕ) → i + 1 - i ≡ 1
@@ -106,29 +112,44 @@ past_one i = omega arith
 past_three : (i : ℕ) → i + 3 - i ≡ 3
 past_three i = omega arith
 
-said_sign : (l : List ℕ) (i : ℕ) → 0 < length l → (i < (sign_in l i).next) × (said l ≡ (sign_in l i).byte ∷ said (drop ((sign_in l i).next - i) l))
+pub record Said (l : List ℕ) (i : ℕ) (x : Sign) : Type 0 where
+  pub some : 0 < length l
+  pub further : i < x.next
+  pub says : said l ≡ x.byte ∷ said (drop (x.next - i) l)
+
+said_sign : (l : List ℕ) (i : ℕ) (x : Sign) → sign_in l i ≡ Some x → Said l i x
 unfolding sign_in said
-said_sign [] i h = absurd (omega arith)
-said_sign (b ∷ []) i h = (omega arith, rw (past_one i))
-said_sign (b ∷ (x ∷ [])) i h = (omega arith, rw (past_one i))
-said_sign (b ∷ (x ∷ (y ∷ l))) i h =
-    choose (eqb b 126) (λ q. rw q (omega arith, rw (past_three i))) (λ q. rw q (omega arith, rw (past_one i)))
+said_sign [] i x q = absurd (none≢some q)
+said_sign (b ∷ []) i x q = subst (Said (b ∷ []) i) (some_is q) (record { some = omega arith; further = omega arith; says = rw (past_one i) })
+said_sign (b ∷ (c ∷ [])) i x q = subst (Said (b ∷ c ∷ []) i) (some_is q) (record { some = omega arith; further = omega arith; says = rw (past_one i) })
+said_sign (b ∷ (c ∷ (d ∷ l))) i x q =
+    subst (Said (b ∷ c ∷ d ∷ l) i) (some_is q)
+    (choose (eqb b 126) (λ p. rw p (record { some = omega arith; further = omega arith; says = rw (p, past_three i) })) (λ p. rw p (record { some = omega arith; further = omega arith; says = rw (p, past_one i) })))
 
-module _ (s : List ℕ) (i : ℕ) where
-  pub sign_forward : i < length s → i < (sign_at s i).next
-  sign_forward h = let l = length-drop i s in (said_sign (drop i s) i (omega arith)).0
+module _ (s : List ℕ) (i : ℕ) (x : Sign) (q : sign_at s i ≡ Some x) where
+  pub sign_forward : i < x.next
+  sign_forward = (said_sign (drop i s) i x q).further
 
-  pub said_on : i < length s → said (drop i s) ≡ (sign_at s i).byte ∷ said (drop (sign_at s i).next s)
-  said_on h =
-      let l = length-drop i s in
-      let w = said_sign (drop i s) i (omega arith) in
-      let f = w.0 in
-      let e : i + ((sign_at s i).next - i) ≡ (sign_at s i).next = omega arith in
-      w.1 ∙ ap (λ (x : List ℕ). (sign_at s i).byte ∷ said x) (drop-drop ((sign_at s i).next - i) i s ∙ ap (λ (k : ℕ). drop k s) e)
+  pub sign_inside : i < length s
+  sign_inside = let h = (said_sign (drop i s) i x q).some in let l = length-drop i s in omega arith
 
-  pub said_none : length s ≤ i → said (drop i s) ≡ []
-  unfolding said
-  said_none h = rw (drop_past s i h)
+  pub said_on : said (drop i s) ≡ x.byte ∷ said (drop x.next s)
+  said_on =
+      let w = said_sign (drop i s) i x q in
+      let f = w.further in
+      let e : i + (x.next - i) ≡ x.next = omega arith in
+      w.says ∙ ap (λ (y : List ℕ). x.byte ∷ said y) (drop-drop (x.next - i) i s ∙ ap (λ (k : ℕ). drop k s) e)
+
+-- past the last sign nothing is said
+ended : (l : List ℕ) (i : ℕ) → sign_in l i ≡ None → said l ≡ []
+unfolding sign_in said
+ended [] i q = refl
+ended (b ∷ []) i q = absurd (none≢some (sym q))
+ended (b ∷ (c ∷ [])) i q = absurd (none≢some (sym q))
+ended (b ∷ (c ∷ (d ∷ l))) i q = absurd (none≢some (sym q))
+
+pub said_none : (s : List ℕ) (i : ℕ) → sign_at s i ≡ None → said (drop i s) ≡ []
+said_none s i q = ended (drop i s) i q
 
 -- a text being written: n bytes stand, and those behind them are still to come
 pub record Writing (text out₀ : List ℕ) (n : ℕ) (out rest : List ℕ) : Type 0 where
@@ -152,12 +173,12 @@ module _ (text out₀ : List ℕ) where
         goes = rw sub-zero;
       }
 
-  pub writing_on : (n i : ℕ) (out : List ℕ) (x : Sign) → Writing text out₀ n out (said (drop i text)) → i < length text → n < length out → x ≡ sign_at text i
+  pub writing_on : (n i : ℕ) (out : List ℕ) (x : Sign) → Writing text out₀ n out (said (drop i text)) → n < length out → sign_at text i ≡ Some x
       → Writing text out₀ (n + 1) (set out n x.byte) (said (drop x.next text))
-  writing_on n i out x w hi hn q =
+  writing_on n i out x w hn q =
       let a = w.same in
       let e : length out₀ - n ≡ suc (length out₀ - (n + 1)) = omega arith in
-      let r : said (drop i text) ≡ x.byte ∷ said (drop x.next text) = said_on text i hi ∙ ap (λ (y : Sign). y.byte ∷ said (drop y.next text)) (sym q) in
+      let r : said (drop i text) ≡ x.byte ∷ said (drop x.next text) = said_on text i x q in
       let t : take (length out₀ - n) (said (drop i text)) ≡ x.byte ∷ take (length out₀ - (n + 1)) (said (drop x.next text)) = rw (r, e) in
       let c = w.count in
       let l = ap length t in

@@ -4,22 +4,15 @@ ghost use Rattle.std.specs.Prelude.{◌≡◌, ◌<◌, length};
 ghost use Rattle.laws.specs.Put.{put_at};
 ghost use Rattle.lines.specs.Coded.{hex_of, sign_at, fitting};
 
+#[tactic(auto, unfolding(crate::specs::Coded::hex_of, crate::specs::Numbers::is_digit))]
 fn hexadecimal(b: u8) -> u8
     ensures { (result ≡ hex_of b) × (result < 16) }
 {
-    if b < b'0' {
-        return 0;
+    match b {
+        b'0'..=b'9' => b - b'0',
+        b'A'..=b'F' => b - b'A' + 10,
+        _ => 0,
     }
-    if b <= b'9' {
-        return b - b'0';
-    }
-    if b < b'A' {
-        return 0;
-    }
-    if b <= b'F' {
-        return b - b'A' + 10;
-    }
-    0
 }
 
 /// A byte that a text says, and the index past the sign for it.
@@ -30,31 +23,25 @@ pub struct Sign {
 }
 
 /// The sign at an index. A `~` with fewer than two bytes behind it stands for itself; past the end there is none.
-pub fn sign_at(text: &[u8], i: usize) -> Sign
+pub fn sign_at(text: &[u8], i: usize) -> Option<Sign>
     ensures { result ≡ sign_at text.now i }
 {
     if text.len() <= i {
-        return Sign { byte: 0, next: i };
+        return None;
     }
     let b = text[i];
-    if b != b'~' {
-        return Sign {
+    if b != b'~' || text.len() - i < 3 {
+        return Some(Sign {
             byte: b,
             next: i + 1,
-        };
-    }
-    if text.len() - i < 3 {
-        return Sign {
-            byte: b,
-            next: i + 1,
-        };
+        });
     }
     let high = hexadecimal(text[i + 1]);
     let low = hexadecimal(text[i + 2]);
-    Sign {
+    Some(Sign {
         byte: high * 16 + low,
         next: i + 3,
-    }
+    })
 }
 
 /// What a text says over the front of the bytes lent, as far as they reach; how many bytes were written.
@@ -64,11 +51,10 @@ pub fn decode(text: &[u8], out: &mut [u8]) -> usize
 {
     let mut n = 0;
     let mut i = 0;
-    while i < text.len() {
+    while let Some(sign) = sign_at(text, i) {
         if out.len() <= n {
             return n;
         }
-        let sign = sign_at(text, i);
         out[n] = sign.byte;
         n += 1;
         i = sign.next;

@@ -17,14 +17,12 @@ pub use standard::{four_digits, letters, read_input, say, say_line, say_number, 
 fn end_at(s: &[u8], from: usize, mark: u8) -> usize
     ensures { result ≡ end_at s.now from mark }
 {
-    let mut i = from;
-    while i < s.len() {
+    for i in from..s.len() {
         if s[i] == mark {
             return i;
         }
-        i += 1;
     }
-    i
+    from.max(s.len())
 }
 
 /// The bytes from an index up to the next mark, or to the end: a line, a field, a word.
@@ -51,10 +49,8 @@ pub fn field(line: &[u8], k: usize) -> usize
     ensures { result ≡ field_at line.now k }
 {
     let mut at = 0;
-    let mut left = k;
-    while 0 < left {
+    for _ in 0..k {
         at = past(line, at, b'\t');
-        left -= 1;
     }
     at
 }
@@ -63,18 +59,13 @@ pub fn field(line: &[u8], k: usize) -> usize
 pub fn number(s: &[u8], from: usize) -> usize
     ensures { result ≡ number_said s.now from }
 {
-    let mut i = from;
     let mut value = 0;
-    while i < s.len() {
+    for i in from..s.len() {
         let b = s[i];
-        if b < b'0' {
-            return value;
-        }
-        if b'9' < b {
+        if b < b'0' || b'9' < b {
             return value;
         }
         value = value % 1000000000000000000 * 10 + (b - b'0') as usize;
-        i += 1;
     }
     value
 }

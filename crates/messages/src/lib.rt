@@ -6,7 +6,7 @@ ghost use Rattle.std.specs.Prelude.{◌≡◌};
 ghost use Rattle.messages.specs.Types.{is_12b, is_period};
 
 /// The type of a message, and the directory that it is of: D.04A, or D.12B where the name says so.
-#[derive(Clone, Copy)]
+#[derive(Clone, Copy, PartialEq, Eq)]
 pub enum MessageType {
     Skdupd,
     Tsdupd,
@@ -110,25 +110,12 @@ pub const UIZ: u32 = 0x55495a;
 pub fn is_12b(message: MessageType) -> bool
     ensures { result ≡ is_12b message }
 {
-    match message {
-        MessageType::Skdupd => false,
-        MessageType::Tsdupd => false,
-        MessageType::Tsdupd12B => true,
-    }
+    message == MessageType::Tsdupd12B
 }
 
 /// Whether a segment is a period that is read: POP in group 4 of SKDUPD.
 pub fn is_period(message: MessageType, tag: u32, group: u32) -> bool
     ensures { result ≡ is_period message tag group }
 {
-    match message {
-        MessageType::Skdupd => {
-            if tag != POP {
-                return false;
-            }
-            group == 4
-        }
-        MessageType::Tsdupd => false,
-        MessageType::Tsdupd12B => false,
-    }
+    message == MessageType::Skdupd && tag == POP && group == 4
 }

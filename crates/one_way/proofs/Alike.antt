@@ -1,5 +1,6 @@
 -- From a place that the placing rule reaches, its choices are the ways on, one by one. Assumes nothing.
-use Rattle.std.specs.Prelude.{◌≡◌, Bool, false, T, eqb}
+use Rattle.std.specs.Option.{option_or}
+use Rattle.std.specs.Prelude.{◌≡◌, Bool, false, T, eqb, Option, Some, None, is_some}
 use Rattle.std.proofs.Math.Path.{refl, sym, ap, subst, subst⁻¹}
 use Rattle.std.proofs.Common.{◌∙◌, arith, add-one}
 use Rattle.std.proofs.Math.Bool.{true}
@@ -10,11 +11,9 @@ use borrow.Author.Tests.{lt-ltb}
 use Rattle.std.proofs.Math.Dec.{ltb}
 use Rattle.laws.specs.Choice.{pick, both, either_false}
 use Rattle.placing.specs.declared.Place.{Place}
-use Rattle.placing.specs.declared.Stepped.{Stepped}
-use Rattle.placing.specs.declared.Stepped.TheVariants.{Placed, OutOfPlace}
 use Rattle.placing.specs.Table.{Table, rows, conditional, most, level_of, outer, after_of, end_of, places, later}
 use Rattle.placing.specs.Place.{count_at}
-use Rattle.placing.specs.Rule.{reachable, none_left, Choice, go, again, later_ones, choices_from, choices, chosen, or_stepped, first_of, step_of, is_placed}
+use Rattle.placing.specs.Rule.{reachable, none_left, Choice, go, again, later_ones, choices_from, choices, chosen, first_of, step_of}
 use Rattle.placing.proofs.Walks.{after_grows, places_end, places_past, places_step}
 use Rattle.placing.specs.WellFormed.{well_formed}
 use Rattle.placing.proofs.Formed.{some_number, standing, unbound}
@@ -26,11 +25,11 @@ use Rattle.one_way.proofs.Reach.{Reach, Way, to, more, Found, at, nowhere, first
 use Rattle.one_way.proofs.Levels.{levels, reach_of, above, Open, OpenAbove, Inside}
 use Rattle.one_way.proofs.Step.{Same, Leads, one_same}
 
-same_or : (t : Table) (a c : Stepped) (b : Bool) (r : Reach) (f : Found) → Same t a (pick b (at r) nowhere) → Same t c f → Same t (or_stepped a c) (pick b (at r) f)
-same_or t (Placed q) c true r f h k = h
-same_or t (Placed q) c false r f h k = absurd h
-same_or t OutOfPlace c true r f h k = absurd h
-same_or t OutOfPlace c false r f h k = k
+same_or : (t : Table) (a c : Option Place) (b : Bool) (r : Reach) (f : Found) → Same t a (pick b (at r) nowhere) → Same t c f → Same t (option_or a c) (pick b (at r) f)
+same_or t (Some q) c true r f h k = h
+same_or t (Some q) c false r f h k = absurd h
+same_or t None c true r f h k = absurd h
+same_or t None c false r f h k = k
 
 pick_nil : (b : Bool) → ◌≡◌ {A = List Choice} (pick b [] []) []
 pick_nil true = refl
@@ -173,11 +172,11 @@ module _ (t : Table) (good : T (well_formed t)) (p : Place) where
 
 -- So they take the same step, and a tag fits as many
 
-same_placed : (t : Table) (s : Stepped) (b : Bool) (r : Reach) → Same t s (pick b (at r) nowhere) → is_placed s ≡ b
-same_placed t (Placed q) true r h = refl
-same_placed t (Placed q) false r h = absurd h
-same_placed t OutOfPlace true r h = absurd h
-same_placed t OutOfPlace false r h = refl
+same_placed : (t : Table) (s : Option Place) (b : Bool) (r : Reach) → Same t s (pick b (at r) nowhere) → is_some s ≡ b
+same_placed t (Some q) true r h = refl
+same_placed t (Some q) false r h = absurd h
+same_placed t None true r h = absurd h
+same_placed t None false r h = refl
 
 module _ (t : Table) (good : T (well_formed t)) (p : Place) (x : ℕ) where
   alike_first : (k : List Choice) (m : List Way) → Alike t good p k m → Same t (first_of t p x k) (first_fit x m)

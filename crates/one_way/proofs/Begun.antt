@@ -1,10 +1,8 @@
 -- Where a message begins, and that one way at most fits from every place reached in it. Assumes nothing.
-use Rattle.std.specs.Prelude.{◌≡◌, refl, ℕ, zero, suc, ◌-◌, ◌≤◌, ◌<◌, T}
+use Rattle.std.specs.Prelude.{◌≡◌, refl, ℕ, zero, suc, ◌-◌, ◌≤◌, ◌<◌, T, Option, Some, None}
 use Rattle.std.proofs.Common.{sym, ◌∙◌, ap, arith}
 use Rattle.std.proofs.Math.Path.{subst}
 use Rattle.placing.specs.declared.Place.{Place}
-use Rattle.placing.specs.declared.Stepped.{Stepped}
-use Rattle.placing.specs.declared.Stepped.TheVariants.{Placed, OutOfPlace}
 use Rattle.placing.specs.Table.{Table, rows, level_of, outer, after_of, end_of}
 use Rattle.placing.specs.Rule.{step_of}
 use Rattle.placing.specs.WellFormed.{well_formed}
@@ -33,9 +31,9 @@ module _ (t : Table) (good : T (well_formed t)) where
     abbrev pub Fine : Reach → Type 0
     Fine r = (p : Place) × Reached t p × (reach_of t p ≡ r)
 
-    fine_by : (q : Reach) (s : Stepped) → ((u : Place) → s ≡ Placed u → Reached t u) → Same t s (at q) → Fine q
-    fine_by q (Placed u) c k = (u, c u refl, k.0)
-    fine_by q OutOfPlace c k = absurd k
+    fine_by : (q : Reach) (s : Option Place) → ((u : Place) → s ≡ Some u → Reached t u) → Same t s (at q) → Fine q
+    fine_by q (Some u) c k = (u, c u refl, k.0)
+    fine_by q None c k = absurd k
 
     pub clear : (r : Reach) → Fine r → Clear t Fine r
     unfolding reach_of

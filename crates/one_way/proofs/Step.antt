@@ -1,16 +1,13 @@
 -- One choice of the placing rule is one way on: the same tag fits, and it leads to the same place. Assumes nothing.
-use Rattle.std.specs.Prelude.{◌≡◌, refl, Bool, true, false, ◌∷◌, ℕ, suc, ◌+◌, ◌-◌, ◌≤◌, ◌<◌, T, eqb}
+use Rattle.std.specs.Prelude.{◌≡◌, refl, Bool, true, false, ◌∷◌, ℕ, suc, ◌+◌, ◌-◌, ◌≤◌, ◌<◌, T, eqb, Option, Some, None}
 use Rattle.std.proofs.Common.{sym, ◌∙◌, subst, arith, eqb-true, eq-eqb, ne_eqb}
 use Rattle.std.proofs.Math.Path.{ap, ap₂, subst⁻¹}
 use Rattle.std.proofs.lemmas.Bool.{eqb-false}
 use Rattle.laws.specs.Choice.{pick, eqb_comm}
 use Rattle.placing.specs.declared.Place.{Place}
-use Rattle.placing.specs.declared.Fit.TheVariants.{At, Nowhere}
-use Rattle.placing.specs.declared.Stepped.{Stepped}
-use Rattle.placing.specs.declared.Stepped.TheVariants.{Placed, OutOfPlace}
 use Rattle.placing.specs.Table.{Table, rows, tag_at, is_group, level_of, outer, after_of, end_of, places, held, later}
 use Rattle.placing.specs.Place.{reached_of}
-use Rattle.placing.specs.Rule.{Choice, fits, go, placed_at, chosen}
+use Rattle.placing.specs.Rule.{Choice, fit_at, fits, go, placed_at, chosen}
 use Rattle.placing.specs.WellFormed.{well_formed}
 use Rattle.placing.proofs.Formed.{trigger, trigger_in, segment_fits, group_fits}
 use Rattle.placing.proofs.Message.{kept_inner, level_most}
@@ -19,21 +16,21 @@ use Rattle.one_way.proofs.Reach.{Reach, level, Found, at, nowhere, entered, held
 use Rattle.one_way.proofs.Levels.{levels, reach_of, above, Open, OpenAbove, Inside, levels_here, open_here}
 
 -- the two answers are the same
-abbrev pub Same : Table → Stepped → Found → Type 0
-Same t (Placed q) (at r) = (reach_of t q ≡ r) × Inside t q
-Same t (Placed q) nowhere = ⊥
-Same t OutOfPlace (at r) = ⊥
-Same t OutOfPlace nowhere = Unit {0}
+abbrev pub Same : Table → Option Place → Found → Type 0
+Same t (Some q) (at r) = (reach_of t q ≡ r) × Inside t q
+Same t (Some q) nowhere = ⊥
+Same t None (at r) = ⊥
+Same t None nowhere = Unit {0}
 
 -- one tag alone fits a choice, and it leads there
 abbrev pub Leads : Table → Place → Choice → ℕ → Reach → Type 0
 Leads t p c x r = (tag : ℕ) → Same t (chosen t p tag c) (pick (eqb tag x) (at r) nowhere)
 
-same_pick : (t : Table) (b : Bool) (q : Place) (r : Reach) → reach_of t q ≡ r → Inside t q → Same t (pick b (Placed q) OutOfPlace) (pick b (at r) nowhere)
+same_pick : (t : Table) (b : Bool) (q : Place) (r : Reach) → reach_of t q ≡ r → Inside t q → Same t (pick b (Some q) None) (pick b (at r) nowhere)
 same_pick t true q r e i = (e, i)
 same_pick t false q r e i = tt
 
-placed_pick : (p : Place) (l n r d : ℕ) (b : Bool) → placed_at p l n (pick b (At r d) Nowhere) ≡ pick b (Placed (reached_of p l n r (4 - d))) OutOfPlace
+placed_pick : (p : Place) (l n r d : ℕ) (b : Bool) → placed_at p l n (pick b (fit_at r d) None) ≡ pick b (Some (reached_of p l n r (4 - d))) None
 placed_pick p l n r d true = refl
 placed_pick p l n r d false = refl
 
@@ -103,19 +100,19 @@ module _ (t : Table) (good : T (well_formed t)) (p : Place) (row l n : ℕ) (the
       let k = lower g in
       let a : 4 - l ≡ suc (3 - l) = omega arith in
       let b : 4 - (3 - l) ≡ suc l = omega arith in
-      let c : chosen t p tag (go row l (suc n)) ≡ pick (eqb tag (tag_at t (row + 1))) (Placed trigger_at) OutOfPlace
+      let c : chosen t p tag (go row l (suc n)) ≡ pick (eqb tag (tag_at t (row + 1))) (Some trigger_at) None
       = ap (placed_at p l (suc n)) (ap (λ d. fits d t tag row) a ∙ group_fits t good row there g (3 - l) tag)
       ∙ placed_pick p l (suc n) (row + 1) (3 - l) (eqb (tag_at t (row + 1)) tag)
-      ∙ ap₂ (λ y x. pick y (Placed (reached_of p l (suc n) (row + 1) x)) OutOfPlace) (eqb_comm (tag_at t (row + 1)) tag) b in
+      ∙ ap₂ (λ y x. pick y (Some (reached_of p l (suc n) (row + 1) x)) None) (eqb_comm (tag_at t (row + 1)) tag) b in
       subst⁻¹ (λ x. Same t x (pick (eqb tag (tag_at t (row + 1))) (at (level (held t row) 1 in_row)) nowhere)) c
       (same_pick t (eqb tag (tag_at t (row + 1))) trigger_at (level (held t row) 1 in_row) (trigger_reach g) (trigger_inside g))
   one_by false e tag =
       let s = eqb-false (tag_at t row) 0 e in
       let d : 4 - (4 - l) ≡ l = omega (arith, low) in
-      let c : chosen t p tag (go row l (suc n)) ≡ pick (eqb tag (tag_at t row)) (Placed segment_at) OutOfPlace
+      let c : chosen t p tag (go row l (suc n)) ≡ pick (eqb tag (tag_at t row)) (Some segment_at) None
       = ap (placed_at p l (suc n)) (segment_fits (4 - l) t tag row s)
       ∙ placed_pick p l (suc n) row (4 - l) (eqb (tag_at t row) tag)
-      ∙ ap₂ (λ y x. pick y (Placed (reached_of p l (suc n) row x)) OutOfPlace) (eqb_comm (tag_at t row) tag) d in
+      ∙ ap₂ (λ y x. pick y (Some (reached_of p l (suc n) row x)) None) (eqb_comm (tag_at t row) tag) d in
       subst⁻¹ (λ x. Same t x (pick (eqb tag (tag_at t row)) (at in_row) nowhere)) c
       (same_pick t (eqb tag (tag_at t row)) segment_at in_row segment_reach (segment_inside e))
 

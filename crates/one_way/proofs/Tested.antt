@@ -1,5 +1,5 @@
 -- Where the test of a table holds, one of the placing rule's choices at most fits a tag, from any place reached. Assumes nothing.
-use Rattle.std.specs.Prelude.{◌≡◌, Bool, true, false, not, T, eqb, ltb}
+use Rattle.std.specs.Prelude.{◌≡◌, Bool, true, false, not, T, eqb, ltb, Some}
 use Rattle.std.proofs.Math.Path.{refl, sym, ap}
 use Rattle.std.proofs.Common.{◌∙◌, subst}
 use mathlib.Core.List.{List, [], ◌∷◌, map}
@@ -9,7 +9,6 @@ use borrow.Author.Tests.{eqb-true, ltb-true, lt-ltb, le-leb, not-true}
 use Rattle.laws.specs.Choice.{pick, either, choose, both_left, both_right, both_parts, either_parts, either_right, holds, among}
 use Rattle.laws.specs.Sweep.{below, at}
 use Rattle.placing.specs.declared.Place.{Place}
-use Rattle.placing.specs.declared.Stepped.TheVariants.{Placed}
 use Rattle.placing.specs.Table.{Table, rows, is_group, conditional, most, level_of, outer, later}
 use Rattle.placing.specs.Place.{count_at, reached_of, start_place}
 use Rattle.placing.specs.Rule.{Choice, choices}
@@ -24,7 +23,7 @@ use Rattle.one_way.proofs.Alike.{Alike, choices_alike, step_same, fits_same, fir
 
 -- Every place reached is inside
 
-same_inside : (t : Table) (q : Place) (f : Found) → Same t (Placed q) f → Inside t q
+same_inside : (t : Table) (q : Place) (f : Found) → Same t (Some q) f → Inside t q
 same_inside t q (found r) h = h.1
 same_inside t q nowhere h = absurd h
 

@@ -1,15 +1,13 @@
 -- The placing rule's walk over the tags of a message is the walk by the ways on. Assumes nothing.
-use Rattle.std.specs.Prelude.{◌≡◌, refl, Bool, true, false, ℕ, zero, suc, ◌+◌, ◌≤◌, T}
+use Rattle.std.specs.Prelude.{◌≡◌, refl, Bool, true, false, ℕ, zero, suc, ◌+◌, ◌≤◌, T, Option, Some, None, is_some}
 use Rattle.std.proofs.Common.{sym, ◌∙◌, arith}
 use Rattle.std.proofs.Math.Path.{ap, subst}
 use mathlib.Core.List.{List, [], ◌∷◌, ◌++◌, map}
 use Rattle.laws.specs.Choice.{pick, both, all, false≢true}
 use Rattle.placing.specs.declared.Place.{Place}
-use Rattle.placing.specs.declared.Stepped.{Stepped}
-use Rattle.placing.specs.declared.Stepped.TheVariants.{Placed, OutOfPlace}
 use Rattle.placing.specs.Table.{Table, rows, level_of, outer, after_of, end_of, later}
 use Rattle.placing.specs.Place.{count_at}
-use Rattle.placing.specs.Rule.{step_of, is_placed}
+use Rattle.placing.specs.Rule.{step_of}
 use Rattle.placing.proofs.Walks.{after_grows, places_past}
 use Rattle.placing.specs.WellFormed.{well_formed}
 use Rattle.placing.proofs.Laws.{only_at, only_there}
@@ -25,7 +23,7 @@ unfolding levels path where_on
 path_levels t p zero row = refl
 path_levels t p (suc l) row = ap (λ w. (row, count_at p (suc l)) ∷ w) (path_levels t p l (outer t row))
 
-path_reach : (t : Table) (p : Place) → path (reach_of t p) ≡ where_of t (Placed p)
+path_reach : (t : Table) (p : Place) → path (reach_of t p) ≡ where_of t (Some p)
 unfolding reach_of
 path_reach t p = path_levels t p (level_of t p.row) p.row
 
@@ -36,38 +34,38 @@ nothing_more false l e = let z : ◌≡◌ {A = ℕ} 0 1 = cc in absurd (omega a
 module _ (t : Table) (good : T (well_formed t)) where
   -- One step
 
-  step_by : (r : Reach) (x : ℕ) (w : List ℕ) (q : Place) (f : Found) → first_fit x (ways t r) ≡ f → Same t (Placed q) f
-      → Inside t q × (put t r (x ∷ w) ≡ behind (where_of t (Placed q)) (put t (reach_of t q) w))
+  step_by : (r : Reach) (x : ℕ) (w : List ℕ) (q : Place) (f : Found) → first_fit x (ways t r) ≡ f → Same t (Some q) f
+      → Inside t q × (put t r (x ∷ w) ≡ behind (where_of t (Some q)) (put t (reach_of t q) w))
   unfolding put
   step_by r x w q (at s) e h =
       (h.1, ap (onward (λ y. put t y w)) e ∙ ap (λ y. behind (path y) (put t y w)) (sym h.0) ∙ ap (λ k. behind k (put t (reach_of t q) w)) (path_reach t q))
   step_by r x w q nowhere e h = absurd h
 
-  out_by : (r : Reach) (x : ℕ) (w : List ℕ) (f : Found) → first_fit x (ways t r) ≡ f → Same t OutOfPlace f → put t r (x ∷ w) ≡ refused
+  out_by : (r : Reach) (x : ℕ) (w : List ℕ) (f : Found) → first_fit x (ways t r) ≡ f → Same t None f → put t r (x ∷ w) ≡ refused
   unfolding put
   out_by r x w (at s) e h = absurd h
   out_by r x w nowhere e h = ap (onward (λ y. put t y w)) e
 
   -- From the ways on to the rule's walk
 
-  abbrev Walks : Stepped → List ℕ → List Where → Type 0
-  Walks s w l = (all is_placed (walked t s w) ≡ true) × (map (where_of t) (walked t s w) ≡ l)
+  abbrev Walks : Option Place → List ℕ → List Where → Type 0
+  Walks s w l = (all is_some (walked t s w) ≡ true) × (map (where_of t) (walked t s w) ≡ l)
 
   -- one segment, and what follows it
-  walks_on : (r : Reach) (x : ℕ) (w : List ℕ) (l : List Where) (s : Stepped) → Same t s (first_fit x (ways t r))
-      → ((q : Place) (m : List Where) → Inside t q → put t (reach_of t q) w ≡ placed m → Walks (Placed q) w m) → put t r (x ∷ w) ≡ placed l
-      → (both (is_placed s) (all is_placed (walked t s w)) ≡ true) × (where_of t s ∷ map (where_of t) (walked t s w) ≡ l)
-  walks_on r x w l (Placed q) same ih e =
+  walks_on : (r : Reach) (x : ℕ) (w : List ℕ) (l : List Where) (s : Option Place) → Same t s (first_fit x (ways t r))
+      → ((q : Place) (m : List Where) → Inside t q → put t (reach_of t q) w ≡ placed m → Walks (Some q) w m) → put t r (x ∷ w) ≡ placed l
+      → (both (is_some s) (all is_some (walked t s w)) ≡ true) × (where_of t s ∷ map (where_of t) (walked t s w) ≡ l)
+  walks_on r x w l (Some q) same ih e =
       let k = step_by r x w q (first_fit x (ways t r)) refl same in
-      let c = placed_parts (where_of t (Placed q)) (put t (reach_of t q) w) l (sym k.1 ∙ e) in
+      let c = placed_parts (where_of t (Some q)) (put t (reach_of t q) w) l (sym k.1 ∙ e) in
       let h = ih q c.0 k.0 c.1 in
-      (h.0, ap (λ m. where_of t (Placed q) ∷ m) h.1 ∙ sym c.2)
-  walks_on r x w l OutOfPlace same ih e =
+      (h.0, ap (λ m. where_of t (Some q) ∷ m) h.1 ∙ sym c.2)
+  walks_on r x w l None same ih e =
       let f : refused ≡ placed l = sym (out_by r x w (first_fit x (ways t r)) refl same) ∙ e in
       let z : ◌≡◌ {A = ℕ} 0 1 = cc in
       absurd (omega arith)
 
-  put_walks : (w : List ℕ) (p : Place) (l : List Where) → Inside t p → put t (reach_of t p) w ≡ placed l → Walks (Placed p) w l
+  put_walks : (w : List ℕ) (p : Place) (l : List Where) → Inside t p → put t (reach_of t p) w ≡ placed l → Walks (Some p) w l
   unfolding put walked
   put_walks [] p l i e = (refl, nothing_more (may_end t (reach_of t p)) l e)
   put_walks (x ∷ w) p l i e = walks_on (reach_of t p) x w l (step_of t p x) (step_same t good p i x) (λ q m j d. put_walks w q m j d) e
@@ -92,14 +90,14 @@ module _ (t : Table) (good : T (well_formed t)) where
         = ap (λ l. levels l t q q.row) d ∙ ap (λ x. levels 0 t q x) e ∙ ap (λ l. level (last ∷ l) (count_at q 0) outside) none in
         ap (λ y. put t y []) r ∙ rw (pass_some t last (count_at q 0) n)
 
-    walks_by : (r : Reach) (x : ℕ) (w : List ℕ) (s : Stepped) → Same t s (first_fit x (ways t r))
-        → ((q : Place) → Inside t q → s ≡ Placed q → all is_placed (walked t (Placed q) w) ≡ true → put t (reach_of t q) w ≡ placed (map (where_of t) (walked t (Placed q) w)))
-        → both (is_placed s) (all is_placed (walked t s w)) ≡ true → put t r (x ∷ w) ≡ placed (where_of t s ∷ map (where_of t) (walked t s w))
-    walks_by r x w (Placed q) same ih h = let k = step_by r x w q (first_fit x (ways t r)) refl same in k.1 ∙ ap (behind (where_of t (Placed q))) (ih q k.0 refl h)
-    walks_by r x w OutOfPlace same ih h = absurd (false≢true h)
+    walks_by : (r : Reach) (x : ℕ) (w : List ℕ) (s : Option Place) → Same t s (first_fit x (ways t r))
+        → ((q : Place) → Inside t q → s ≡ Some q → all is_some (walked t (Some q) w) ≡ true → put t (reach_of t q) w ≡ placed (map (where_of t) (walked t (Some q) w)))
+        → both (is_some s) (all is_some (walked t s w)) ≡ true → put t r (x ∷ w) ≡ placed (where_of t s ∷ map (where_of t) (walked t s w))
+    walks_by r x w (Some q) same ih h = let k = step_by r x w q (first_fit x (ways t r)) refl same in k.1 ∙ ap (behind (where_of t (Some q))) (ih q k.0 refl h)
+    walks_by r x w None same ih h = absurd (false≢true h)
 
-    walks_put : (v : List ℕ) (p : Place) → Inside t p → all is_placed (walked t (Placed p) (v ++ (u ∷ []))) ≡ true
-        → put t (reach_of t p) (v ++ (u ∷ [])) ≡ placed (map (where_of t) (walked t (Placed p) (v ++ (u ∷ []))))
+    walks_put : (v : List ℕ) (p : Place) → Inside t p → all is_some (walked t (Some p) (v ++ (u ∷ []))) ≡ true
+        → put t (reach_of t p) (v ++ (u ∷ [])) ≡ placed (map (where_of t) (walked t (Some p) (v ++ (u ∷ []))))
     unfolding walked
     walks_put [] p i h = walks_by (reach_of t p) u [] (step_of t p u) (step_same t good p i u) (λ q j e k. ends_last q j (only_there t p u last alone q e)) h
     walks_put (x ∷ v) p i h = walks_by (reach_of t p) x (v ++ (u ∷ [])) (step_of t p x) (step_same t good p i x) (λ q j e k. walks_put v q j k) h

@@ -1,11 +1,10 @@
 -- A whole message: what is left of it before its first segment is its arrangement. Assumes nothing.
-use Rattle.std.specs.Prelude.{◌≡◌, true, ℕ, ◌<◌, T, eqb}
+use Rattle.std.specs.Prelude.{◌≡◌, true, ℕ, ◌<◌, T, eqb, Some}
 use Rattle.std.proofs.Math.Path.{sym, ap}
 use Rattle.std.proofs.Common.{◌∙◌, arith}
 use mathlib.Core.List.{List, [], ◌∷◌, map, append-nil}
 use borrow.Author.Tests.{eqb-false, eq-eqb}
 use Rattle.messages.specs.Tags.{UIH}
-use Rattle.placing.specs.declared.Stepped.TheVariants.{Placed}
 use Rattle.placing.specs.Table.{Table, rows, tag_at, group_at}
 use Rattle.placing.specs.Place.{start_place}
 use Rattle.placing.specs.Rule.{reachable, go, first_of}
@@ -53,7 +52,7 @@ module _ (t : Table) (last : ℕ) (m : MessageTable t last) where
   pub uih_free : group_at t 0 ≡ 0
   uih_free = group_none t m.well 0 some_rows no_group (flat t m.well some_rows)
 
-  pub uih_first : first_place t UIH ≡ Placed start_place
+  pub uih_first : first_place t UIH ≡ Some start_place
   unfolding first_place first_choices reachable first_of
   uih_first =
       ap (λ l. first_of t before_all UIH (map (λ row. go row 0 1) (reachable t l))) (places_step t 0 (rows t) some_rows some_rows)

@@ -1,23 +1,22 @@
 -- The test of a table, document 02, A13: "no tag fits two places among the placing rule's choices from any place reached". Assumes nothing; there is no proof here.
-use Rattle.std.specs.Prelude.{◌≡◌, Bool, true, not, List, [], ◌∷◌, map, ℕ, suc, ◌+◌, ◌≤◌}
+use Rattle.std.specs.Prelude.{◌≡◌, Bool, true, not, List, [], ◌∷◌, map, ℕ, suc, ◌+◌, ◌≤◌, Some, is_some}
 use Rattle.laws.specs.Choice.{pick, both, either, among}
 use Rattle.laws.specs.Sweep.{below}
 use Rattle.placing.specs.declared.Place.{Place}
-use Rattle.placing.specs.declared.Stepped.TheVariants.{Placed}
 use Rattle.placing.specs.Table.{Table, rows, tag_at, is_group, level_of}
 use Rattle.placing.specs.Place.{reached_of, start_place}
-use Rattle.placing.specs.Rule.{Choice, go, choices, chosen, step_of, is_placed}
+use Rattle.placing.specs.Rule.{Choice, go, choices, chosen, step_of}
 use Rattle.one_way.specs.Placings.{before_all, first_choices, first_place}
 
 -- the places that the placing rule reaches, from the first segment of a message on
 pub data Reached (t : Table) : Place → Type 0 where
-  first : {p : Place} (tag : ℕ) → first_place t tag ≡ Placed p → Reached t p
-  next : {q : Place} (p : Place) (tag : ℕ) → Reached t p → step_of t p tag ≡ Placed q → Reached t q
+  first : {p : Place} (tag : ℕ) → first_place t tag ≡ Some p → Reached t p
+  next : {q : Place} (p : Place) (tag : ℕ) → Reached t p → step_of t p tag ≡ Some q → Reached t q
 
 -- how many of some choices a tag fits
 unfoldable pub choices_fitting : Table → Place → ℕ → List Choice → ℕ
 choices_fitting t p tag [] = 0
-choices_fitting t p tag (c ∷ l) = pick (is_placed (chosen t p tag c)) (suc (choices_fitting t p tag l)) (choices_fitting t p tag l)
+choices_fitting t p tag (c ∷ l) = pick (is_some (chosen t p tag c)) (suc (choices_fitting t p tag l)) (choices_fitting t p tag l)
 
 -- one at most, before the first segment and from any place reached
 pub record OneFits (t : Table) : Type 0 where

@@ -1,16 +1,14 @@
 -- Each message of an interchange has exactly one arrangement by its table alone: the one that the reader's rows tell. Assumes nothing.
-use Rattle.std.specs.Prelude.{◌≡◌, refl, Bool, true, List, [], ◌∷◌, ◌++◌, map, ◌↔◌, ℕ, zero, suc, eqb, ltb, length}
+use Rattle.std.specs.Prelude.{◌≡◌, refl, Bool, true, List, [], ◌∷◌, ◌++◌, map, ◌↔◌, ℕ, zero, suc, eqb, ltb, length, Option, Some, None, is_some}
 use Rattle.std.proofs.Common.{sym, ◌∙◌, ap₂, eqb-true}
 use Rattle.std.proofs.Math.Path.{ap}
 use Rattle.laws.specs.Choice.{both, all, both_parts}
 use Rattle.syntax.specs.Segment.{tag_number}
 use Rattle.messages.specs.Tags.{UIH, UIT}
 use Rattle.placing.specs.declared.Place.{Place}
-use Rattle.placing.specs.declared.Stepped.{Stepped}
-use Rattle.placing.specs.declared.Stepped.TheVariants.{Placed, OutOfPlace}
 use Rattle.placing.specs.Table.{Table, group_at, level_of}
 use Rattle.placing.specs.Place.{start_place}
-use Rattle.placing.specs.Rule.{place_after, is_placed}
+use Rattle.placing.specs.Rule.{place_after}
 use Rattle.interchange.specs.Reader.{accepted, reading_of}
 use Rattle.acceptance.specs.Interchange.{Message, Interchange, message_type_of, reference_in, places_from, has_place, group_in, is_trailer, placed_segments, is_message, good_opening, good_closing, rules_hold, IsInterchange, with_group}
 use Rattle.acceptance.specs.Within.{to_parts}
@@ -24,12 +22,12 @@ use Rattle.one_way.proofs.Tables.{own_one_way}
 
 -- The reader's walk is the walk of the tags
 
-all_walked : (t : Table) (s : Stepped) (gs : List (List ℕ)) → all has_place (places_from t s gs) ≡ all is_placed (walked t s (map tag_number gs))
+all_walked : (t : Table) (s : Option Place) (gs : List (List ℕ)) → all has_place (places_from t s gs) ≡ all is_some (walked t s (map tag_number gs))
 unfolding places_from walked
 all_walked t s [] = refl
-all_walked t s (g ∷ gs) = ap (both (is_placed (place_after t s (tag_number g)))) (all_walked t (place_after t s (tag_number g)) gs)
+all_walked t s (g ∷ gs) = ap (both (is_some (place_after t s (tag_number g)))) (all_walked t (place_after t s (tag_number g)) gs)
 
-read_walked : (t : Table) (s : Stepped) (gs : List (List ℕ)) → map (λ e. e.1) (places_from t s gs) ≡ walked t s (map tag_number gs)
+read_walked : (t : Table) (s : Option Place) (gs : List (List ℕ)) → map (λ e. e.1) (places_from t s gs) ≡ walked t s (map tag_number gs)
 unfolding places_from walked
 read_walked t s [] = refl
 read_walked t s (g ∷ gs) = ap (λ l. place_after t s (tag_number g) ∷ l) (read_walked t (place_after t s (tag_number g)) gs)
@@ -56,7 +54,7 @@ module _ (m : Message) (heads : eqb (tag_number m.heading) UIH ≡ true) (ends :
       let t = table_for m in
       let r = own_one_way (message_type_of m) in
       let e = uih_first t r.last r.table in
-      rw e (ap (λ l. Placed start_place ∷ l) (read_walked t (Placed start_place) (m.within ++ (m.trailer ∷ [])) ∙ ap (walked t (Placed start_place)) behind_tags))
+      rw e (ap (λ l. Some start_place ∷ l) (read_walked t (Some start_place) (m.within ++ (m.trailer ∷ [])) ∙ ap (walked t (Some start_place)) behind_tags))
 
   all_read : all has_place (placed_segments m) ≡ all_placed (table_for m) (UIH ∷ (within ++ (UIT ∷ [])))
   unfolding placings
@@ -64,7 +62,7 @@ module _ (m : Message) (heads : eqb (tag_number m.heading) UIH ≡ true) (ends :
       let t = table_for m in
       let r = own_one_way (message_type_of m) in
       let e = uih_first t r.last r.table in
-      rw e (all_walked t (Placed start_place) (m.within ++ (m.trailer ∷ [])) ∙ ap (λ l. all is_placed (walked t (Placed start_place) l)) behind_tags)
+      rw e (all_walked t (Some start_place) (m.within ++ (m.trailer ∷ [])) ∙ ap (λ l. all is_some (walked t (Some start_place) l)) behind_tags)
 
   -- the placing rule places every segment exactly when the message has an arrangement by its table alone
   pub placed_exactly : (all has_place (placed_segments m) ≡ true) ↔ ((a : Arrangement) × (is_arrangement (table_for m) a ≡ true) × (tags_of a ≡ tags_in m))
@@ -89,11 +87,11 @@ row_told zero t p row = refl
 row_told (suc l) t p row = refl
 
 module _ (t : Table) (free : group_at t 0 ≡ 0) where
-  group_told : (s : Stepped) → group_in t s ≡ group_standing t (where_of t s)
-  group_told (Placed p) = ap (group_at t) (sym (row_told (level_of t p.row) t p p.row))
-  group_told OutOfPlace = sym free
+  group_told : (s : Option Place) → group_in t s ≡ group_standing t (where_of t s)
+  group_told (Some p) = ap (group_at t) (sym (row_told (level_of t p.row) t p p.row))
+  group_told None = sym free
 
-  groups_told : (l : List (List ℕ × Stepped)) → map (λ e. e.1) (map (with_group t) l) ≡ map (group_standing t) (map (where_of t) (map (λ e. e.1) l))
+  groups_told : (l : List (List ℕ × Option Place)) → map (λ e. e.1) (map (with_group t) l) ≡ map (group_standing t) (map (where_of t) (map (λ e. e.1) l))
   groups_told [] = refl
   groups_told (e ∷ l) = ap₂ (λ x y. x ∷ y) (group_told e.1) (groups_told l)
 
@@ -112,7 +110,7 @@ message_one_way wish m h =
       message = c.2;
       places = c.3;
       groups = ap (map (group_standing t)) c.3
-          ∙ ap₂ (λ x y. x ∷ y) (sym (group_told t free (Placed start_place)) ∙ free) (sym (groups_told t free (placed_segments m)));
+          ∙ ap₂ (λ x y. x ∷ y) (sym (group_told t free (Some start_place)) ∙ free) (sym (groups_told t free (placed_segments m)));
       only = λ a v e. at_most_one t r.table.well r.one a c.0 v c.1 (e ∙ sym c.2);
     }
 

@@ -1,8 +1,7 @@
 -- What is shown of each message of an interchange: it has one arrangement by its table alone, and no other. Assumes nothing; there is no proof here.
-use Rattle.std.specs.Prelude.{◌≡◌, true, List, [], ◌∷◌, map, ℕ}
+use Rattle.std.specs.Prelude.{◌≡◌, true, List, [], ◌∷◌, map, ℕ, Option, Some}
 use Rattle.syntax.specs.Segment.{tag_number}
-use Rattle.placing.specs.declared.Stepped.{Stepped}
-use Rattle.placing.specs.declared.Stepped.TheVariants.{Placed}
+use Rattle.placing.specs.declared.Place.{Place}
 use Rattle.placing.specs.Table.{Table, group_at}
 use Rattle.placing.specs.Tables.{table_of}
 use Rattle.placing.specs.Place.{start_place}
@@ -17,8 +16,8 @@ table_for m = table_of (message_type_of m)
 abbrev pub tags_in : Message → List ℕ
 tags_in m = map tag_number (segments_in m)
 
-abbrev pub places_read : Message → List Stepped
-places_read m = Placed start_place ∷ map (λ e. e.1) (placed_segments m)
+abbrev pub places_read : Message → List (Option Place)
+places_read m = Some start_place ∷ map (λ e. e.1) (placed_segments m)
 
 -- the row in which a segment stands, and the group that the table names for it
 abbrev pub row_in : Where → ℕ

@@ -14,16 +14,13 @@
 
 #![tactic(auto)]
 
-ghost use Rattle.std.specs.Prelude.{◌<◌};
-
 use answers::Refusal;
-use interchange::reader::Reading;
 use lines::{decode, field, number, past, piece_at, read_input, say, say_line, say_number};
 use parcel_store::STORE;
-use parcels::{Parcel, begin, finish, take};
+use parcels::{Fault, begin, finish, take};
 use parts::{Part, bytes_of};
 use std::io;
-use text::{Written, write_refusal, write_table};
+use text::{write_refusal, write_table};
 
 // The bytes that a text says, behind those that are there, as far as there is room; where they end.
 fn add(out: &mut [u8], at: usize, text: &[u8]) -> usize {
@@ -39,10 +36,8 @@ fn add(out: &mut [u8], at: usize, text: &[u8]) -> usize {
 
 fn add_often(out: &mut [u8], at: usize, text: &[u8], times: usize) -> usize {
     let mut to = at;
-    let mut left = times;
-    while 0 < left {
+    for _ in 0..times {
         to = add(out, to, text);
-        left -= 1;
     }
     to
 }
@@ -51,6 +46,7 @@ fn add_often(out: &mut [u8], at: usize, text: &[u8], times: usize) -> usize {
 fn expand(notation: &[u8], out: &mut [u8]) -> usize {
     let mut n = 0;
     let mut i = 0;
+    // The index moves past what was read, not by one.
     while i < notation.len() {
         n = add(out, n, piece_at(notation, i, b'{'));
         let group = past(notation, i, b'{');
@@ -64,10 +60,10 @@ fn expand(notation: &[u8], out: &mut [u8]) -> usize {
     n
 }
 
-fn print(rt: &impl Print, out: &[u8], from: usize, written: Written) -> io::Result<()> {
+fn print(rt: &impl Print, out: &[u8], from: usize, written: Option<usize>) -> io::Result<()> {
     match written {
-        Written::Bytes(to) => say(rt, bytes_of(out, Part { from, to })),
-        Written::NoRoom => say(rt, b"no room\n"),
+        Some(to) => say(rt, bytes_of(out, Part { from, to })),
+        None => say(rt, b"no room\n"),
     }
 }
 
@@ -84,14 +80,10 @@ fn folded(r: usize, number: u32) -> usize {
 // The numbers of the first n rows, folded into one.
 fn fold(rows: &[u32], n: usize) -> usize {
     let mut r = 0;
-    let mut i = 0;
-    while i < rows.len() {
-        if n <= i / 3 {
-            return r;
+    for row in rows.chunks(3).take(n) {
+        for &number in row {
+            r = folded(r, number);
         }
-        let number = rows[i];
-        r = folded(r, number);
-        i += 1;
     }
     r
 }
@@ -110,20 +102,19 @@ fn print_rows(rt: &impl Print, rows: &[u32], n: usize) -> io::Result<()> {
     print(rt, &out, 17, written)
 }
 
-// How a reading went that asked or did not: how many numbers its rows are, its refusal (number 0 for none), and with which byte a parcel named it
-// (0 for none).
+// How a reading went that asked or did not: how many numbers its rows are, its refusal, and with which byte a parcel named it.
 #[derive(Clone, Copy)]
 struct Course {
     wish: bool,
     numbers: usize,
-    refusal: Refusal,
-    named: usize,
+    refusal: Option<Refusal>,
+    named: Option<usize>,
 }
 
-// A refusal of no period: number 0 is none, and 255 is none of the paper's.
-fn told(number: u8, position: usize) -> Refusal {
+// A refusal that no reading names: what the last call tells is not what the parcels told.
+fn differing(position: usize) -> Refusal {
     Refusal {
-        number,
+        number: 255,
         position,
         part: 0,
     }
@@ -131,11 +122,10 @@ fn told(number: u8, position: usize) -> Refusal {
 
 fn print_course(rt: &impl Print, course: Course, rows: &[u32]) -> io::Result<()> {
     print_rows(rt, rows, course.numbers / 3)?;
-    let refusal = course.refusal;
-    if refusal.number != 0 {
-        print_refusal(rt, refusal)?;
+    match course.refusal {
+        Some(refusal) => print_refusal(rt, refusal),
+        None => Ok(()),
     }
-    Ok(())
 }
 
 // Where the numbers of n rows end that stand from an index on.
@@ -150,36 +140,22 @@ fn go_on(store: &mut [u8], parcel: &[u8], to: usize, rows: &mut [u32], course: C
         return course;
     }
     match take(store, parcel, &mut rows[from..]) {
-        Parcel::Rows(n) => Course {
-            wish: course.wish,
+        Ok(n) => Course {
             numbers: behind(from, n),
-            refusal: told(0, 0),
-            named: 0,
+            refusal: None,
+            named: None,
+            ..course
         },
-        Parcel::Refused(n, refusal) => Course {
-            wish: course.wish,
-            numbers: behind(from, n),
-            refusal,
-            named: to,
+        Err(fault) => Course {
+            numbers: behind(from, fault.rows),
+            refusal: Some(fault.refusal),
+            named: Some(to),
+            ..course
         },
     }
 }
 
-// Where the next parcel ends; a size of 0 is that of all that is left.
-fn next_cut(at: usize, size: usize, end: usize) -> usize
-    requires { at < end }
-    ensures { at < result }
-{
-    if size == 0 {
-        return end;
-    }
-    if end - at <= size {
-        return end;
-    }
-    at + size
-}
-
-// The first parcel up to an offset, the others of a size, until one is refused.
+// The first parcel up to an offset, the others of a size, until one is refused; a size of 0 is that of all that is left.
 fn take_all(
     store: &mut [u8],
     interchange: &[u8],
@@ -190,16 +166,15 @@ fn take_all(
 ) -> Course {
     let front = bytes_of(interchange, Part { from: 0, to: first });
     let mut course = go_on(store, front, first, rows, none);
-    let mut at = first;
-    while at < interchange.len() {
-        let refusal = course.refusal;
-        if refusal.number != 0 {
+    let rest = interchange.get(first..).unwrap_or(&[]);
+    let size = if size == 0 { interchange.len() } else { size };
+    let mut to = first;
+    for parcel in rest.chunks(size.max(1)) {
+        if course.refusal.is_some() {
             return course;
         }
-        let to = next_cut(at, size, interchange.len());
-        let parcel = bytes_of(interchange, Part { from: at, to });
+        to = to.saturating_add(parcel.len());
         course = go_on(store, parcel, to, rows, course);
-        at = to;
     }
     course
 }
@@ -207,90 +182,55 @@ fn take_all(
 // A course with another refusal, which no parcel named.
 fn ended(course: Course, refusal: Refusal) -> Course {
     Course {
-        wish: course.wish,
-        numbers: course.numbers,
-        refusal,
-        named: 0,
+        refusal: Some(refusal),
+        named: None,
+        ..course
     }
-}
-
-fn is_one(a: Refusal, b: Refusal) -> bool {
-    if a.number != b.number {
-        return false;
-    }
-    if a.position != b.position {
-        return false;
-    }
-    a.part == b.part
 }
 
 // What the last call refuses: what a parcel named, where one did.
 fn refused(course: Course, refusal: Refusal) -> Course {
-    let before = course.refusal;
-    if before.number == 0 {
-        return ended(course, refusal);
+    match course.refusal {
+        None => ended(course, refusal),
+        Some(before) if before == refusal => course,
+        Some(_) => ended(course, differing(0)),
     }
-    if is_one(before, refusal) {
-        return course;
-    }
-    ended(course, told(255, 0))
 }
 
 // What the last call accepts: as many rows as there were.
 fn accepted(course: Course, n: usize) -> Course {
-    let before = course.refusal;
-    if before.number != 0 {
-        return ended(course, told(255, 1));
+    if course.refusal.is_some() {
+        return ended(course, differing(1));
     }
     if behind(0, n) != course.numbers {
-        return ended(course, told(255, 2));
+        return ended(course, differing(2));
     }
     course
 }
 
 fn read_cut(interchange: &[u8], wish: bool, first: usize, size: usize, rows: &mut [u32]) -> Course {
     let mut store = [0u8; STORE];
-    begin(&mut store, wish);
+    // The store is as long as it has to be, so that nothing is refused.
+    let _ = begin(&mut store, wish);
     let none = Course {
         wish,
         numbers: 0,
-        refusal: told(0, 0),
-        named: 0,
+        refusal: None,
+        named: None,
     };
     let course = take_all(&mut store, interchange, first, size, rows, none);
     match finish(&mut store) {
-        Reading::Rows(n) => accepted(course, n),
-        Reading::Refused(refusal) => refused(course, refusal),
+        Ok(n) => accepted(course, n),
+        Err(refusal) => refused(course, refusal),
     }
 }
 
 fn have_same(a: &[u32], b: &[u32], n: usize) -> bool {
-    let mut i = 0;
-    while i < n {
-        if a.len() <= i {
-            return false;
-        }
-        if b.len() <= i {
-            return false;
-        }
-        if a[i] != b[i] {
-            return false;
-        }
-        i += 1;
-    }
-    true
+    n <= a.len() && n <= b.len() && a[..n] == b[..n]
 }
 
 fn is_same(a: Course, b: Course, rows: &[u32], other: &[u32]) -> bool {
-    if a.numbers != b.numbers {
-        return false;
-    }
-    let one = a.refusal;
-    let another = b.refusal;
-    if !is_one(one, another) {
-        return false;
-    }
-    have_same(rows, other, a.numbers)
+    a.numbers == b.numbers && a.refusal == b.refusal && have_same(rows, other, a.numbers)
 }
 
 // Whether a way to cut an interchange gives the rows and the answer that one parcel gave.
@@ -315,17 +255,14 @@ fn first_other(
     rows: &[u32],
     other: &mut [u32],
 ) -> usize {
-    let mut at = from;
-    while at < to {
-        if !agrees(interchange, at, 0, whole, rows, other) {
+    for at in from..to {
+        if !agrees(interchange, at, 0, whole, rows, other)
+            || !agrees(interchange, at, at, whole, rows, other)
+        {
             return at;
         }
-        if !agrees(interchange, at, at, whole, rows, other) {
-            return at;
-        }
-        at += 1;
     }
-    at
+    from.max(to)
 }
 
 fn print_differing(
@@ -344,21 +281,17 @@ fn print_differing(
     print_course(rt, often, rows)
 }
 
-fn print_same(rt: &impl Print, from: usize, to: usize, named: usize) -> io::Result<()> {
+fn print_same(rt: &impl Print, from: usize, to: usize, named: Option<usize>) -> io::Result<()> {
     say(rt, b"same\t")?;
     say_number(rt, from)?;
     say(rt, b"\t")?;
     say_number(rt, to)?;
-    if named == 0 {
+    let Some(named) = named else {
         return say(rt, b"\tend\n");
-    }
+    };
     say(rt, b"\t")?;
     say_number(rt, named)?;
     say(rt, b"\n")
-}
-
-fn least(a: usize, b: usize) -> usize {
-    if a < b { a } else { b }
 }
 
 fn answer_ways(
@@ -376,7 +309,7 @@ fn answer_ways(
     if !is_same(whole, single, &rows, &other) {
         return print_differing(rt, interchange, wish, 1, &mut other);
     }
-    let end = least(to, interchange.len());
+    let end = to.min(interchange.len());
     let at = first_other(interchange, from, end, whole, &rows, &mut other);
     if at < end {
         return print_differing(rt, interchange, wish, at, &mut other);
@@ -402,15 +335,15 @@ fn print_count(rt: &impl Print, n: usize) -> io::Result<()> {
     say(rt, b"\n")
 }
 
-fn print_parcel(rt: &impl Print, answer: Parcel, rows: &[u32]) -> io::Result<()> {
+fn print_parcel(rt: &impl Print, answer: Result<usize, Fault>, rows: &[u32]) -> io::Result<()> {
     match answer {
-        Parcel::Rows(n) => {
+        Ok(n) => {
             print_count(rt, n)?;
             print_rows(rt, rows, n)
         }
-        Parcel::Refused(n, refusal) => {
-            print_refusal(rt, refusal)?;
-            print_rows(rt, rows, n)
+        Err(fault) => {
+            print_refusal(rt, fault.refusal)?;
+            print_rows(rt, rows, fault.rows)
         }
     }
 }
@@ -454,32 +387,24 @@ fn call_begin(rt: &impl Print, store: &mut [u8], wish: bool) -> io::Result<()> {
 fn call_finish(rt: &impl Print, store: &mut [u8]) -> io::Result<()> {
     say(rt, b"finish\t")?;
     match finish(store) {
-        Reading::Rows(n) => print_count(rt, n),
-        Reading::Refused(refusal) => print_refusal(rt, refusal),
+        Ok(n) => print_count(rt, n),
+        Err(refusal) => print_refusal(rt, refusal),
     }
 }
 
 fn call(rt: &impl Print, word: &[u8], store: &mut [u8]) -> io::Result<()> {
-    if word.len() == 0 {
-        return Ok(());
+    match word.first() {
+        None => Ok(()),
+        Some(b'b') => call_begin(rt, store, true),
+        Some(b'n') => call_begin(rt, store, false),
+        Some(b'f') => call_finish(rt, store),
+        Some(_) => call_take(rt, word, store),
     }
-    if word[0] == b'b' {
-        return call_begin(rt, store, true);
-    }
-    if word[0] == b'n' {
-        return call_begin(rt, store, false);
-    }
-    if word[0] == b'f' {
-        return call_finish(rt, store);
-    }
-    call_take(rt, word, store)
 }
 
 fn call_all(rt: &impl Print, line: &[u8], store: &mut [u8]) -> io::Result<()> {
-    let mut at = field(line, 2);
-    while at < line.len() {
-        call(rt, piece_at(line, at, b'\t'), store)?;
-        at = past(line, at, b'\t');
+    for word in line.split(|&b| b == b'\t').skip(2) {
+        call(rt, word, store)?;
     }
     Ok(())
 }
@@ -493,27 +418,21 @@ fn answer_calls(rt: &impl Print, line: &[u8], store: &mut [u8], length: usize) -
 }
 
 fn answer_line(rt: &impl Print, line: &[u8]) -> io::Result<()> {
-    if line.len() == 0 {
-        return Ok(());
+    match line.first() {
+        None => Ok(()),
+        Some(b'#') => say_line(rt, line),
+        Some(b'c') => answer_cuts(rt, line, true),
+        Some(b'g') => answer_cuts(rt, line, false),
+        Some(_) => {
+            let mut store = [0u8; 12329];
+            answer_calls(rt, line, &mut store, number(line, field(line, 1)))
+        }
     }
-    if line[0] == b'#' {
-        return say_line(rt, line);
-    }
-    if line[0] == b'c' {
-        return answer_cuts(rt, line, true);
-    }
-    if line[0] == b'g' {
-        return answer_cuts(rt, line, false);
-    }
-    let mut store = [0u8; 12329];
-    answer_calls(rt, line, &mut store, number(line, field(line, 1)))
 }
 
 fn answer_all(rt: &impl Print, text: &[u8]) -> io::Result<()> {
-    let mut at = 0;
-    while at < text.len() {
-        answer_line(rt, piece_at(text, at, b'\n'))?;
-        at = past(text, at, b'\n');
+    for line in text.split(|&b| b == b'\n') {
+        answer_line(rt, line)?;
     }
     Ok(())
 }

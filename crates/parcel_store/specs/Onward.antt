@@ -1,6 +1,6 @@
 -- However many bytes arrive, the reading has room in a store, and a reference that did not come is as it was.
 -- Assumes nothing.
-use Rattle.std.specs.Prelude.{◌≡◌, Bool, true, false, List, [], ◌∷◌, ◌++◌, ℕ, ◌+◌, ◌-◌, ◌<◌, ◌≤◌, eqb, ltb, leb, length, drop}
+use Rattle.std.specs.Prelude.{◌≡◌, Bool, true, false, List, [], ◌∷◌, ◌++◌, ℕ, ◌+◌, ◌-◌, ◌<◌, ◌≤◌, eqb, ltb, leb, length, drop, Option, Some, None, Result, Ok, Err}
 use Rattle.std.proofs.Math.Path.{refl}
 use Rattle.std.proofs.Common.{sym, ap, subst, ◌∙◌, arith, ltb-true, leb-false, length-append, length-take, length-drop}
 use Rattle.laws.specs.Choice.{pick, both, all, choose, either_parts}
@@ -14,17 +14,9 @@ use Rattle.parts.specs.Places.{bytes_of}
 use Rattle.messages.specs.Types.{is_period}
 use Rattle.messages.specs.Tags.{UIB, UIH, UIT, UIZ}
 use Rattle.placing.specs.declared.Place.{Place}
-use Rattle.placing.specs.declared.Stepped.{Stepped}
-use Rattle.placing.specs.declared.Stepped.TheVariants.{Placed, OutOfPlace}
 use Rattle.placing.specs.Tables.{tables, table_in}
 use Rattle.placing.specs.Rule.{step_of, group_of}
-use Rattle.envelope.specs.declared.Opened.{Opened}
-use Rattle.envelope.specs.declared.Opened.TheVariants.{Dialogue, Wrong}
-use Rattle.envelope.specs.declared.Headed.{Headed}
-use Rattle.envelope.specs.declared.Headed.TheVariants.{Message, Missing, Unknown}
 use Rattle.envelope.specs.Envelope.{uib_of, uih_of, uit_of, uiz_of}
-use Rattle.period.specs.declared.Period.{Period}
-use Rattle.period.specs.declared.Period.TheVariants as period
 use Rattle.period.specs.Period.{period_of}
 use Rattle.steps.specs.declared.state.Phase.{Phase}
 use Rattle.steps.specs.declared.state.Phase.TheVariants.{Opening, Between, Inside, Closed}
@@ -39,6 +31,12 @@ use Rattle.parcel_store.specs.Store.{store_size, part_size, held_in, keep}
 use Rattle.parcel_store.specs.Bounds.{Counted, FinalFits, Fits}
 use Rattle.parcel_store.specs.Places.{step_counted, step_row}
 use Rattle.parcel_store.specs.Laws.{held_kept}
+use Rattle.period.specs.declared.Period.{Period}
+use Rattle.period.specs.declared.Fault.{Fault}
+use Rattle.parts.specs.declared.Part.{Part}
+use Rattle.envelope.specs.declared.Head.{Head}
+use Rattle.envelope.specs.declared.HeadError.{HeadError}
+use Rattle.envelope.specs.declared.HeadError.TheVariants.{Missing, Unknown}
 
 -- One segment's step
 
@@ -69,19 +67,19 @@ module _ (k : ℕ) (st : State) (from : Led k st) (at : ℕ) (g : List ℕ) wher
   kept_counts : Counted (k + 1) st.place
   kept_counts = counted_more k (k + 1) (omega arith) st.place from.counts
 
-  opened_led : (o : Opened) → LedBy (k + 1) (opened_step st at g o)
-  opened_led (Dialogue p) = record { messages = from.messages; segments = from.segments; row = from.row; counts = kept_counts }
-  opened_led Wrong = tt
+  opened_led : (o : Option Part) → LedBy (k + 1) (opened_step st at g o)
+  opened_led (Some p) = record { messages = from.messages; segments = from.segments; row = from.row; counts = kept_counts }
+  opened_led None = tt
 
   opening_led : LedBy (k + 1) (opening st at g)
   unfolding opening
   opening_led = choose (eqb (tag_number g) UIB) (λ q. rw q (opened_led (uib_of g))) (λ q. rw q tt)
 
-  headed_led : (h : Headed) → LedBy (k + 1) (headed st at g h)
-  headed_led (Message m p) =
+  headed_led : (h : Result Head HeadError) → LedBy (k + 1) (headed st at g h)
+  headed_led (Ok h) =
       record { messages = from.messages; segments = omega arith; row = omega arith; counts = (omega arith, omega arith, omega arith, omega arith, omega arith) }
-  headed_led Missing = tt
-  headed_led Unknown = tt
+  headed_led (Err Missing) = tt
+  headed_led (Err Unknown) = tt
 
   closing_led : (d : List ℕ) → LedBy (k + 1) (closing st at g d)
   unfolding closing
@@ -103,9 +101,9 @@ module _ (k : ℕ) (st : State) (from : Led k st) (at : ℕ) (g : List ℕ) wher
     ended_led =
         record { messages = more_small st.messages from.messages; segments = more_small st.segments from.segments; row = row; counts = counts }
 
-    judged_led : (group : ℕ) (x : Period) → LedBy (k + 1) (judged st at g p group x)
-    judged_led group (period.Good f n form) = onward_led
-    judged_led group (period.Wrong x) = tt
+    judged_led : (group : ℕ) (x : Result Period Fault) → LedBy (k + 1) (judged st at g p group x)
+    judged_led group (Ok v) = onward_led
+    judged_led group (Err x) = tt
 
     trailing_led : (r : List ℕ) (group : ℕ) → LedBy (k + 1) (trailing st at g r p group)
     unfolding trailing
@@ -121,12 +119,12 @@ module _ (k : ℕ) (st : State) (from : Led k st) (at : ℕ) (g : List ℕ) wher
         (choose (is_period st.message (tag_number g) group) (λ e. rw e (judged_led group (period_of st.wish g)))
         (λ e. rw e onward_led)))
 
-  settled_led : (r : List ℕ) (x : Stepped) → step_of (table_in tables st.message) st.place (tag_number g) ≡ x
+  settled_led : (r : List ℕ) (x : Option Place) → step_of (table_in tables st.message) st.place (tag_number g) ≡ x
       → LedBy (k + 1) (settled_step (table_in tables st.message) st at g r x)
-  settled_led r (Placed p) e =
+  settled_led r (Some p) e =
       placed_led p (step_row st.message st.place (tag_number g) p e)
       (step_counted (table_in tables st.message) k st.place from.counts (tag_number g) p e) r (group_of (table_in tables st.message) p)
-  settled_led r OutOfPlace e = tt
+  settled_led r None e = tt
 
   step_led : (f : Phase) (d r : List ℕ) → LedBy (k + 1) (step_by tables f st at g d r)
   unfolding step_by inside_message

@@ -1,6 +1,7 @@
 -- Where a step of the placing rule leads, no count has grown by more than one, in any table.
 -- Assumes nothing.
-use Rattle.std.specs.Prelude.{◌≡◌, eqb, ltb, leb}
+use Rattle.std.specs.Option.{option_or}
+use Rattle.std.specs.Prelude.{◌≡◌, eqb, ltb, leb, Option, Some, None}
 use Rattle.std.proofs.Common.{subst}
 use mathlib.Core.List.{List, [], ◌∷◌, ◌++◌, map}
 use Prim.Native.Nat.{ℕ, zero, suc, ◌+◌, ◌-◌, ◌<◌, ◌≤◌}
@@ -10,16 +11,13 @@ use Rattle.messages.specs.declared.MessageType.{MessageType}
 use Rattle.messages.specs.declared.MessageType.TheVariants.{Skdupd, Tsdupd, Tsdupd12B}
 use Rattle.placing.specs.declared.Place.{Place}
 use Rattle.placing.specs.declared.Fit.{Fit}
-use Rattle.placing.specs.declared.Fit.TheVariants.{At, Nowhere}
-use Rattle.placing.specs.declared.Stepped.{Stepped}
-use Rattle.placing.specs.declared.Stepped.TheVariants.{Placed, OutOfPlace}
 use Rattle.placing.specs.Table.{Table, rows, most, level_of, outer, later}
 use Rattle.placing.specs.Skdupd.{skdupd_table}
 use Rattle.placing.specs.Tsdupd.{tsdupd_table}
 use Rattle.placing.specs.Tsdupd12B.{tsdupd_12b_table}
 use Rattle.placing.specs.Tables.{tables, table_in}
 use Rattle.placing.specs.Place.{count_at, kept_of}
-use Rattle.placing.specs.Rule.{reachable, none_left, fits, Choice, go, again, later_ones, if_none_left, choices_from, choices, placed_at, chosen, or_stepped, first_of, step_of}
+use Rattle.placing.specs.Rule.{reachable, none_left, fits, Choice, go, again, later_ones, if_none_left, choices_from, choices, placed_at, chosen, first_of, step_of}
 use Rattle.placing.proofs.Laws.{placed_row_lem}
 use Rattle.parcel_store.specs.Bounds.{Counted}
 
@@ -38,9 +36,9 @@ module _ (k : ℕ) where
   each_first level (r ∷ l) = (omega arith, each_first level l)
 
   -- where a segment is placed, no count is above k + 1
-  abbrev Reached : Stepped → Type 0
-  Reached (Placed q) = Counted (k + 1) q
-  Reached OutOfPlace = Unit {0}
+  abbrev Reached : Option Place → Type 0
+  Reached (Some q) = Counted (k + 1) q
+  Reached None = Unit {0}
 
   kept_counted : (own i level n last : ℕ) → own ≤ k → n ≤ k + 1 → kept_of own i level n last ≤ k + 1
   kept_counted own i level n last h s =
@@ -84,19 +82,19 @@ module _ (t : Table) (k : ℕ) (p : Place) (counted : Counted k p) where
       (each_append k (later_ones t (suc level) row) up (each_later (suc level) row)
       (each_above (suc level) row (choices_from level t p (outer t row)) (each_from level (outer t row))))
 
-  placed_reached : (level n : ℕ) → n ≤ k + 1 → (x : Fit) → Reached k (placed_at p level n x)
-  placed_reached level n h (At row d) = (
-    kept_counted k p.c0 0 level n (4 - d) counted.0 h,
-    kept_counted k p.c1 1 level n (4 - d) counted.1 h,
-    kept_counted k p.c2 2 level n (4 - d) counted.2 h,
-    kept_counted k p.c3 3 level n (4 - d) counted.3 h,
-    kept_counted k p.c4 4 level n (4 - d) counted.4 h,
+  placed_reached : (level n : ℕ) → n ≤ k + 1 → (x : Option Fit) → Reached k (placed_at p level n x)
+  placed_reached level n h (Some f) = (
+    kept_counted k p.c0 0 level n (4 - f.depth) counted.0 h,
+    kept_counted k p.c1 1 level n (4 - f.depth) counted.1 h,
+    kept_counted k p.c2 2 level n (4 - f.depth) counted.2 h,
+    kept_counted k p.c3 3 level n (4 - f.depth) counted.3 h,
+    kept_counted k p.c4 4 level n (4 - f.depth) counted.4 h,
   )
-  placed_reached level n h Nowhere = tt
+  placed_reached level n h None = tt
 
-  or_reached : (x y : Stepped) → Reached k x → Reached k y → Reached k (or_stepped x y)
-  or_reached (Placed q) y a b = a
-  or_reached OutOfPlace y a b = b
+  or_reached : (x y : Option Place) → Reached k x → Reached k y → Reached k (option_or x y)
+  or_reached (Some q) y a b = a
+  or_reached None y a b = b
 
   first_reached : (tag : ℕ) (l : List Choice) → Each k l → Reached k (first_of t p tag l)
   unfolding first_of
@@ -108,7 +106,7 @@ module _ (t : Table) (k : ℕ) (p : Place) (counted : Counted k p) where
   unfolding step_of
   step_reached tag = first_reached tag (choices t p) (each_from (level_of t p.row) p.row)
 
-  pub step_counted : (tag : ℕ) (q : Place) → step_of t p tag ≡ Placed q → Counted (k + 1) q
+  pub step_counted : (tag : ℕ) (q : Place) → step_of t p tag ≡ Some q → Counted (k + 1) q
   step_counted tag q e = subst (Reached k) e (step_reached tag)
 
 -- the rows of a type's table are few
@@ -118,7 +116,7 @@ table_short Skdupd = omega arith
 table_short Tsdupd = omega arith
 table_short Tsdupd12B = omega arith
 
-pub step_row : (m : MessageType) (p : Place) (tag : ℕ) (q : Place) → step_of (table_in tables m) p tag ≡ Placed q → q.row < 65536
+pub step_row : (m : MessageType) (p : Place) (tag : ℕ) (q : Place) → step_of (table_in tables m) p tag ≡ Some q → q.row < 65536
 step_row m p tag q e =
     let r = placed_row_lem (table_in tables m) tag p q e in
     let s = table_short m in

@@ -26,9 +26,10 @@ pub const REFERENCE: usize = 4136;
 /// Where the segment that is arriving stands.
 pub const BODY: usize = 8232;
 
-/// The final answer.
-#[derive(Clone, Copy)]
+/// The final answer. Three outcomes by their names: an Option of a Result with nothing in it would say them less plainly.
+#[derive(Clone, Copy, PartialEq, Eq, Debug)]
 pub enum Final {
+    /// It is still to come.
     Awaited,
     Accepted,
     Refused(Refusal),
@@ -55,71 +56,56 @@ pub struct Kept {
 fn phase_of(n: usize) -> Phase
     ensures { result ≡ phase_of n }
 {
-    if n == 0 {
-        return Phase::Opening;
+    match n {
+        0 => Phase::Opening,
+        1 => Phase::Between,
+        2 => Phase::Inside,
+        _ => Phase::Closed,
     }
-    if n == 1 {
-        return Phase::Between;
-    }
-    if n == 2 {
-        return Phase::Inside;
-    }
-    Phase::Closed
 }
 
 fn message_of(n: usize) -> MessageType
     ensures { result ≡ message_of n }
 {
-    if n == 0 {
-        return MessageType::Skdupd;
+    match n {
+        0 => MessageType::Skdupd,
+        2 => MessageType::Tsdupd12B,
+        _ => MessageType::Tsdupd,
     }
-    if n == 2 {
-        return MessageType::Tsdupd12B;
-    }
-    MessageType::Tsdupd
 }
 
 // Whether a part may stand beside a number: one of six beside 10, else 0.
 fn is_part(number: usize, part: usize) -> bool
     ensures { result ≡ is_part number part }
 {
-    if number != 10 {
-        return part == 0;
+    if number == 10 {
+        1 <= part && part <= 6
+    } else {
+        part == 0
     }
-    if part < 1 {
-        return false;
-    }
-    part <= 6
 }
 
 // No other number than those of the table is an answer, and no other part.
 fn final_of(number: usize, position: usize, part: usize) -> Final
     ensures { result ≡ final_of number position part }
 {
-    if number == 0 {
-        return Final::Awaited;
+    match number {
+        0 => Final::Awaited,
+        1 => Final::Accepted,
+        2..=21 if is_part(number, part) => Final::Refused(Refusal {
+            number: number as u8,
+            position,
+            part: part as u8,
+        }),
+        _ => Final::Awaited,
     }
-    if number == 1 {
-        return Final::Accepted;
-    }
-    if 21 < number {
-        return Final::Awaited;
-    }
-    if !is_part(number, part) {
-        return Final::Awaited;
-    }
-    Final::Refused(Refusal {
-        number: number as u8,
-        position,
-        part: part as u8,
-    })
 }
 
 // No more bytes than there is room for.
 fn length_of(n: usize) -> usize
     ensures { (result ≡ length_of n) × (result ≤ 4096) }
 {
-    if 4096 < n { 4096 } else { n }
+    n.min(4096)
 }
 
 // A count of the place.
@@ -179,6 +165,7 @@ pub fn load(store: &[u8]) -> Kept
     }
 }
 
+// The two bytes of a number, each by itself: twenty stand in one array, which pairs from `to_le_bytes` would have to be joined into.
 fn low(n: usize) -> u8
     ensures { result ≡ n % 256 }
 {
@@ -215,36 +202,25 @@ fn message_number(message: MessageType) -> usize
 fn flag_number(b: bool) -> usize
     ensures { result ≡ flag_number b }
 {
-    if b { 1 } else { 0 }
+    b as usize
 }
 
-fn final_number(answer: Final) -> usize
-    ensures { result ≡ answer_number answer }
+// The numbers of an answer: a refusal's own, else 0 or 1.
+fn answer_numbers(answer: Final) -> Refusal
+    ensures { (result.number ≡ answer_number answer) × (result.position ≡ answer_position answer) × (result.part ≡ answer_part answer) }
 {
     match answer {
-        Final::Awaited => 0,
-        Final::Accepted => 1,
-        Final::Refused(refusal) => refusal.number as usize,
-    }
-}
-
-fn final_position(answer: Final) -> usize
-    ensures { result ≡ answer_position answer }
-{
-    match answer {
-        Final::Awaited => 0,
-        Final::Accepted => 0,
-        Final::Refused(refusal) => refusal.position,
-    }
-}
-
-fn final_part(answer: Final) -> usize
-    ensures { result ≡ answer_part answer }
-{
-    match answer {
-        Final::Awaited => 0,
-        Final::Accepted => 0,
-        Final::Refused(refusal) => refusal.part as usize,
+        Final::Awaited => Refusal {
+            number: 0,
+            position: 0,
+            part: 0,
+        },
+        Final::Accepted => Refusal {
+            number: 1,
+            position: 0,
+            part: 0,
+        },
+        Final::Refused(refusal) => refusal,
     }
 }
 
@@ -252,10 +228,8 @@ fn final_part(answer: Final) -> usize
 fn state_head(st: State) -> [u8; 20]
     ensures { result ≡ state_head st }
 {
-    let reached = st.phase;
-    let phase = phase_number(reached);
-    let kind = st.message;
-    let message = message_number(kind);
+    let phase = phase_number(st.phase);
+    let message = message_number(st.message);
     let place = st.place;
     let c0 = place.c0 as usize;
     let c1 = place.c1 as usize;
@@ -291,12 +265,10 @@ fn other_head(kept: Kept) -> [u8; 20]
     ensures { result ≡ other_with kept }
 {
     let released = flag_number(kept.released);
-    let answer = kept.answer;
-    let number = final_number(answer);
-    let position = final_position(answer);
-    let part = final_part(answer);
-    let st = kept.state;
-    let wish = flag_number(st.wish);
+    let answer = answer_numbers(kept.answer);
+    let number = answer.number as usize;
+    let part = answer.part as usize;
+    let wish = flag_number(kept.state.wish);
     [
         low(kept.offset),
         high(kept.offset),
@@ -312,8 +284,8 @@ fn other_head(kept: Kept) -> [u8; 20]
         high(kept.count),
         low(number),
         high(number),
-        low(position),
-        high(position),
+        low(answer.position),
+        high(answer.position),
         low(part),
         high(part),
         low(wish),
@@ -325,9 +297,6 @@ fn other_head(kept: Kept) -> [u8; 20]
 pub fn save(store: &mut [u8], kept: Kept)
     ensures { store.new ≡ put_at (put_at store.old 0 (state_head kept.state)) 20 (other_with kept) }
 {
-    let st = kept.state;
-    let first = state_head(st);
-    let second = other_head(kept);
-    put_bytes(store, 0, &first);
-    put_bytes(store, 20, &second);
+    put_bytes(store, 0, &state_head(kept.state));
+    put_bytes(store, 20, &other_head(kept));
 }

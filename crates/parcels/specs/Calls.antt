@@ -1,6 +1,6 @@
 -- What the three calls answer, and what they leave in the store and the buffer that are lent (document 02, A1). A store of another length is no store: 17.
 -- Assumes nothing.
-use Rattle.std.specs.Prelude.{ℕ, ◌*◌, Bool, true, false, not, List, eqb, ltb, length}
+use Rattle.std.specs.Prelude.{ℕ, ◌*◌, Bool, true, false, not, List, eqb, ltb, length, Result, Ok, Err}
 use Rattle.laws.specs.Choice.{pick, both}
 use Rattle.laws.specs.Put.{put_at}
 use Rattle.answers.specs.Answers.{Answer, done, refused, output_too_short}
@@ -8,8 +8,7 @@ use Rattle.interchange.specs.Reader.{Verdict, accepted, numbers}
 use Rattle.arrival.specs.Arrived as arrival
 use Rattle.arrival.specs.Arrived.{Brought, awaited, given, beginning, only, answered, arrived_on, end_of}
 use Rattle.parcel_store.specs.Store.{store_size, held_in, keep}
-use Rattle.parcels.specs.declared.Parcel.{Parcel}
-use Rattle.parcels.specs.declared.Parcel.TheVariants.{Rows, Refused}
+use Rattle.parcels.specs.declared.Fault.{Fault}
 
 -- how many rows a call wrote, and what it says of the reading
 pub record Told : Type 0 where
@@ -19,9 +18,9 @@ pub record Told : Type 0 where
 abbrev pub telling : ℕ → Verdict → Told
 telling n v = record { rows = n; verdict = v }
 
-abbrev pub parcel_told : Parcel → Told
-parcel_told (Rows n) = telling n accepted
-parcel_told (Refused n x) = telling n (refused x)
+abbrev pub parcel_told : Result ℕ Fault → Told
+parcel_told (Ok n) = telling n accepted
+parcel_told (Err x) = telling x.rows (refused x.refusal)
 
 abbrev pub is_store : List ℕ → Bool
 is_store b = eqb (length b) store_size

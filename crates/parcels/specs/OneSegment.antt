@@ -1,6 +1,6 @@
 -- One segment of a parcel: what is kept after it, and what it brings.
 -- Assumes nothing.
-use Rattle.std.specs.Prelude.{◌≡◌, refl, Bool, true, false, ℕ, zero, suc, ◌+◌, ◌-◌, ◌%◌, ◌≤◌, ◌<◌, length, take, drop, replicate}
+use Rattle.std.specs.Prelude.{◌≡◌, refl, Bool, true, false, ℕ, zero, suc, ◌+◌, ◌-◌, ◌%◌, ◌≤◌, ◌<◌, length, take, drop, replicate, Result, Err}
 use Rattle.std.proofs.Common.{sym, subst, ◌∙◌, arith, length-take, length-drop, length-append, length-take-le, drop_at}
 use Rattle.std.proofs.Math.Path.{ap}
 use mathlib.Core.List.{List, [], ◌∷◌, ◌++◌, append_assoc}
@@ -22,8 +22,7 @@ use Rattle.steps.specs.declared.state.State.{State}
 use Rattle.steps.specs.declared.state.Row.{Row}
 use Rattle.steps.specs.State.{one_more}
 use Rattle.interchange.specs.declared.turn.Turn.{Turn}
-use Rattle.interchange.specs.declared.turn.Turn.TheVariants.{On, Stop}
-use Rattle.interchange.specs.Reader.{turn_with, numbers}
+use Rattle.interchange.specs.Reader.{turn_with, numbers, goes_on}
 use Rattle.arrival.specs.Arrived.{Stand, Brought, awaited, only, answered, bare, opens, heads, followed, arrived_on}
 use Rattle.arrival.specs.Passing.{raise, after, one_within, one_on, stop_within, one_stop}
 use Rattle.parcel_store.specs.declared.Final.{Final}
@@ -180,7 +179,7 @@ module _ (k : Kept) (g : List ℕ) (next : State) (n : ℕ) (w : Sized k) (short
 -- What a segment brings
 
 -- a turn with what was lent to it
-pub turn_lent : (s : List ℕ) (st : State) (t₁ t₂ : Table) (d₁ d₂ r₁ r₂ : List ℕ) (turn : Turn) → turn ≡ turn_with t₁ s d₁ r₁ st 0 (segment_at s 0) → t₁ ≡ t₂ → d₁ ≡ d₂ → r₁ ≡ r₂
+pub turn_lent : (s : List ℕ) (st : State) (t₁ t₂ : Table) (d₁ d₂ r₁ r₂ : List ℕ) (turn : Result Turn Refusal) → turn ≡ turn_with t₁ s d₁ r₁ st 0 (segment_at s 0) → t₁ ≡ t₂ → d₁ ≡ d₂ → r₁ ≡ r₂
     → turn ≡ turn_with t₂ s d₂ r₂ st 0 (segment_at s 0)
 turn_lent s st t₁ t₂ d₁ d₂ r₁ r₂ turn e t d r =
     e
@@ -239,9 +238,9 @@ module _ (x : Progress) (b s : List ℕ) (ready : Ready x b s) where
       let o = length_body in
       omega arith
 
-  module _ (turn : Turn) (took : turn ≡ turn_with tables s stand.dialogue stand.reference kept.state 0 (segment_at s 0)) where
+  module _ (turn : Result Turn Refusal) (took : turn ≡ turn_with tables s stand.dialogue stand.reference kept.state 0 (segment_at s 0)) where
     -- a good one
-    module _ (next : State) (r : Row) (then : ℕ) (good : turn ≡ On next r then) where
+    module _ (next : State) (r : Row) (then : ℕ) (good : turn ≡ goes_on next r then) where
       pub good_within : (1 ≤ then) × (then ≤ length s) × (r.offset ≡ 0)
       good_within =
           one_within stand came s kept.state final_is ready.goes.opened ready.next.plain ready.next.unreleased within_all within_one refl ready.is turn took next r then good
@@ -322,7 +321,7 @@ module _ (x : Progress) (b s : List ℕ) (ready : Ready x b s) where
             (λ _. omega arith, λ e. absurd (false≢true e), λ _. ap (λ (z : Kept). z.answer) is)
 
     -- a faulty one
-    module _ (z : Refusal) (bad : turn ≡ Stop z) where
+    module _ (z : Refusal) (bad : turn ≡ Err z) where
       pub bad_within : z.position ≤ length s
       bad_within =
           stop_within stand came s kept.state final_is ready.goes.opened ready.next.plain ready.next.unreleased within_all within_one refl ready.is turn took z bad

@@ -1,6 +1,6 @@
 -- A stretch of a message in a parcel: where the reading stands behind it, and what it brought.
 -- Assumes nothing.
-use Rattle.std.specs.Prelude.{◌≡◌, false, List, [], ◌++◌, map, ℕ, zero, suc, ◌+◌, ◌-◌, ◌*◌, ◌/◌, ◌≤◌, length, take, drop}
+use Rattle.std.specs.Prelude.{◌≡◌, false, List, [], ◌++◌, map, ℕ, zero, suc, ◌+◌, ◌-◌, ◌*◌, ◌/◌, ◌≤◌, length, take, drop, Result, Ok, Err}
 use Rattle.std.proofs.Math.Path.{refl}
 use Rattle.std.proofs.Common.{sym, ap, subst, ◌∙◌, append-nil}
 use native.Mathlib.Omega.{arith}
@@ -15,7 +15,6 @@ use Rattle.placing.specs.Tables.{tables}
 use Rattle.steps.specs.declared.state.State.{State}
 use Rattle.steps.specs.declared.state.Row.{Row}
 use Rattle.interchange.specs.declared.turn.Turn.{Turn}
-use Rattle.interchange.specs.declared.turn.Turn.TheVariants.{On, Stop}
 use Rattle.interchange.specs.Reader.{accepted, numbers, turn_with}
 use Rattle.interchange.specs.Laws.{length_numbers}
 use Rattle.interchange.specs.Room.{room_size, room_rows}
@@ -34,10 +33,10 @@ use Rattle.parcels.specs.Onward.{Onward, named_at, named_stand, unfold_referred}
 use Rattle.parcels.specs.Passing.{ReadyStretch, Faster}
 
 -- no more rows than segments
-turn_most : (n : ℕ) (more : State → ℕ → Stretched) → ((st : State) (at : ℕ) → length (more st at).rows ≤ n) → (st : State) (at : ℕ) (t : Turn) → length (stretch_turn more st at t).rows ≤ suc n
-turn_most n more h st at (On next r then) =
-    choose (same_phase st.phase next.phase) (λ q. let m = h next then in rw q (omega arith)) (λ q. rw q (omega arith))
-turn_most n more h st at (Stop z) = omega arith
+turn_most : (n : ℕ) (more : State → ℕ → Stretched) → ((st : State) (at : ℕ) → length (more st at).rows ≤ n) → (st : State) (at : ℕ) (t : Result Turn Refusal) → length (stretch_turn more st at t).rows ≤ suc n
+turn_most n more h st at (Ok t) =
+    choose (same_phase st.phase t.state.phase) (λ q. let m = h t.state t.then in rw q (omega arith)) (λ q. rw q (omega arith))
+turn_most n more h st at (Err z) = omega arith
 
 stretch_most : (n : ℕ) (w reference : List ℕ) (st : State) (at : ℕ) → length (stretch_on n w reference st at).rows ≤ n
 unfolding stretch_on

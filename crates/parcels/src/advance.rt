@@ -17,11 +17,7 @@ use raw_bytes::put_bytes;
 pub(crate) fn is_awaited(answer: Final) -> bool
     ensures { result ≡ is_awaited answer }
 {
-    match answer {
-        Final::Awaited => true,
-        Final::Accepted => false,
-        Final::Refused(_) => false,
-    }
+    matches!(answer, Final::Awaited)
 }
 
 // The bytes at the parcel's end that no terminator follows are kept.
@@ -30,29 +26,22 @@ fn hold(store: &mut [u8], x: Progress, parcel: &[u8]) -> Progress
     ensures { Held parcel.now x store.old result store.new }
 {
     let kept = x.kept;
-    let answer = kept.answer;
-    if !is_awaited(answer) {
+    if !is_awaited(kept.answer) {
         return x;
     }
-    let state = kept.state;
-    let at = x.at;
-    let rest = &parcel[at..];
+    let rest = &parcel[x.at..];
     put_bytes(store, BODY + kept.body, rest);
     let ending = find_terminator(rest, kept.released);
     Progress {
         kept: Kept {
-            state,
-            offset: kept.offset,
             body: kept.body + rest.len(),
             released: ending.released,
-            dialogue: kept.dialogue,
-            reference: kept.reference,
-            count: kept.count,
             answer: Final::Awaited,
+            ..kept
         },
         at: parcel.len(),
-        numbers: x.numbers,
         ended: true,
+        ..x
     }
 }
 

@@ -20,49 +20,43 @@ ghost use Rattle.parcels.specs.Whole.{is_awaited};
 
 use crate::advance::{advance, is_awaited};
 use crate::passing::answered;
-use answers::Refusal;
+use answers::{Reason, Refusal};
 use interchange::is_closed;
-use interchange::reader::Reading;
 use parcel_store::{BODY, Final, Kept, STORE, load, save};
 use parts::{Part, bytes_of};
 use raw_bytes::put_bytes;
 use steps::state::State;
 use syntax::bytes::permitted;
 
-/// What a parcel comes to.
-#[derive(Clone, Copy)]
-pub enum Parcel {
-    /// So far nothing is wrong; how many rows were written.
-    Rows(usize),
-    /// How many rows were written before the fault, and the fault: 3, 4, 6 to 10 or 21, which is final, or 17.
-    Refused(usize, Refusal),
+/// What is wrong with a parcel, and how many rows were written before that.
+#[derive(Clone, Copy, PartialEq, Eq, Debug)]
+pub struct Fault {
+    pub rows: usize,
+    /// 3, 4, 6 to 10 or 21, which is final, or 17.
+    pub refusal: Refusal,
 }
 
-fn refused(rows: usize, number: u8, position: usize) -> Parcel
-    ensures { parcel_told result ≡ telling rows (answer.refused (answer.naming number position)) }
+// There is no room, of the store or for the rows.
+fn no_room() -> Result<usize, Fault>
+    ensures { parcel_told result ≡ telling 0 answer.output_too_short }
 {
-    Parcel::Refused(
-        rows,
-        Refusal {
-            number,
-            position,
-            part: 0,
-        },
-    )
+    Err(Fault {
+        rows: 0,
+        refusal: Reason::OutputTooShort.at(0),
+    })
 }
 
 /// The store holds a reading before its first byte; the wish is whether the caller asks for the old reading of a POP with neither form in what follows.
 /// 17 for a store of another length.
-pub fn begin(store: &mut [u8], wish: bool) -> Parcel
+pub fn begin(store: &mut [u8], wish: bool) -> Result<usize, Fault>
     ensures told { parcel_told result ≡ begin_told store.old }
     ensures left { store.new ≡ begin_store wish store.old }
 {
     if store.len() != STORE {
-        return refused(0, 17, 0);
+        return no_room();
     }
-    let state = State::opening(wish);
     let kept = Kept {
-        state,
+        state: State::opening(wish),
         offset: 0,
         body: 0,
         released: false,
@@ -72,7 +66,7 @@ pub fn begin(store: &mut [u8], wish: bool) -> Parcel
         answer: Final::Awaited,
     };
     save(store, kept);
-    Parcel::Rows(0)
+    Ok(0)
 }
 
 // Whether a parcel's rows fit into so many numbers. A row has four bytes at least, so that most parcels need not be read for it.
@@ -80,10 +74,8 @@ fn has_room(store: &[u8], kept: Kept, parcel: &[u8], room: usize) -> bool
     requires { (length store.now ≡ store_size) × Sized kept × (kept.answer ≡ Awaited) }
     ensures { result ≡ leb (3 * length (arrived_on (stand_of kept store.now) parcel.now).rows) room }
 {
-    if parcel.len() <= 60000 {
-        if (kept.body + parcel.len()) / 4 * 3 <= room {
-            return true;
-        }
+    if parcel.len() <= 60000 && (kept.body + parcel.len()) / 4 * 3 <= room {
+        return true;
     }
     let mut copy = [0u8; STORE];
     put_bytes(&mut copy, 0, store);
@@ -93,25 +85,25 @@ fn has_room(store: &[u8], kept: Kept, parcel: &[u8], room: usize) -> bool
 }
 
 // What the final answer says of a parcel that brought so many rows.
-fn told(rows: usize, answer: Final, count: usize) -> Parcel
+fn told(rows: usize, answer: Final, count: usize) -> Result<usize, Fault>
     ensures { parcel_told result ≡ telling rows (verdict_by (final_by answer count)) }
 {
     match answer {
-        Final::Awaited => Parcel::Rows(rows),
-        Final::Accepted => Parcel::Rows(rows),
-        Final::Refused(refusal) => Parcel::Refused(rows, refusal),
+        Final::Awaited => Ok(rows),
+        Final::Accepted => Ok(rows),
+        Final::Refused(refusal) => Err(Fault { rows, refusal }),
     }
 }
 
-/// Reads the next parcel and writes the rows of the segments that end in it to the front of a lent buffer; a fault is named after the rows before it. Where the
+/// Reads the next parcel and writes the rows of the segments that end in it to the front of a lent buffer, and tells how many; a fault is named after the rows before it. Where the
 /// rows do not fit the parcel is not taken: 17, and the next call finds the reading as it was. A final answer is repeated, and nothing is written then.
-pub fn take(store: &mut [u8], parcel: &[u8], rows: &mut [u32]) -> Parcel
+pub fn take(store: &mut [u8], parcel: &[u8], rows: &mut [u32]) -> Result<usize, Fault>
     ensures told { parcel_told result ≡ take_told store.old parcel.now (length rows.old) }
     ensures left { store.new ≡ take_store store.old parcel.now (length rows.old) }
     ensures out { rows.new ≡ take_rows store.old parcel.now rows.old }
 {
     if store.len() != STORE {
-        return refused(0, 17, 0);
+        return no_room();
     }
     let kept = load(store);
     let answer = kept.answer;
@@ -119,7 +111,7 @@ pub fn take(store: &mut [u8], parcel: &[u8], rows: &mut [u32]) -> Parcel
         return told(0, answer, kept.count);
     }
     if !has_room(store, kept, parcel, rows.len()) {
-        return refused(0, 17, 0);
+        return no_room();
     }
     let x = advance(store, kept, parcel, rows);
     let after = x.kept;
@@ -149,17 +141,9 @@ fn cut_answer(body: &[u8], offset: usize) -> Refusal
 {
     let run = permitted_run(body);
     if run < body.len() {
-        return Refusal {
-            number: 4,
-            position: offset + run,
-            part: 0,
-        };
+        return Reason::ByteNotPermitted.at(offset + run);
     }
-    Refusal {
-        number: 5,
-        position: offset,
-        part: 0,
-    }
+    Reason::InputEnds.at(offset)
 }
 
 // What the end of the input says.
@@ -167,14 +151,8 @@ fn end_answer(store: &[u8], kept: Kept) -> Final
     requires { (length store.now ≡ store_size) × Sized kept }
     ensures { final_by result kept.count ≡ given (awaited_end (stand_of kept store.now)) }
 {
-    let st = kept.state;
-    let phase = st.phase;
     if kept.offset + kept.body == 0 {
-        return Final::Refused(Refusal {
-            number: 3,
-            position: 0,
-            part: 0,
-        });
+        return Final::Refused(Reason::BadSize.at(0));
     }
     if 0 < kept.body {
         let body = bytes_of(
@@ -186,39 +164,31 @@ fn end_answer(store: &[u8], kept: Kept) -> Final
         );
         return Final::Refused(cut_answer(body, kept.offset));
     }
-    if is_closed(phase) {
+    if is_closed(kept.state.phase) {
         return Final::Accepted;
     }
-    Final::Refused(Refusal {
-        number: 7,
-        position: kept.offset,
-        part: 0,
-    })
+    Final::Refused(Reason::WrongEnvelope.at(kept.offset))
 }
 
 // The final answer of a reading.
-fn final_reading(answer: Final, count: usize) -> Reading
+fn final_reading(answer: Final, count: usize) -> Result<usize, Refusal>
     requires { is_awaited answer ≡ false }
     ensures { given (read_answer result) ≡ final_by answer count }
 {
     match answer {
-        Final::Awaited => Reading::Rows(count),
-        Final::Accepted => Reading::Rows(count),
-        Final::Refused(refusal) => Reading::Refused(refusal),
+        Final::Awaited => Ok(count),
+        Final::Accepted => Ok(count),
+        Final::Refused(refusal) => Err(refusal),
     }
 }
 
 /// The input is over: how many rows there were, or what is wrong. 17 for a store of another length. Later calls answer the same.
-pub fn finish(store: &mut [u8]) -> Reading
+pub fn finish(store: &mut [u8]) -> Result<usize, Refusal>
     ensures told { read_answer result ≡ finish_answer store.old }
     ensures left { store.new ≡ finish_store store.old }
 {
     if store.len() != STORE {
-        return Reading::Refused(Refusal {
-            number: 17,
-            position: 0,
-            part: 0,
-        });
+        return Err(Reason::OutputTooShort.at(0));
     }
     let kept = load(store);
     let answer = kept.answer;

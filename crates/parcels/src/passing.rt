@@ -16,7 +16,7 @@ ghost use Rattle.parcels.specs.Passing.{passed_kept, passed_store, Ready, ReadyP
 use crate::rows::put_rows;
 use answers::Refusal;
 use interchange::counted;
-use interchange::stretch::{Halt, read_stretch};
+use interchange::stretch::read_stretch;
 use interchange::turn::{Turn, turn_with};
 use parcel_store::{BODY, DIALOGUE, Final, Kept, REFERENCE};
 use parts::{Part, bytes_of};
@@ -40,16 +40,11 @@ pub(crate) struct Progress {
 pub(crate) fn answered(kept: Kept, answer: Final) -> Kept
     ensures { result ≡ answered_kept kept answer }
 {
-    let state = kept.state;
     Kept {
-        state,
-        offset: kept.offset,
         body: 0,
         released: false,
-        dialogue: kept.dialogue,
-        reference: kept.reference,
-        count: kept.count,
         answer,
+        ..kept
     }
 }
 
@@ -57,12 +52,10 @@ pub(crate) fn answered(kept: Kept, answer: Final) -> Kept
 pub(crate) fn named(x: Progress, refusal: Refusal) -> Progress
     ensures { result ≡ named_at x refusal }
 {
-    let kept = x.kept;
     Progress {
-        kept: answered(kept, Final::Refused(refusal)),
-        at: x.at,
-        numbers: x.numbers,
+        kept: answered(x.kept, Final::Refused(refusal)),
         ended: true,
+        ..x
     }
 }
 
@@ -80,29 +73,14 @@ fn put_part(store: &mut [u8], at: usize, text: &[u8])
 fn opens(before: Phase) -> bool
     ensures { result ≡ arrival.opens before }
 {
-    match before {
-        Phase::Opening => true,
-        Phase::Between => false,
-        Phase::Inside => false,
-        Phase::Closed => false,
-    }
+    matches!(before, Phase::Opening)
 }
 
 // Whether a segment that leads from one phase to another is a UIH.
 fn heads(before: Phase, after: Phase) -> bool
     ensures { result ≡ arrival.heads before after }
 {
-    match before {
-        Phase::Opening => false,
-        Phase::Between => match after {
-            Phase::Opening => false,
-            Phase::Between => false,
-            Phase::Inside => true,
-            Phase::Closed => false,
-        },
-        Phase::Inside => false,
-        Phase::Closed => false,
-    }
+    matches!((before, after), (Phase::Between, Phase::Inside))
 }
 
 // The dialogue reference that a segment brings is kept; its length, or that of the one that is kept already.
@@ -111,13 +89,10 @@ fn keep_dialogue(store: &mut [u8], kept: Kept, next: State, segment: &[u8]) -> u
     ensures told { (result ≡ pick (arrival.opens kept.state.phase) (length (bytes_of segment.now next.dialogue)) kept.dialogue) × (result ≤ part_size) }
     ensures left { store.new ≡ put_part (arrival.opens kept.state.phase) store.old dialogue_place (bytes_of segment.now next.dialogue) }
 {
-    let st = kept.state;
-    let before = st.phase;
-    if !opens(before) {
+    if !opens(kept.state.phase) {
         return kept.dialogue;
     }
-    let part = next.dialogue;
-    let text = bytes_of(segment, part);
+    let text = bytes_of(segment, next.dialogue);
     put_part(store, DIALOGUE, text);
     text.len()
 }
@@ -128,20 +103,16 @@ fn keep_reference(store: &mut [u8], kept: Kept, next: State, segment: &[u8]) -> 
     ensures told { (result ≡ pick (arrival.heads kept.state.phase next.phase) (length (bytes_of segment.now next.reference)) kept.reference) × (result ≤ part_size) }
     ensures left { store.new ≡ put_part (arrival.heads kept.state.phase next.phase) store.old reference_place (bytes_of segment.now next.reference) }
 {
-    let st = kept.state;
-    let before = st.phase;
-    let after = next.phase;
-    if !heads(before, after) {
+    if !heads(kept.state.phase, next.phase) {
         return kept.reference;
     }
-    let part = next.reference;
-    let text = bytes_of(segment, part);
+    let text = bytes_of(segment, next.reference);
     put_part(store, REFERENCE, text);
     text.len()
 }
 
 // The turn of one segment with the references that are kept.
-fn lent_turn(store: &[u8], kept: Kept, segment: &[u8]) -> Turn
+fn lent_turn(store: &[u8], kept: Kept, segment: &[u8]) -> Result<Turn, Refusal>
     requires { Sized kept }
     ensures { result ≡ turn_with placing.tables segment.now (stand_of kept store.now).dialogue (stand_of kept store.now).reference kept.state 0 (segment_at segment.now 0) }
 {
@@ -160,8 +131,7 @@ fn lent_turn(store: &[u8], kept: Kept, segment: &[u8]) -> Turn
         },
     );
     let all = tables();
-    let st = kept.state;
-    turn_with(segment, st, 0, dialogue, reference, &all)
+    turn_with(segment, kept.state, 0, dialogue, reference, &all)
 }
 
 // What is kept after one segment.
@@ -191,10 +161,17 @@ pub(crate) fn pass_one(store: &mut [u8], x: Progress, segment: &[u8], rows: &mut
 {
     let kept = x.kept;
     match lent_turn(store, kept, segment) {
-        Turn::On(next, row, then) => {
+        Ok(turn) => {
+            let row = turn.row;
             let one = [0, row.group, row.tag];
             put_rows(&one, 3, rows, x.numbers, kept.offset);
-            let after = passed(store, kept, next, &segment[..then - 1], segment.len());
+            let after = passed(
+                store,
+                kept,
+                turn.state,
+                &segment[..turn.then - 1],
+                segment.len(),
+            );
             Progress {
                 kept: after,
                 at: x.at + (segment.len() - kept.body),
@@ -202,12 +179,11 @@ pub(crate) fn pass_one(store: &mut [u8], x: Progress, segment: &[u8], rows: &mut
                 ended: false,
             }
         }
-        Turn::Stop(refusal) => named(
+        Err(refusal) => named(
             x,
             Refusal {
-                number: refusal.number,
                 position: kept.offset + refusal.position,
-                part: refusal.part,
+                ..refusal
             },
         ),
     }
@@ -242,7 +218,6 @@ pub(crate) fn pass_stretch(store: &[u8], x: Progress, piece: &[u8], rows: &mut [
     ensures { Onward piece.now x store.now rows.old result store.now rows.new × Faster x result }
 {
     let kept = x.kept;
-    let st = kept.state;
     let reference = bytes_of(
         store,
         Part {
@@ -251,33 +226,29 @@ pub(crate) fn pass_stretch(store: &[u8], x: Progress, piece: &[u8], rows: &mut [
         },
     );
     let mut room = [0u32; 384];
-    let stretch = read_stretch(piece, st, reference, &mut room);
+    let stretch = read_stretch(piece, kept.state, reference, &mut room);
     put_rows(&room, stretch.numbers, rows, x.numbers, kept.offset);
-    let next = stretch.state;
     let beyond = Progress {
         kept: Kept {
-            state: next,
+            state: stretch.state,
             offset: kept.offset + stretch.at,
             body: 0,
             released: false,
-            dialogue: kept.dialogue,
-            reference: kept.reference,
             count: counted(kept.count, stretch.numbers / 3),
             answer: Final::Awaited,
+            ..kept
         },
         at: x.at + stretch.at,
         numbers: x.numbers + stretch.numbers,
         ended: false,
     };
-    let halt = stretch.halt;
-    match halt {
-        Halt::Sound => beyond,
-        Halt::Faulty(refusal) => named(
+    match stretch.halt {
+        None => beyond,
+        Some(refusal) => named(
             beyond,
             Refusal {
-                number: refusal.number,
                 position: kept.offset + refusal.position,
-                part: refusal.part,
+                ..refusal
             },
         ),
     }

@@ -1,13 +1,12 @@
 //! What comes next of a parcel.
 
-ghost use Rattle.std.specs.Prelude.{◌≡◌, true, ◌+◌, ◌≤◌, ◌<◌, min, length};
-ghost use Rattle.answers.specs.Answers.{naming};
+ghost use Rattle.std.specs.Prelude.{◌≡◌, true, ◌+◌, ◌≤◌, ◌<◌, length};
 ghost use Rattle.parcels.specs.Onward.{Onward};
 ghost use Rattle.parcels.specs.Passing.{Faster};
 ghost use Rattle.parcels.specs.Pieces.{halted_at, unended_at, ReadyEnd, Standing, Went};
 
 use crate::passing::{Progress, named, pass_cut, pass_one, pass_stretch};
-use answers::Refusal;
+use answers::Reason;
 use cuts::find_terminator;
 use interchange::{is_closed, is_inside};
 
@@ -16,34 +15,11 @@ pub(crate) const SEGMENT: usize = 4096;
 
 pub(crate) const INTERCHANGE: usize = 60000;
 
-fn least(a: usize, b: usize) -> usize
-    ensures { result ≡ min a b }
-{
-    if a < b { a } else { b }
-}
-
-// A fault of no period.
-fn fault(number: u8, position: usize) -> Refusal
-    ensures { result ≡ naming number position }
-{
-    Refusal {
-        number,
-        position,
-        part: 0,
-    }
-}
-
 // Nothing more is read.
 fn halted(x: Progress) -> Progress
     ensures { result ≡ halted_at x }
 {
-    let kept = x.kept;
-    Progress {
-        kept,
-        at: x.at,
-        numbers: x.numbers,
-        ended: true,
-    }
+    Progress { ended: true, ..x }
 }
 
 // No segment ends in the next n bytes: where bytes follow, the first of them is one too many, of the interchange or else of the segment.
@@ -56,9 +32,9 @@ fn unended(x: Progress, n: usize, left: usize) -> Progress
         return halted(x);
     }
     if INTERCHANGE <= kept.offset + kept.body + n {
-        return named(x, fault(3, 0));
+        return named(x, Reason::BadSize.at(0));
     }
-    named(x, fault(21, kept.offset))
+    named(x, Reason::SegmentTooLong.at(kept.offset))
 }
 
 // A piece in which a segment ends, at an index.
@@ -67,15 +43,10 @@ fn pass_piece(store: &mut [u8], x: Progress, piece: &[u8], end: usize, rows: &mu
     ensures { Onward piece.now x store.old rows.old result store.new rows.new × Faster x result }
 {
     let kept = x.kept;
-    let st = kept.state;
-    let phase = st.phase;
-    if 0 < kept.body {
+    if 0 < kept.body || kept.released {
         return pass_cut(store, x, &piece[..end + 1], rows);
     }
-    if kept.released {
-        return pass_cut(store, x, &piece[..end + 1], rows);
-    }
-    if is_inside(phase) {
+    if is_inside(kept.state.phase) {
         return pass_stretch(store, x, piece, rows);
     }
     pass_one(store, x, &piece[..end + 1], rows)
@@ -87,8 +58,6 @@ pub(crate) fn go_on(store: &mut [u8], x: Progress, parcel: &[u8], rows: &mut [u3
     ensures { Went parcel.now x store.old rows.old result store.new rows.new }
 {
     let kept = x.kept;
-    let st = kept.state;
-    let phase = st.phase;
     let at = x.at;
     let left = parcel.len() - at;
     if left == 0 {
@@ -96,12 +65,12 @@ pub(crate) fn go_on(store: &mut [u8], x: Progress, parcel: &[u8], rows: &mut [u3
     }
     let arrived = kept.offset + kept.body;
     if INTERCHANGE <= arrived {
-        return named(x, fault(3, 0));
+        return named(x, Reason::BadSize.at(0));
     }
-    if is_closed(phase) {
-        return named(x, fault(7, kept.offset));
+    if is_closed(kept.state.phase) {
+        return named(x, Reason::WrongEnvelope.at(kept.offset));
     }
-    let n = least(left, least(SEGMENT - kept.body, INTERCHANGE - arrived));
+    let n = left.min((SEGMENT - kept.body).min(INTERCHANGE - arrived));
     let piece = &parcel[at..at + n];
     let end = find_terminator(piece, kept.released).at;
     if end == n {

@@ -23,11 +23,10 @@ pub(crate) fn put_rows(from: &[u32], n: usize, rows: &mut [u32], at: usize, base
     if rows.len() - n < at {
         return;
     }
-    let mut i = 0;
-    while i < n {
+    for row in 0..n / 3 {
+        let i = 3 * row;
         rows[at + i] = raised_by(from[i], base);
         rows[at + i + 1] = from[i + 1];
         rows[at + i + 2] = from[i + 2];
-        i += 3;
     }
 }

@@ -6,18 +6,18 @@ use Rattle.std.proofs.Math.Decide.{dec_lt}
 use Rattle.laws.specs.Lists.{between, between_all}
 use Rattle.syntax.specs.Pieces.{first_piece}
 use Rattle.parts.specs.Cuts.{cut_end, piece_past, piece_ends, piece_released, piece_goes}
-use Rattle.parts.specs.declared.ends.Walked.{Walked}
-use Rattle.parts.specs.declared.ends.Walked.TheVariants.{Ends, Goes}
+use Rattle.std.specs.declared.ops.ControlFlow.{ControlFlow}
+use Rattle.std.specs.declared.ops.ControlFlow.TheVariants.{Break, Continue}
 
 -- the piece ends there; or it goes on from there, past where it started and before the end of the part
-abbrev pub WalkTold : List ℕ → ℕ → ℕ → ℕ → Walked → Type 0
-WalkTold s from to c (Ends e) = e ≡ cut_end s from to c
-WalkTold s from to c (Goes k) = (from < k) × (k < to) × (cut_end s k to c ≡ cut_end s from to c)
+abbrev pub WalkTold : List ℕ → ℕ → ℕ → ℕ → ControlFlow ℕ ℕ → Type 0
+WalkTold s from to c (Break e) = e ≡ cut_end s from to c
+WalkTold s from to c (Continue k) = (from < k) × (k < to) × (cut_end s k to c ≡ cut_end s from to c)
 
-pub ends_known : (s : List ℕ) (from to c : ℕ) {r : Walked} {e : ℕ} → WalkTold s from to c r → r ≡ Ends e → e ≡ cut_end s from to c
+pub ends_known : (s : List ℕ) (from to c : ℕ) {r : ControlFlow ℕ ℕ} {e : ℕ} → WalkTold s from to c r → r ≡ Break e → e ≡ cut_end s from to c
 ends_known s from to c t q = subst (WalkTold s from to c) q t
 
-pub goes_known : (s : List ℕ) (from to c : ℕ) {r : Walked} {k : ℕ} → WalkTold s from to c r → r ≡ Goes k → (from < k) × (k < to) × (cut_end s k to c ≡ cut_end s from to c)
+pub goes_known : (s : List ℕ) (from to c : ℕ) {r : ControlFlow ℕ ℕ} {k : ℕ} → WalkTold s from to c r → r ≡ Continue k → (from < k) × (k < to) × (cut_end s k to c ≡ cut_end s from to c)
 goes_known s from to c t q = subst (WalkTold s from to c) q t
 
 -- an end past the list's is its end

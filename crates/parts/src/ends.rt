@@ -7,7 +7,8 @@ ghost use Rattle.parts.specs.Texts.{text_bits};
 ghost use Rattle.parts.specs.Plain.{plain_bits};
 ghost use Rattle.parts.specs.Walked.{WalkTold};
 
-use raw_bytes::{Eight, differing, eight_at, wide_byte};
+use raw_bytes::{differing, eight_at, wide_byte};
+use std::ops::ControlFlow;
 
 // The highest bit of each of eight bytes, all other bits, the lowest, and eight times `?`.
 const HIGH: usize = 0x8080_8080_8080_8080;
@@ -25,15 +26,6 @@ const BY_TWO: usize = 0x7e7e_7e7e_7e7e_7e7e;
 
 const BY_SIX: usize = 0x7a7a_7a7a_7a7a_7a7a;
 
-// How far a walk byte by byte came.
-#[derive(Clone, Copy)]
-enum Walked {
-    /// The piece ends here.
-    Ends(usize),
-    /// It goes on from here, where nothing is released.
-    Goes(usize),
-}
-
 // Whether no byte of eight is that of eight marks, or a `?`.
 fn are_plain(word: usize, marks: usize) -> bool
     ensures { result ≡ eqb (plain_bits word marks) 9259542123273814144 }
@@ -42,6 +34,7 @@ fn are_plain(word: usize, marks: usize) -> bool
 }
 
 // Past plain text, eight bytes by eight: a piece that starts at `from` ends where one does that starts here.
+// The index moves by eight, as far as eight are left: one load and two tests for each.
 fn pass_plain(s: &[u8], from: usize, to: usize, mark: u8) -> usize
     ensures { (from ≤ result) × (cut_end s.now result to mark ≡ cut_end s.now from to mark) }
 {
@@ -51,7 +44,7 @@ fn pass_plain(s: &[u8], from: usize, to: usize, mark: u8) -> usize
         if to - i < 8 {
             return i;
         }
-        let Eight::Word(word) = eight_at(s, i) else {
+        let Some(word) = eight_at(s, i) else {
             return i;
         };
         if !are_plain(word, marks) {
@@ -62,31 +55,26 @@ fn pass_plain(s: &[u8], from: usize, to: usize, mark: u8) -> usize
     i
 }
 
-// The smaller of two numbers.
-fn least(a: usize, b: usize) -> usize
-    ensures { result ≡ min a b }
-{
-    if a < b { a } else { b }
-}
-
-// Byte by byte to the end of the piece that starts at `from`, or past eight bytes and what a release at their end releases.
-fn walk(s: &[u8], from: usize, end: usize, mark: u8) -> Walked
+// Byte by byte to the end of the piece that starts at `from`: a break there; or past eight bytes and what a release at their end releases, from
+// where the piece goes on and nothing is released.
+fn walk(s: &[u8], from: usize, end: usize, mark: u8) -> ControlFlow<usize, usize>
     requires { end ≤ length s.now }
     ensures { WalkTold s.now from end mark result }
 {
     if end <= from {
-        return Walked::Ends(from);
+        return ControlFlow::Break(from);
     }
-    let stop = from + least(end - from, 8);
+    let stop = from + (end - from).min(8);
+    // The index moves by what was read, not by one.
     let mut i = from;
     while i < stop {
         let b = s[i];
         if b == mark {
-            return Walked::Ends(i);
+            return ControlFlow::Break(i);
         }
         if b == b'?' {
             if end - i < 2 {
-                return Walked::Ends(end);
+                return ControlFlow::Break(end);
             }
             i += 2;
             continue;
@@ -94,9 +82,9 @@ fn walk(s: &[u8], from: usize, end: usize, mark: u8) -> Walked
         i += 1;
     }
     if end <= i {
-        return Walked::Ends(i);
+        return ControlFlow::Break(i);
     }
-    Walked::Goes(i)
+    ControlFlow::Continue(i)
 }
 
 // Where the piece that starts at `from` ends: at the first byte that stands as the mark, or with the part. Most are short, so a walk
@@ -104,16 +92,12 @@ fn walk(s: &[u8], from: usize, end: usize, mark: u8) -> Walked
 pub(crate) fn piece_end(s: &[u8], from: usize, to: usize, mark: u8) -> usize
     ensures { result ≡ cut_end s.now from to mark }
 {
-    let end = least(s.len(), to);
+    let end = s.len().min(to);
     let mut i = from;
     loop {
         match walk(s, i, end, mark) {
-            Walked::Ends(at) => {
-                return at;
-            }
-            Walked::Goes(next) => {
-                i = pass_plain(s, next, end, mark);
-            }
+            ControlFlow::Break(at) => return at,
+            ControlFlow::Continue(next) => i = pass_plain(s, next, end, mark),
         }
     }
 }
@@ -126,6 +110,7 @@ fn text_bits(word: usize) -> usize
 }
 
 // Past text with no mark and no release in it, eight bytes by eight, to the first byte that may be one, or to where fewer are left.
+// The index moves by eight: one load and two tests for each.
 fn pass_text(s: &[u8], from: usize, to: usize) -> usize
     requires { to ≤ length s.now }
     ensures { component_end s.now result to ≡ component_end s.now from to }
@@ -135,7 +120,7 @@ fn pass_text(s: &[u8], from: usize, to: usize) -> usize
         if to - i < 8 {
             return i;
         }
-        let Eight::Word(word) = eight_at(s, i) else {
+        let Some(word) = eight_at(s, i) else {
             return i;
         };
         let text = text_bits(word);
@@ -167,23 +152,16 @@ fn near_release(b: u8) -> bool
 pub(crate) fn component_end(s: &[u8], from: usize, to: usize) -> usize
     ensures { result ≡ component_end s.now from to }
 {
-    let end = least(s.len(), to);
-    let mut i = pass_text(s, from, end);
-    while i < end {
+    let end = s.len().min(to);
+    let start = pass_text(s, from, end);
+    for i in start..end {
         let byte = s[i];
-        if byte == b'+' {
-            return i;
-        }
-        if byte == b'*' {
-            return i;
-        }
-        if byte == b':' {
+        if byte == b'+' || byte == b'*' || byte == b':' {
             return i;
         }
         if near_release(byte) {
             return end_by_each(s, i, end);
         }
-        i += 1;
     }
-    i
+    start.max(end)
 }

@@ -43,17 +43,12 @@ fn rest_from(s: &[u8], part: Part, mark: u8, n: usize) -> Part
 {
     let to = part.to;
     let mut from = part.from;
-    let mut left = n;
-    while 0 < left {
+    for _ in 0..n {
         let end = piece_end(s, from, to, mark);
-        if to <= end {
-            return Part::none();
-        }
-        if s.len() <= end {
+        if to <= end || s.len() <= end {
             return Part::none();
         }
         from = end + 1;
-        left -= 1;
     }
     Part { from, to }
 }

@@ -11,34 +11,27 @@ use syntax::ends::find_end;
 fn end_of(s: &[u8], from: usize) -> usize
     ensures { result ≡ from + length (body_at s.now from) }
 {
-    let mut i = from;
     let mut released = false;
-    while i < s.len() {
+    for i in from..s.len() {
         let b = s[i];
         if released {
             released = false;
+        } else if b == b'\'' {
+            return i;
         } else {
-            if b == b'\'' {
-                return i;
-            }
             released = b == b'?';
         }
-        i += 1;
     }
-    i
+    from.max(s.len())
 }
 
 /// Where the segment at an offset stands: up to its terminator, or to the input's end.
 pub fn segment_at(s: &[u8], at: usize) -> Part
     ensures { result ≡ segment_of s.now at }
 {
-    let found = find_end(s, at);
-    if found < s.len() {
-        return Part {
-            from: at,
-            to: found,
-        };
-    }
-    let to = end_of(s, at);
+    let to = match find_end(s, at) {
+        Some(end) => end,
+        None => end_of(s, at),
+    };
     Part { from: at, to }
 }

@@ -1,7 +1,7 @@
 -- The two dates of a POP as most are written, eight characters at a time: a byte is a digit or the mark that stands in a pattern where it
 -- differs from the pattern's byte by so little that no highest bit is set.
 -- Assumes nothing.
-use Rattle.std.specs.Prelude.{◌≡◌, refl, Bool, true, false, List, [], ◌∷◌, ℕ, ◌+◌, ◌-◌, ◌*◌, ◌≤◌, ◌<◌, leb, length, get_or}
+use Rattle.std.specs.Prelude.{◌≡◌, refl, Bool, true, false, List, [], ◌∷◌, ℕ, ◌+◌, ◌-◌, ◌*◌, ◌≤◌, ◌<◌, leb, length, get_or, Option, Some, None}
 use Rattle.std.proofs.Common.{sym, ap₂, ◌∙◌, arith}
 use Rattle.std.proofs.Math.Path.{ap}
 use Rattle.std.specs.Int.Bits.{bit_or}
@@ -16,9 +16,6 @@ use Rattle.dates.specs.Days.{is_date, day_number}
 use Rattle.dates.specs.Dates.{date, made_of, day_of, valid, number}
 use Rattle.dates.specs.Text.{is_digit, two_digits, digits_at, date_at}
 use Rattle.dates.specs.declared.Date.{Date}
-use Rattle.dates.specs.declared.Made.TheVariants.{Valid}
-use Rattle.dates.specs.declared.Number.{Number}
-use Rattle.dates.specs.declared.Number.TheVariants.{Day, NoDay}
 
 -- a byte with that of a pattern, and what may be added to their difference before its highest bit is set
 record Wanted : Type 0 where
@@ -119,7 +116,7 @@ pub record DatesIn (g : List ℕ) : Type 0 where
 abbrev pub pair_in : List ℕ → ℕ → ℕ
 pair_in s i = (get_or s i 0 - 48) * 10 + (get_or s (i + 1) 0 - 48)
 
-unfoldable pub day_in : List ℕ → ℕ → Number
+unfoldable pub day_in : List ℕ → ℕ → Option ℕ
 day_in s at = day_of (pair_in s at * 100 + pair_in s (at + 2)) (pair_in s (at + 5)) (pair_in s (at + 8))
 
 pair_of : (s : List ℕ) (i : ℕ) → i + 2 ≤ length s → is_digit (get_or s i 0) ≡ true → is_digit (get_or s (i + 1) 0) ≡ true → Pair s i
@@ -193,10 +190,10 @@ pair_digits s i p =
 
 pub record Known (s : List ℕ) (at n : ℕ) : Type 0 where
   pub date : Date
-  pub read : date_at s at ≡ Valid date
+  pub read : date_at s at ≡ Some date
   pub told : (valid date ≡ true) × (number date ≡ n)
 
-known : (p : Bool) (k : ℕ) {n : ℕ} → pick p (Day k) NoDay ≡ Day n → (p ≡ true) × (k ≡ n)
+known : (p : Bool) (k : ℕ) {n : ℕ} → pick p (Some k) None ≡ Some n → (p ≡ true) × (k ≡ n)
 known true k e = (refl, cc)
 known false k e = let z : ◌≡◌ {A = ℕ} 0 1 = cc in absurd (omega arith)
 
@@ -217,7 +214,7 @@ module _ (s : List ℕ) (at : ℕ) (h : DateAt s at) where
         pair_digits s (at + 8) h.day,
       )
 
-  pub day_known : {n : ℕ} → day_in s at ≡ Day n → Known s at n
+  pub day_known : {n : ℕ} → day_in s at ≡ Some n → Known s at n
   unfolding day_in day_of made_of
   day_known e =
       let k = known (is_date y (pair_in s (at + 5)) (pair_in s (at + 8))) (day_number y (pair_in s (at + 5)) (pair_in s (at + 8))) e in

@@ -1,7 +1,7 @@
 -- Laws of the POP at an offset of an input. As most are written, `POP+273:first/last` and then a form of days or neither, it is read straight through:
 -- what it says tells where it ends.
 -- Assumes nothing.
-use Rattle.std.specs.Prelude.{◌≡◌, Bool, true, false, ℕ, suc, ◌+◌, ◌-◌, ◌≤◌, ◌<◌, eqb, leb, ltb, length, get_or, take}
+use Rattle.std.specs.Prelude.{◌≡◌, Bool, true, false, ℕ, suc, ◌+◌, ◌-◌, ◌≤◌, ◌<◌, eqb, leb, ltb, length, get_or, take, Some, Option, None, Result, Ok, Err}
 use Rattle.std.proofs.Math.Path.{refl, ap}
 use Rattle.std.proofs.Common.{sym, subst, ◌∙◌, take-append-drop, length-append, drop-drop, get_or-drop}
 use mathlib.Core.List.{List, [], ◌∷◌, ◌++◌, append_assoc}
@@ -14,50 +14,48 @@ use Rattle.parts.specs.Places.{present}
 use Rattle.syntax.specs.Pieces.{first_piece}
 use Rattle.syntax.specs.Segment.{body_at, segment_at}
 use Rattle.syntax.specs.Tags.{tag_ahead}
-use Rattle.syntax.specs.declared.segment.Scanned.{Scanned}
-use Rattle.syntax.specs.declared.segment.Scanned.TheVariants.{End, NotPermitted, Unended, Malformed}
+use Rattle.syntax.specs.declared.segment.ScanError.{ScanError}
+use Rattle.syntax.specs.declared.segment.ScanError.TheVariants.{NotPermitted, Unended, Malformed}
 use Rattle.free_texts.specs.Free.{numeric, no_quote, first_front}
 use Rattle.free_texts.specs.Parts.{one_element, two_elements, with_string, without_string, dates_quiet, passed_cut}
 use Rattle.free_texts.specs.Whole.{Parts, string_parts, week_parts, alone_parts}
 use Rattle.period.specs.declared.Form.{Form}
 use Rattle.period.specs.declared.Form.TheVariants.{Every, ByString, ByWeekdays}
-use Rattle.period.specs.declared.Period.{Period}
-use Rattle.period.specs.declared.Period.TheVariants.{Good, Wrong}
-use Rattle.period.specs.declared.Pop.{Pop}
-use Rattle.period.specs.declared.Pop.TheVariants.{Whole, Other}
-use Rattle.period.specs.declared.forms.Formed.TheVariants.{Told}
-use Rattle.calendar.specs.declared.Span.TheVariants.{Days}
-use Rattle.period.specs.Period.{span_in, zero_or_one, day_string, rising_days, formed_of, period_of, pop_of, pop_at}
+use Rattle.period.specs.Period.{span_in, zero_or_one, day_string, rising_days, formed_of, period_of, pop_of, pop_at, period_from, pop_from}
 use Rattle.period.specs.Facts.{span_told_lem}
 use Rattle.period.specs.Written.{cut_good, Begins}
+use Rattle.calendar.specs.Written.{span_of}
+use Rattle.period.specs.declared.Period.{Period}
+use Rattle.period.specs.declared.Pop.{Pop}
+use Rattle.period.specs.declared.Fault.{Fault}
 
 -- by what stands there
-pub pop_is : (wish : Bool) (s : List ℕ) (at : ℕ) {x : Scanned} {p : Period} → segment_at s at ≡ x → period_of wish (body_at s at) ≡ p → pop_at wish s at ≡ pop_of x p
+pub pop_is : (wish : Bool) (s : List ℕ) (at : ℕ) {x : Result ℕ ScanError} {p : Result Period Fault} → segment_at s at ≡ x → period_of wish (body_at s at) ≡ p → pop_at wish s at ≡ pop_of x p
 unfolding pop_at
 pop_is wish s at a b = rw (a, b)
 
 -- and what is known where there is one
 pub record PopKnown (wish : Bool) (s : List ℕ) (at e f n : ℕ) (form : Form) : Type 0 where
-  pub segment : segment_at s at ≡ End e
-  pub period : period_of wish (body_at s at) ≡ Good f n form
+  pub segment : segment_at s at ≡ Ok e
+  pub period : period_of wish (body_at s at) ≡ period_from f n form
 
-pop_by_lem : (wish : Bool) (s : List ℕ) (at : ℕ) (x : Scanned) (p : Period) {e f n : ℕ} {form : Form} → segment_at s at ≡ x → period_of wish (body_at s at) ≡ p → pop_of x p ≡ Whole e f n form → PopKnown wish s at e f n form
-pop_by_lem wish s at (End e) (Good f n form) a b q = record { segment = a ∙ cc; period = b ∙ cc }
-pop_by_lem wish s at (End e) (Wrong x) a b q = let z : ◌≡◌ {A = ℕ} 0 1 = cc in absurd (omega arith)
-pop_by_lem wish s at (NotPermitted i) p a b q = let z : ◌≡◌ {A = ℕ} 0 1 = cc in absurd (omega arith)
-pop_by_lem wish s at Unended p a b q = let z : ◌≡◌ {A = ℕ} 0 1 = cc in absurd (omega arith)
-pop_by_lem wish s at Malformed p a b q = let z : ◌≡◌ {A = ℕ} 0 1 = cc in absurd (omega arith)
+pop_by_lem : (wish : Bool) (s : List ℕ) (at : ℕ) (x : Result ℕ ScanError) (p : Result Period Fault) {e f n : ℕ} {form : Form} → segment_at s at ≡ x → period_of wish (body_at s at) ≡ p → pop_of x p ≡ pop_from e f n form → PopKnown wish s at e f n form
+pop_by_lem wish s at (Ok e) (Ok v) {e = e₂} {f} {n} {form} a b q =
+    let s : ◌≡◌ {A = Pop} (record { end = e; period = v }) (record { end = e₂; period = record { days = span_of f n; form = form } }) = cc in
+    record { segment = a ∙ ap (λ (x : Pop). Ok x.end) s; period = b ∙ ap (λ (x : Pop). Ok x.period) s }
+pop_by_lem wish s at (Ok e) (Err x) a b q = let z : ◌≡◌ {A = ℕ} 0 1 = cc in absurd (omega arith)
+pop_by_lem wish s at (Err error) p a b q = let z : ◌≡◌ {A = ℕ} 0 1 = cc in absurd (omega arith)
 
-pub pop_told_lem : (wish : Bool) (s : List ℕ) (at : ℕ) {e f n : ℕ} {form : Form} → pop_at wish s at ≡ Whole e f n form → PopKnown wish s at e f n form
+pub pop_told_lem : (wish : Bool) (s : List ℕ) (at : ℕ) {e f n : ℕ} {form : Form} → pop_at wish s at ≡ pop_from e f n form → PopKnown wish s at e f n form
 unfolding pop_at
 pop_told_lem wish s at q = pop_by_lem wish s at (segment_at s at) (period_of wish (body_at s at)) refl refl q
 
 -- where a POP was found it is the one at the offset in the old reading; where none was found nothing is said
-abbrev pub pop_told : List ℕ → ℕ → Pop → Type 0
-pop_told s at (Whole e f n form) = Whole e f n form ≡ pop_at true s at
-pop_told s at Other = Unit
+abbrev pub pop_told : List ℕ → ℕ → Option Pop → Type 0
+pop_told s at (Some p) = Some p ≡ pop_at true s at
+pop_told s at None = Unit
 
-pub pop_known : (s : List ℕ) (at : ℕ) {r : Pop} {e f n : ℕ} {form : Form} → pop_told s at r → r ≡ Whole e f n form → Whole e f n form ≡ pop_at true s at
+pub pop_known : (s : List ℕ) (at : ℕ) {r : Option Pop} {e f n : ℕ} {form : Form} → pop_told s at r → r ≡ pop_from e f n form → pop_from e f n form ≡ pop_at true s at
 pop_known s at t q = subst (pop_told s at) q t
 
 -- the characters of the forms
@@ -115,15 +113,15 @@ some_text [] h = absurd (omega arith)
 some_text (b ∷ l) h = refl
 
 module _ (n : ℕ) (l : List ℕ) (k : present l ≡ true) where
-  told_weekdays : rising_days 48 l ≡ true → formed_of true n [] l ≡ Told ByWeekdays
+  told_weekdays : rising_days 48 l ≡ true → formed_of true n [] l ≡ Ok ByWeekdays
   unfolding formed_of
   told_weekdays r = rw (r, k)
 
-  told_string : length l ≤ n → all zero_or_one l ≡ true → formed_of true n l [] ≡ Told ByString
+  told_string : length l ≤ n → all zero_or_one l ≡ true → formed_of true n l [] ≡ Ok ByString
   unfolding formed_of rising_days day_string
   told_string e z = rw (k, le-leb (length l) n e, z)
 
-told_every : (n : ℕ) → formed_of true n [] [] ≡ Told Every
+told_every : (n : ℕ) → formed_of true n [] [] ≡ Ok Every
 unfolding formed_of rising_days
 told_every n = refl
 
@@ -136,7 +134,7 @@ cut_at g a e h k q =
 
 -- a written POP with its terminator behind it, at an offset of a text
 module _ (t : List ℕ) (at : ℕ) (g d s w rest : List ℕ) (p : Parts g d s w) (pd : all numeric d ≡ true) (ps : all numeric s ≡ true) (pw : all numeric w ≡ true) where
-  pub whole_pop : drop at t ≡ g ++ (39 ∷ rest) → {f n : ℕ} {form : Form} → span_in d ≡ Days f n → formed_of true n s w ≡ Told form → Whole (at + length g) f n form ≡ pop_at true t at
+  pub whole_pop : drop at t ≡ g ++ (39 ∷ rest) → {f n : ℕ} {form : Form} → span_in d ≡ Some (span_of f n) → formed_of true n s w ≡ Ok form → pop_from (at + length g) f n form ≡ pop_at true t at
   whole_pop e a b =
       let v = p.whole t at rest e in
       sym (pop_is true t at v.1 (ap (period_of true) v.0 ∙ sym (cut_good g d s w p.cut pd ps pw true a b)))
@@ -168,13 +166,13 @@ module _ (t : List ℕ) (at : ℕ) (g : List ℕ) (here : drop at t ≡ g) {f n 
   few : length b.dates ≤ 512
   few = let l = b.counted in omega arith
 
-  pub alone_pop : 29 < length g → get_or g 29 0 ≡ 39 → Whole (at + 29) f n Every ≡ pop_at true t at
+  pub alone_pop : 29 < length g → get_or g 29 0 ≡ 39 → pop_from (at + 29) f n Every ≡ pop_at true t at
   alone_pop h q =
-      ap (λ (k : ℕ). Whole (at + k) f n Every) (sym (ap (λ (k : ℕ). suc (suc (suc (suc (suc (suc (suc (suc k)))))))) b.counted))
+      ap (λ (k : ℕ). pop_from (at + k) f n Every) (sym (ap (λ (k : ℕ). suc (suc (suc (suc (suc (suc (suc (suc k)))))))) b.counted))
       ∙ whole_pop t at (one_element (without_string dates)) dates [] [] (drop 30 g) (alone_parts dates b.numerics few) b.numerics refl refl
       (behind (39 ∷ drop 30 g) (drop_here g 29 h ∙ rw q)) b.span (told_every n)
 
-  pub weekdays_pop : (e : ℕ) → WeekIn g e → get_or g 29 0 ≡ 43 → Whole (at + e) f n ByWeekdays ≡ pop_at true t at
+  pub weekdays_pop : (e : ℕ) → WeekIn g e → get_or g 29 0 ≡ 43 → pop_from (at + e) f n ByWeekdays ≡ pop_at true t at
   weekdays_pop e i p =
       let r = i.is in
       let h = i.some in
@@ -187,14 +185,14 @@ module _ (t : List ℕ) (at : ℕ) (g : List ℕ) (here : drop at t ≡ g) {f n 
       let c = b.counted in
       let m = length-append dates (43 ∷ between g 30 e) in
       let y : e ≡ suc (suc (suc (suc (suc (suc (suc (suc (length (dates ++ (43 ∷ between g 30 e)))))))))) = omega arith in
-      ap (λ (j : ℕ). Whole (at + j) f n ByWeekdays) y
+      ap (λ (j : ℕ). pop_from (at + j) f n ByWeekdays) y
       ∙ whole_pop t at (two_elements (without_string dates) (between g 30 e)) dates [] (between g 30 e) (drop (e + 1) g)
       (week_parts dates (between g 30 e) b.numerics v few (omega arith)) b.numerics refl v
       (behind (43 ∷ (between g 30 e ++ (39 ∷ drop (e + 1) g))) (drop_here g 29 (omega arith) ∙ rw p (ap (λ (j : List ℕ). 43 ∷ j) (cut_at g 30 e (omega arith) k i.quote)))
       ∙ sym (ap (λ (j : List ℕ). 80 ∷ 79 ∷ 80 ∷ 43 ∷ 50 ∷ 55 ∷ 51 ∷ 58 ∷ j) (append_assoc dates (43 ∷ between g 30 e) (39 ∷ drop (e + 1) g))))
       b.span (told_weekdays n (between g 30 e) (some_text (between g 30 e) (omega arith)) u)
 
-  pub string_pop : (e : ℕ) → StringIn g n e → Whole (at + e) f n ByString ≡ pop_at true t at
+  pub string_pop : (e : ℕ) → StringIn g n e → pop_from (at + e) f n ByString ≡ pop_at true t at
   string_pop e i =
       let r = i.some in
       let o = i.few in
@@ -207,7 +205,7 @@ module _ (t : List ℕ) (at : ℕ) (g : List ℕ) (here : drop at t ≡ g) {f n 
       let c = b.counted in
       let m = length-append dates (58 ∷ 58 ∷ between g 31 e) in
       let x : e ≡ suc (suc (suc (suc (suc (suc (suc (suc (length (dates ++ (58 ∷ 58 ∷ between g 31 e)))))))))) = omega arith in
-      ap (λ (j : ℕ). Whole (at + j) f n ByString) x
+      ap (λ (j : ℕ). pop_from (at + j) f n ByString) x
       ∙ whole_pop t at (one_element (with_string dates (between g 31 e))) dates (between g 31 e) [] (drop (e + 1) g)
       (string_parts dates (between g 31 e) b.numerics v few (omega arith)) b.numerics v refl
       (behind (58 ∷ 58 ∷ (between g 31 e ++ (39 ∷ drop (e + 1) g)))
@@ -224,7 +222,7 @@ module _ (t : List ℕ) (at : ℕ) (g : List ℕ) (here : drop at t ≡ g) {f n 
         ap (first_piece 39 false) (behind (43 ∷ 43 ∷ drop 31 g) (drop_here g 29 (omega arith) ∙ rw p (ap (λ (j : List ℕ). 43 ∷ j) (drop_here g 30 h ∙ rw q))))
         ∙ first_front 39 (one_element (without_string dates)) (43 ∷ 43 ∷ drop 31 g) (dates_quiet dates b.numerics 39 refl refl (no_quote dates b.numerics))
 
-    pub passed_pop : (e : ℕ) → segment_at t at ≡ End e → Whole e f n Every ≡ pop_at true t at
+    pub passed_pop : (e : ℕ) → segment_at t at ≡ Ok e → pop_from e f n Every ≡ pop_at true t at
     passed_pop e w =
         sym (pop_is true t at w (ap (period_of true) passed_body
         ∙ sym (cut_good (two_elements (without_string dates) (43 ∷ first_piece 39 false (drop 31 g))) dates [] [] (passed_cut dates b.numerics (first_piece 39 false (drop 31 g))) b.numerics refl refl true b.span (told_every n))))

@@ -1,6 +1,6 @@
 -- A POP as most are written, `POP+273:first/last` and then a form of days or neither: what its bytes say is its period.
 -- Assumes nothing.
-use Rattle.std.specs.Prelude.{◌≡◌, Bool, true, ℕ, zero, suc, ◌+◌, ◌*◌, ◌≤◌, eqb, leb, length}
+use Rattle.std.specs.Prelude.{◌≡◌, Bool, true, ℕ, zero, suc, ◌+◌, ◌*◌, ◌≤◌, eqb, leb, length, Some, None, Option, Ok}
 use Rattle.std.proofs.Math.Path.{refl, ap}
 use Rattle.std.proofs.Common.{sym, subst, ◌∙◌, arith, le-leb, leb-true, eqb-true}
 use mathlib.Core.List.{List, [], ◌∷◌, ◌++◌}
@@ -12,17 +12,13 @@ use Rattle.syntax.specs.Bytes.{plain, plain_on}
 use Rattle.values.specs.Values.{same_text}
 use Rattle.dates.specs.Text.{is_digit, two_digits, digits_at, date_at}
 use Rattle.dates.specs.declared.Date.{Date}
-use Rattle.dates.specs.declared.Made.TheVariants.{Valid, NoDate}
-use Rattle.calendar.specs.Written.{days_span}
-use Rattle.calendar.specs.declared.Span.{Span}
-use Rattle.calendar.specs.declared.Span.TheVariants.{Days, Bad}
+use Rattle.calendar.specs.Written.{days_span, span_of}
 use Rattle.free_texts.specs.Free.{numeric, plain_all, no_release}
 use Rattle.free_texts.specs.Parts.{Cut, one_element, without_string}
 use Rattle.period.specs.declared.Form.{Form}
-use Rattle.period.specs.declared.Period.TheVariants.{Good}
-use Rattle.period.specs.declared.forms.Formed.TheVariants.{Told}
-use Rattle.period.specs.Period.{first_last, day_text, week_text, span_in, formed_of, rest_good, period_of}
+use Rattle.period.specs.Period.{first_last, day_text, week_text, span_in, formed_of, rest_good, period_of, period_from}
 use Rattle.period.specs.Tests.{two_dates, good_period_lem}
+use Rattle.calendar.specs.declared.Span.{Span}
 
 -- a POP cut into these parts is a good period where they are good
 module _ (g d s w : List ℕ) (p : Cut g d s w) (pd : all numeric d ≡ true) (ps : all numeric s ≡ true) (pw : all numeric w ≡ true) where
@@ -41,7 +37,7 @@ module _ (g d s w : List ℕ) (p : Cut g d s w) (pd : all numeric d ≡ true) (p
       rw (p.first_once, p.second_once)
       (ap (λ (x : List ℕ). both (same_text (plain x) (bytes "273")) true) p.qualifier_is)
 
-  pub cut_good : (wish : Bool) {f n : ℕ} {form : Form} → span_in d ≡ Days f n → formed_of wish n s w ≡ Told form → Good f n form ≡ period_of wish g
+  pub cut_good : (wish : Bool) {f n : ℕ} {form : Form} → span_in d ≡ Some (span_of f n) → formed_of wish n s w ≡ Ok form → period_from f n form ≡ period_of wish g
   cut_good wish {f} {n} {form} a b =
       good_period_lem wish g (ap span_in dates_plain ∙ a)
       (ap (λ (x : List ℕ). formed_of wish n x (week_text g)) string_plain ∙ ap (formed_of wish n s) weekdays_plain ∙ b)
@@ -77,11 +73,11 @@ hyphen_numeric b p = rw (eqb-true b 45 p)
 pair_numeric : (t o : ℕ) → both (is_digit t) (is_digit o) ≡ true → (numeric t ≡ true) × (numeric o ≡ true)
 pair_numeric t o p = let u = both_parts (is_digit t) (is_digit o) p in (digit_numeric t u.0, digit_numeric o u.1)
 
-no_date : {a : Date} → NoDate ≡ Valid a → ⊥
+no_date : {a : Date} → None ≡ Some a → ⊥
 no_date e = let z : ◌≡◌ {A = ℕ} 0 1 = cc in omega arith
 
 module _ (y₀ y₁ y₂ y₃ y₄ y₅ y₆ y₇ y₈ y₉ : ℕ) where
-  date_numeric : {a : Date} → date_at (y₀ ∷ y₁ ∷ y₂ ∷ y₃ ∷ y₄ ∷ y₅ ∷ y₆ ∷ y₇ ∷ y₈ ∷ y₉ ∷ []) 0 ≡ Valid a
+  date_numeric : {a : Date} → date_at (y₀ ∷ y₁ ∷ y₂ ∷ y₃ ∷ y₄ ∷ y₅ ∷ y₆ ∷ y₇ ∷ y₈ ∷ y₉ ∷ []) 0 ≡ Some a
       → all numeric (y₀ ∷ y₁ ∷ y₂ ∷ y₃ ∷ y₄ ∷ y₅ ∷ y₆ ∷ y₇ ∷ y₈ ∷ y₉ ∷ []) ≡ true
   unfolding date_at digits_at two_digits
   date_numeric e =
@@ -108,14 +104,14 @@ pub record Begins (g : List ℕ) (f n : ℕ) : Type 0 where
   pub counted : length dates ≡ 21
   pub split : g ≡ one_element (without_string (dates ++ drop 29 g))
   pub numerics : all numeric dates ≡ true
-  pub span : span_in dates ≡ Days f n
+  pub span : span_in dates ≡ Some (span_of f n)
 
 -- days that were found are those of such a POP; where none were found nothing is said
-abbrev pub span_told : List ℕ → Span → Type 0
-span_told g (Days f n) = Begins g f n
-span_told g Bad = Unit
+abbrev pub span_told : List ℕ → Option Span → Type 0
+span_told g (Some s) = Begins g s.first s.count
+span_told g None = Unit
 
-pub span_known : (g : List ℕ) {r : Span} {f n : ℕ} → span_told g r → r ≡ Days f n → Begins g f n
+pub span_known : (g : List ℕ) {r : Option Span} {f n : ℕ} → span_told g r → r ≡ Some (span_of f n) → Begins g f n
 span_known g t e = subst (span_told g) e t
 
 pub record Same (a b c d x y z w : ℕ) : Type 0 where
@@ -152,7 +148,7 @@ word_same {r} {t} {a} {b} {c} {d} {x} {y} {z} {w} p q e =
 four_same : {a b c d x y z w : ℕ} → Same a b c d x y z w → (l : List ℕ) → a ∷ b ∷ c ∷ d ∷ l ≡ x ∷ y ∷ z ∷ w ∷ l
 four_same s l = rw (s.one, s.two, s.three, s.four)
 
-module _ (g : List ℕ) (h : 29 ≤ length g) {a b : Date} (p : date_at g 8 ≡ Valid a) (q : date_at g 19 ≡ Valid b) (stroke : get_or g 18 0 ≡ 47) where
+module _ (g : List ℕ) (h : 29 ≤ length g) {a b : Date} (p : date_at g 8 ≡ Some a) (q : date_at g 19 ≡ Some b) (stroke : get_or g 18 0 ≡ 47) where
   abbrev ds : List ℕ
   ds = firsts g 8 21
 
@@ -181,7 +177,7 @@ module _ (g : List ℕ) (h : 29 ≤ length g) {a b : Date} (p : date_at g 8 ≡ 
         ∙ ap one_element (four_same t (drop 8 g))
         ∙ ap (λ (x : List ℕ). one_element (without_string x)) (drop_firsts g 21 8 (omega arith))
 
-    pub begins_told : (r : Span) → r ≡ days_span a b → span_told g r
-    begins_told Bad e = tt
-    begins_told (Days f n) e =
+    pub begins_told : (r : Option Span) → r ≡ days_span a b → span_told g r
+    begins_told None e = tt
+    begins_told (Some r) e =
         record { dates = firsts g 8 21; counted = length_firsts g 21 8; split = begins_split; numerics = dates_numeric; span = sym (e ∙ dates_span) }

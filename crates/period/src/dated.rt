@@ -3,8 +3,8 @@
 ghost use Rattle.std.specs.Prelude.{◌≡◌, true, ◌≤◌};
 ghost use Rattle.period.specs.Dated.{DateAt, DatesIn, Pair, pair_in, day_in};
 
-use dates::{Number, day_of};
-use raw_bytes::{Eight, differing, eight_at};
+use dates::day_of;
+use raw_bytes::{differing, eight_at};
 
 // The bytes of `yyyy-mm-`, `dd/yyyy-` and `yy-mm-dd`, `0` in the place of a digit.
 const FIRST: usize = 0x2d30_302d_3030_3030;
@@ -24,13 +24,13 @@ const LAST_ROOM: usize = 0x7676_7f76_767f_7676;
 pub(crate) fn are_dates(g: &[u8]) -> bool
     ensures { result ≡ true → DatesIn g.now }
 {
-    let Eight::Word(first) = eight_at(g, 8) else {
+    let Some(first) = eight_at(g, 8) else {
         return false;
     };
-    let Eight::Word(middle) = eight_at(g, 16) else {
+    let Some(middle) = eight_at(g, 16) else {
         return false;
     };
-    let Eight::Word(last) = eight_at(g, 21) else {
+    let Some(last) = eight_at(g, 21) else {
         return false;
     };
     let front = differing(first, FIRST, FIRST_ROOM) | differing(middle, MIDDLE, MIDDLE_ROOM);
@@ -49,7 +49,7 @@ fn pair_at(g: &[u8], at: usize) -> u32
 }
 
 // The number of the day that a date names.
-pub(crate) fn day_at(g: &[u8], at: usize) -> Number
+pub(crate) fn day_at(g: &[u8], at: usize) -> Option<usize>
     requires { DateAt g.now at }
     ensures { result ≡ day_in g.now at }
 {

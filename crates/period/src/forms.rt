@@ -6,52 +6,21 @@ ghost use Rattle.parts.specs.Places.{present};
 ghost use Rattle.period.specs.Period.{day_string, fits_days, rising_days, formed_of};
 
 use crate::{Fault, Form};
-use values::{Next, next_byte};
-
-// The form in which the days are told, or what is wrong with it.
-#[derive(Clone, Copy)]
-pub(crate) enum Formed {
-    Told(Form),
-    Faulty(Fault),
-}
+use values::{characters, plain_length};
 
 // Whether a part says anything.
 fn is_present(part: &[u8]) -> bool
     ensures { result ≡ present (plain part.now) }
 {
-    match next_byte(part, 0) {
-        Next::Byte(_, _) => true,
-        Next::Done => false,
-    }
+    characters(part).next().is_some()
 }
 
 // Whether a part is of `0` and `1` alone, at most one for each of n days.
+#[tactic(auto, unfolding(crate::specs::Period::day_string))]
 fn is_day_string(part: &[u8], n: usize) -> bool
     ensures { result ≡ day_string n (plain part.now) }
 {
-    let mut i = 0;
-    let mut left = n;
-    while i < part.len() {
-        match next_byte(part, i) {
-            Next::Byte(b, k) => {
-                if left == 0 {
-                    return false;
-                }
-                if b < b'0' {
-                    return false;
-                }
-                if b'1' < b {
-                    return false;
-                }
-                i = k;
-                left -= 1;
-            }
-            Next::Done => {
-                return true;
-            }
-        }
-    }
-    true
+    plain_length(part) <= n && characters(part).all(|b| b == b'0' || b == b'1')
 }
 
 // A day string that is absent is right too.
@@ -65,54 +34,43 @@ fn fits_days(part: &[u8], n: usize) -> bool
 }
 
 // Whether the weekdays rise from each to the next.
+#[tactic(auto, unfolding(crate::specs::Period::rising_days))]
 fn is_rising(part: &[u8]) -> bool
     ensures { result ≡ rising_days 48 (plain part.now) }
 {
-    let mut i = 0;
     let mut low = b'0';
-    while i < part.len() {
-        match next_byte(part, i) {
-            Next::Byte(b, k) => {
-                if b <= low {
-                    return false;
-                }
-                if b'7' < b {
-                    return false;
-                }
-                low = b;
-                i = k;
-            }
-            Next::Done => {
-                return true;
-            }
+    for b in characters(part) {
+        if b <= low || b'7' < b {
+            return false;
         }
+        low = b;
     }
     true
 }
 
 // What tells the days of a period of n days, each form judged by itself; where neither is given, the caller's wish decides.
-pub(crate) fn read_form(days: &[u8], weekdays: &[u8], n: usize, wish: bool) -> Formed
+pub(crate) fn read_form(days: &[u8], weekdays: &[u8], n: usize, wish: bool) -> Result<Form, Fault>
     ensures { result ≡ formed_of wish n (plain days.now) (plain weekdays.now) }
 {
     let fits = fits_days(days, n);
     let rises = is_rising(weekdays);
     if !fits {
-        return Formed::Faulty(Fault::BadDayString);
+        return Err(Fault::BadDayString);
     }
     if !rises {
-        return Formed::Faulty(Fault::BadWeekdays);
+        return Err(Fault::BadWeekdays);
     }
     if is_present(days) {
         if is_present(weekdays) {
-            return Formed::Faulty(Fault::BothForms);
+            return Err(Fault::BothForms);
         }
-        return Formed::Told(Form::ByString);
+        return Ok(Form::ByString);
     }
     if is_present(weekdays) {
-        return Formed::Told(Form::ByWeekdays);
+        return Ok(Form::ByWeekdays);
     }
     if wish {
-        return Formed::Told(Form::Every);
+        return Ok(Form::Every);
     }
-    Formed::Faulty(Fault::NeitherForm)
+    Err(Fault::NeitherForm)
 }

@@ -11,21 +11,22 @@ mod spans;
 mod strings;
 mod written;
 
-ghost use Rattle.std.specs.Prelude.{◌≡◌, ℕ};
+ghost use Rattle.std.specs.Prelude.{◌≡◌, ℕ, Some, Ok};
 ghost use Rattle.syntax.specs.Segment.{segment_at};
 ghost use Rattle.parts.specs.Places.{bytes_of};
-ghost use Rattle.period.specs.Period.{suffices, period_of, period_answer, pop_answer, fault_number, pop_at};
+ghost use Rattle.period.specs.Period.{suffices, period_of, period_answer, pop_answer, fault_number, pop_at, pop_from};
 
 use crate::any::read_any;
 use crate::written::read_written;
+use calendar::Span;
 pub use elements::part_of;
 use parts::Part;
 pub use runs::day_runs;
 pub use strings::are_days;
-use syntax::segment::{Scanned, read_segment};
+use syntax::segment::read_segment;
 
 /// What tells the days of a period.
-#[derive(Clone, Copy)]
+#[derive(Clone, Copy, PartialEq, Eq, Debug)]
 pub enum Form {
     /// Neither form is given and the caller asks for the old reading: every day runs.
     Every,
@@ -49,7 +50,7 @@ impl Form {
 }
 
 /// Which part of a POP is wrong; where several are, the first of these.
-#[derive(Clone, Copy)]
+#[derive(Clone, Copy, PartialEq, Eq, Debug)]
 pub enum Fault {
     BadDates,
     BadDayString,
@@ -76,27 +77,34 @@ impl Fault {
     }
 }
 
-/// What a POP says.
+/// What a POP says: its days, and what tells those that run.
 #[derive(Clone, Copy)]
-pub enum Period {
-    /// The number of its first day, how many days it has, and what tells those that run.
-    Good(usize, usize, Form),
-    Wrong(Fault),
+pub struct Period {
+    pub days: Span,
+    pub form: Form,
 }
 
-/// What stands at an offset where a POP is looked for.
+/// A whole segment that says a good period: the terminator's index, and what it says.
 #[derive(Clone, Copy)]
-pub enum Pop {
-    /// A whole segment that says a good period: the terminator's index, the number of its first day, how many days it has, and what tells
-    /// those that run.
-    Whole(usize, usize, usize, Form),
-    /// No whole segment, or one that says no good period.
-    Other,
+pub struct Pop {
+    pub end: usize,
+    pub period: Period,
+}
+
+impl Pop {
+    fn new(end: usize, days: Span, form: Form) -> Pop
+        ensures { Some result ≡ pop_from end days.first days.count form }
+    {
+        Pop {
+            end,
+            period: Period { days, form },
+        }
+    }
 }
 
 /// The period that a POP gives, the segment without its terminator. The wish is whether the caller asks for the old reading, in which a POP
 /// with neither form means every day.
-pub fn read_period(s: &[u8], segment: Part, wish: bool) -> Period
+pub fn read_period(s: &[u8], segment: Part, wish: bool) -> Result<Period, Fault>
     ensures period { result ≡ period_of wish (bytes_of s.now segment) }
     ensures said { (at : ℕ) → period_answer at result ≡ pop_answer wish at (bytes_of s.now segment) }
 {
@@ -104,40 +112,34 @@ pub fn read_period(s: &[u8], segment: Part, wish: bool) -> Period
 }
 
 // The POP of a whole segment, written in any way.
-fn read_whole(s: &[u8], at: usize, end: usize, wish: bool) -> Pop
-    requires { segment_at s.now at ≡ Scanned.End end }
+fn read_whole(s: &[u8], at: usize, end: usize, wish: bool) -> Option<Pop>
+    requires { segment_at s.now at ≡ Ok end }
     ensures { result ≡ pop_at wish s.now at }
 {
-    match read_any(s, Part { from: at, to: end }, wish) {
-        Period::Good(first, count, form) => Pop::Whole(end, first, count, form),
-        Period::Wrong(_) => Pop::Other,
-    }
+    let period = read_any(s, Part { from: at, to: end }, wish).ok()?;
+    Some(Pop { end, period })
 }
 
 // The POP at an offset, written in any way.
-fn read_pop(s: &[u8], at: usize, wish: bool) -> Pop
+fn read_pop(s: &[u8], at: usize, wish: bool) -> Option<Pop>
     ensures { result ≡ pop_at wish s.now at }
 {
     match read_segment(s, at) {
-        Scanned::End(end) => read_whole(s, at, end, wish),
-        Scanned::NotPermitted(_) => Pop::Other,
-        Scanned::Unended => Pop::Other,
-        Scanned::Malformed => Pop::Other,
+        Ok(end) => read_whole(s, at, end, wish),
+        Err(_) => None,
     }
 }
 
 /// The POP at an offset, where a whole segment stands there that says a good period. What a POP in a usual form says tells where it ends, so
 /// that its bytes are looked at once.
-pub fn pop_at(s: &[u8], at: usize, wish: bool) -> Pop
+pub fn pop_at(s: &[u8], at: usize, wish: bool) -> Option<Pop>
     ensures { result ≡ pop_at wish s.now at }
 {
-    match read_written(s, at) {
-        Pop::Whole(end, first, count, form) => {
-            if form.suffices(wish) {
-                return Pop::Whole(end, first, count, form);
-            }
-            Pop::Other
-        }
-        Pop::Other => read_pop(s, at, wish),
+    let Some(pop) = read_written(s, at) else {
+        return read_pop(s, at, wish);
+    };
+    if pop.period.form.suffices(wish) {
+        return Some(pop);
     }
+    None
 }

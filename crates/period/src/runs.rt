@@ -5,7 +5,7 @@ ghost use Rattle.parts.specs.Places.{bytes_of};
 ghost use Rattle.period.specs.Period.{runs_by, runs_in};
 
 use crate::elements::part_of;
-use crate::{Form, Period};
+use crate::{Fault, Form, Period};
 use characters::{character_at, has_character};
 use parts::Part;
 
@@ -24,16 +24,13 @@ fn form_runs(s: &[u8], segment: Part, form: Form, first: usize, k: usize) -> boo
 }
 
 /// Whether the day k days after the first runs, of the period that was read from a segment.
-pub fn day_runs(s: &[u8], segment: Part, period: Period, k: usize) -> bool
+pub fn day_runs(s: &[u8], segment: Part, period: Result<Period, Fault>, k: usize) -> bool
     ensures { result ≡ runs_in (bytes_of s.now segment) period k }
 {
     match period {
-        Period::Good(first, count, form) => {
-            if count <= k {
-                return false;
-            }
-            form_runs(s, segment, form, first, k)
+        Ok(period) => {
+            k < period.days.count && form_runs(s, segment, period.form, period.days.first, k)
         }
-        Period::Wrong(_) => false,
+        Err(_) => false,
     }
 }

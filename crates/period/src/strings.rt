@@ -5,7 +5,7 @@ ghost use Rattle.laws.specs.Choice.{all};
 ghost use Rattle.laws.specs.Leads.{run_of};
 ghost use Rattle.period.specs.Period.{zero_or_one};
 
-use raw_bytes::{Eight, eight_at};
+use raw_bytes::eight_at;
 
 // Eight times `0`.
 const ZEROS: usize = 0x3030_3030_3030_3030;
@@ -37,7 +37,7 @@ pub(crate) fn days_end(g: &[u8], from: usize) -> usize
 {
     let mut i = from;
     loop {
-        let Eight::Word(word) = eight_at(g, i) else {
+        let Some(word) = eight_at(g, i) else {
             return last_days_end(g, i);
         };
         if (word ^ ZEROS) & ALIKE != 0 {
@@ -54,7 +54,7 @@ pub fn are_days(g: &[u8], from: usize) -> bool
     let mut i = from;
     let mut other = 0usize;
     loop {
-        let Eight::Word(word) = eight_at(g, i) else {
+        let Some(word) = eight_at(g, i) else {
             if other != 0 {
                 return false;
             }

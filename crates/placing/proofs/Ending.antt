@@ -1,5 +1,6 @@
 -- Where a message may end: exactly where no mandatory place but the UIT's is left empty. Assumes nothing.
-use Rattle.std.specs.Prelude.{◌≡◌, Bool, T, eqb, leb, ltb}
+use Rattle.std.specs.Option.{option_or}
+use Rattle.std.specs.Prelude.{◌≡◌, Bool, T, eqb, leb, ltb, Option, Some, None, is_some}
 use Rattle.std.proofs.Math.Path.{refl, ap}
 use Rattle.std.proofs.Common.{sym, ◌∙◌, subst, arith, leb→le}
 use Rattle.std.proofs.Math.Bool.{true, false}
@@ -10,11 +11,9 @@ use borrow.Author.Tests.{eq-eqb, ne_eqb, lt-leb}
 use Rattle.laws.specs.Choice.{pick, both, either, all}
 use Rattle.laws.specs.Sweep.{at}
 use Rattle.placing.specs.declared.Place.{Place}
-use Rattle.placing.specs.declared.Stepped.{Stepped}
-use Rattle.placing.specs.declared.Stepped.TheVariants.{Placed, OutOfPlace}
 use Rattle.placing.specs.Table.{Table, rows, tag_at, conditional, most, level_of, outer, after_of, end_of, places_on, later}
 use Rattle.placing.specs.Place.{count_at}
-use Rattle.placing.specs.Rule.{reachable, none_left, Choice, go, again, later_ones, choices_from, chosen, or_stepped, first_of, step_of, is_placed, may_end}
+use Rattle.placing.specs.Rule.{reachable, none_left, Choice, go, again, later_ones, choices_from, chosen, first_of, step_of, may_end}
 use Rattle.placing.proofs.Walks.{after_grows, after_within, none_from, one_from, first_append, first_pick_none}
 use Rattle.placing.proofs.Laws.{only_row, chosen_tag}
 use Rattle.placing.specs.WellFormed.{is_not}
@@ -42,7 +41,7 @@ either_other : (a b : Bool) → T (either a b) → a ≡ false → T b
 either_other true b h e = let z : ◌≡◌ {A = ℕ} 0 1 = cc in absurd (omega arith)
 either_other false b h e = h
 
-placed_pick : (b : Bool) (s : Stepped) → is_placed (pick b s OutOfPlace) ≡ both b (is_placed s)
+placed_pick : (b : Bool) (s : Option Place) → is_some (pick b s None) ≡ both b (is_some s)
 placed_pick true s = refl
 placed_pick false s = refl
 
@@ -86,10 +85,10 @@ module _ (t : Table) (last : ℕ) (m : MessageTable t last) where
 
   module _ (p : Place) where
     abbrev Unfit : Choice → Type 0
-    Unfit c = chosen t p UIT c ≡ OutOfPlace
+    Unfit c = chosen t p UIT c ≡ None
 
-    unfit_by : (row level n : ℕ) → Sound t p row level n → (row ≡ last → ⊥) → (x : Stepped) → chosen t p UIT (go row level n) ≡ x → x ≡ OutOfPlace
-    unfit_by row level n s h (Placed q) c =
+    unfit_by : (row level n : ℕ) → Sound t p row level n → (row ≡ last → ⊥) → (x : Option Place) → chosen t p UIT (go row level n) ≡ x → x ≡ None
+    unfit_by row level n s h (Some q) c =
         let tag = chosen_tag t UIT p (go row level n) q c in
         elim (dec_lt 0 (tag_at t row)) [
           | yes l ↦
@@ -102,12 +101,12 @@ module _ (t : Table) (last : ℕ) (m : MessageTable t last) where
               let d : level_of t (row + 1) ≡ 0 = ap (level_of t) w ∙ m.uit_free in
               absurd (omega (arith, (trigger t m.well row s.there e).deeper, d))
         ]
-    unfit_by row level n s h OutOfPlace c = refl
+    unfit_by row level n s h None c = refl
 
     unfit : (row level n : ℕ) → Sound t p row level n → (row ≡ last → ⊥) → Unfit (go row level n)
     unfit row level n s h = unfit_by row level n s h (chosen t p UIT (go row level n)) refl
 
-    first_unfit : (l : List Choice) → Each Unfit l → first_of t p UIT l ≡ OutOfPlace
+    first_unfit : (l : List Choice) → Each Unfit l → first_of t p UIT l ≡ None
     unfolding first_of
     first_unfit [] h = refl
     first_unfit (c ∷ l) h = rw h.0 (first_unfit l h.1)
@@ -116,11 +115,11 @@ module _ (t : Table) (last : ℕ) (m : MessageTable t last) where
     again_by row level n true h s = (unfit row level n s.0 h, tt)
     again_by row level n false h s = tt
 
-    again_unfit : (level row : ℕ) → row < rows t → level_of t row ≡ level → Above t p level (outer t row) → (row ≡ last → ⊥) → first_of t p UIT (again t p level row) ≡ OutOfPlace
+    again_unfit : (level row : ℕ) → row < rows t → level_of t row ≡ level → Above t p level (outer t row) → (row ≡ last → ⊥) → first_of t p UIT (again t p level row) ≡ None
     unfolding again
     again_unfit level row l d a h = first_unfit (again t p level row) (again_by row level (count_at p level + 1) (ltb (count_at p level) (most t row)) h (again_sound t m.well p level row l d a))
 
-    later_unfit : (level row : ℕ) → row < rows t → level_of t row ≡ suc level → Above t p (suc level) (outer t row) → first_of t p UIT (later_ones t (suc level) row) ≡ OutOfPlace
+    later_unfit : (level row : ℕ) → row < rows t → level_of t row ≡ suc level → Above t p (suc level) (outer t row) → first_of t p UIT (later_ones t (suc level) row) ≡ None
     unfolding later_ones
     later_unfit level row l d a =
         first_unfit (later_ones t (suc level) row)
@@ -132,35 +131,35 @@ module _ (t : Table) (last : ℕ) (m : MessageTable t last) where
 
     -- The last place, which it does
 
-    last_fits : is_placed (chosen t p UIT (go last 0 1)) ≡ true
+    last_fits : is_some (chosen t p UIT (go last 0 1)) ≡ true
     last_fits =
         let n : tag_at t last ≡ 0 → ⊥ = λ z. let y : UIT ≡ 0 = sym m.uit ∙ z in omega arith in
         rw (segment_fits 4 t UIT last n, eq-eqb (tag_at t last) UIT m.uit)
 
-    placed_first : (x y : Stepped) → is_placed x ≡ true → is_placed (or_stepped x y) ≡ true
-    placed_first (Placed q) y e = refl
-    placed_first OutOfPlace y e = let z : ◌≡◌ {A = ℕ} 0 1 = cc in absurd (omega arith)
+    placed_first : (x y : Option Place) → is_some x ≡ true → is_some (option_or x y) ≡ true
+    placed_first (Some q) y e = refl
+    placed_first None y e = let z : ◌≡◌ {A = ℕ} 0 1 = cc in absurd (omega arith)
 
-    shorter : (b : Bool) (l : List ℕ) (y : Bool) → is_placed (first_of t p UIT (map (λ r. go r 0 1) l)) ≡ y
-        → is_placed (first_of t p UIT (map (λ r. go r 0 1) (pick b l []))) ≡ both b y
+    shorter : (b : Bool) (l : List ℕ) (y : Bool) → is_some (first_of t p UIT (map (λ r. go r 0 1) l)) ≡ y
+        → is_some (first_of t p UIT (map (λ r. go r 0 1) (pick b l []))) ≡ both b y
     unfolding first_of
     shorter true l y e = e
     shorter false l y e = refl
 
     level_0 : (l : List ℕ) → Ends last l → Each (λ r. (r ≡ last → ⊥) → Unfit (go r 0 1)) l
-        → is_placed (first_of t p UIT (map (λ r. go r 0 1) (reachable t l))) ≡ all (λ r. either (eqb r last) (conditional t r)) l
+        → is_some (first_of t p UIT (map (λ r. go r 0 1) (reachable t l))) ≡ all (λ r. either (eqb r last) (conditional t r)) l
     unfolding first_of reachable
     level_0 [] e u = absurd e
     level_0 (r ∷ []) e u =
         rw (eq-eqb r last e)
         (placed_first (chosen t p UIT (go r 0 1)) (first_of t p UIT (map (λ r. go r 0 1) (pick (conditional t r) [] [])))
-        (ap (λ x. is_placed (chosen t p UIT (go x 0 1))) e ∙ last_fits))
+        (ap (λ x. is_some (chosen t p UIT (go x 0 1))) e ∙ last_fits))
     level_0 (r ∷ s ∷ l) e u =
         rw (u.0 e.0, ne_eqb r last e.0)
         (shorter (conditional t r) (reachable t (s ∷ l)) (all (λ r. either (eqb r last) (conditional t r)) (s ∷ l)) (level_0 (s ∷ l) e.1 u.1))
 
     later_fits : (row : ℕ) → row < last → level_of t row ≡ 0
-        → is_placed (first_of t p UIT (later_ones t 0 row)) ≡ all (λ r. either (eqb r last) (conditional t r)) (later t 0 row)
+        → is_some (first_of t p UIT (later_ones t 0 row)) ≡ all (λ r. either (eqb r last) (conditional t r)) (later t 0 row)
     unfolding later_ones
     later_fits row h d =
         level_0 (later t 0 row) (later_ends row h d)
@@ -169,7 +168,7 @@ module _ (t : Table) (last : ℕ) (m : MessageTable t last) where
         (later t 0 row) (later_stand t m.well 0 row (omega (arith, m.long)) d))
 
     from_level : (level row : ℕ) → row < last → level_of t row ≡ level → Counted t p level row
-        → is_placed (first_of t p UIT (choices_from level t p row)) ≡ nothing_owed t last level row
+        → is_some (first_of t p UIT (choices_from level t p row)) ≡ nothing_owed t last level row
     unfolding choices_from nothing_owed
     from_level zero row h d c =
         rw (first_append, again_unfit 0 row (omega (arith, m.long)) d tt (λ z. omega arith)) (later_fits row h d)

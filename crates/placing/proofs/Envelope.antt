@@ -1,15 +1,14 @@
 -- UIH, UIT, UIB and UIZ in a message of any of the tables. Assumes nothing.
 -- "UIH is the first place of a message and UIT the last. Inside a message a further UIH, UIB or UIZ is out of place" (01)
-use Rattle.std.specs.Prelude.{◌≡◌, Bool, true, false, List, [], ◌∷◌, ℕ, ◌+◌, ◌≤◌, T, eqb, leb}
+use Rattle.std.specs.Prelude.{◌≡◌, Bool, true, false, List, [], ◌∷◌, ℕ, ◌+◌, ◌≤◌, T, eqb, leb, Some, None, is_some}
 use Rattle.std.proofs.Common.{ap, arith, eqb→eq}
 use borrow.Author.Tests.{le-ltb}
 use Rattle.laws.specs.Choice.{either}
 use Rattle.laws.specs.Sweep.{below}
 use Rattle.placing.specs.declared.Place.{Place}
-use Rattle.placing.specs.declared.Stepped.TheVariants.{Placed, OutOfPlace}
 use Rattle.placing.specs.Table.{Table, rows, entry_of, tag_at, most, group_at, level_of, outer, after_of, end_of}
 use Rattle.placing.specs.Place.{start_place}
-use Rattle.placing.specs.Rule.{reachable, again, later_ones, choices_from, first_of, step_of, group_of, is_placed, may_end}
+use Rattle.placing.specs.Rule.{reachable, again, later_ones, choices_from, first_of, step_of, group_of, may_end}
 use Rattle.placing.proofs.Walks.{after_grows, places_past}
 use Rattle.placing.proofs.Laws.{absent_tag, only_at, absent_out, only_there, placed_row_lem, placed_segment}
 use Rattle.placing.proofs.Formed.{nth, group_none, group_inside}
@@ -92,27 +91,27 @@ module _ (t : Table) (last : ℕ) (m : MessageTable t last) where
   begins = start_in t m.well (omega (arith, m.long))
 
   module _ (p : Place) where
-    pub uib_out : step_of t p UIB ≡ OutOfPlace
+    pub uib_out : step_of t p UIB ≡ None
     uib_out = absent_out t p UIB m.uib_none
 
-    pub uiz_out : step_of t p UIZ ≡ OutOfPlace
+    pub uiz_out : step_of t p UIZ ≡ None
     uiz_out = absent_out t p UIZ m.uiz_none
 
-    pub uih_out : InMessage t p → step_of t p UIH ≡ OutOfPlace
+    pub uih_out : InMessage t p → step_of t p UIH ≡ None
     uih_out i = first_out t m.well p i UIH m.uih_once m.uih_only
 
     -- where a message may end, its UIT goes to the last place
-    pub uit_last : (q : Place) → step_of t p UIT ≡ Placed q → q.row ≡ last
+    pub uit_last : (q : Place) → step_of t p UIT ≡ Some q → q.row ≡ last
     uit_last q e = only_there t p UIT last m.uit_only q e
 
-    pub may_end_lem : (q : Place) → step_of t p UIT ≡ Placed q → may_end t p ≡ true
-    may_end_lem q e = ap is_placed e
+    pub may_end_lem : (q : Place) → step_of t p UIT ≡ Some q → may_end t p ≡ true
+    may_end_lem q e = ap is_some e
 
-    pub may_not_end : step_of t p UIT ≡ OutOfPlace → may_end t p ≡ false
-    may_not_end e = ap is_placed e
+    pub may_not_end : step_of t p UIT ≡ None → may_end t p ≡ false
+    may_not_end e = ap is_some e
 
     -- no segment comes after it
-    pub ended : InMessage t p → p.row ≡ last → (tag : ℕ) → step_of t p tag ≡ OutOfPlace
+    pub ended : InMessage t p → p.row ≡ last → (tag : ℕ) → step_of t p tag ≡ None
     unfolding step_of choices_from again later_ones reachable first_of
     ended i e tag =
         let full : 1 ≤ p.c0 = i.begun in
@@ -120,7 +119,7 @@ module _ (t : Table) (last : ℕ) (m : MessageTable t last) where
         rw (e, m.uit_free, m.uit_once, le-ltb p.c0 1 full, places_past t (after_of t last) (end_of t 0 last) (omega (arith, m.long)))
 
     -- a placed segment's group is the one that the table names: that of the group's row in which it stands, 0 at level 0
-    pub placed_group : (tag : ℕ) (q : Place) → step_of t p tag ≡ Placed q
+    pub placed_group : (tag : ℕ) (q : Place) → step_of t p tag ≡ Some q
         → (level_of t q.row ≡ 0 → group_of t q ≡ 0) × ((level_of t q.row ≡ 0 → ⊥) → group_of t q ≡ group_at t (outer t q.row))
     placed_group tag q e =
         let h = placed_row_lem t tag p q e in

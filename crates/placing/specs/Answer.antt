@@ -1,24 +1,21 @@
 -- What the placing rule answers of a segment at an offset. Document 01, "What each number means": 9. Assumes nothing.
-use Rattle.std.specs.Prelude.{ℕ, ◌-◌, List, [], ◌∷◌}
+use Rattle.std.specs.Prelude.{ℕ, ◌-◌, List, [], ◌∷◌, Option, Some, None}
 use Rattle.answers.specs.Answers.{Answer, done, out_of_place}
 use Rattle.placing.specs.declared.Place.{Place}
 use Rattle.placing.specs.declared.Fit.{Fit}
-use Rattle.placing.specs.declared.Fit.TheVariants.{At, Nowhere}
-use Rattle.placing.specs.declared.Stepped.{Stepped}
-use Rattle.placing.specs.declared.Stepped.TheVariants.{Placed, OutOfPlace}
 use Rattle.placing.specs.Table.{Table}
 use Rattle.placing.specs.Place.{reached_of}
 use Rattle.placing.specs.Rule.{Choice, go, fits, choices}
 
 -- what each case answers
-abbrev pub stepped_answer : ℕ → Stepped → Answer Place
-stepped_answer at (Placed p) = done p
-stepped_answer at OutOfPlace = out_of_place at
+abbrev pub stepped_answer : ℕ → Option Place → Answer Place
+stepped_answer at (Some p) = done p
+stepped_answer at None = out_of_place at
 
 -- the place reached by a choice that fits, else what the others answer
-abbrev pub fit_answer : Place → ℕ → ℕ → Fit → Answer Place → Answer Place
-fit_answer p level n (At row d) others = done (reached_of p level n row (4 - d))
-fit_answer p level n Nowhere others = others
+abbrev pub fit_answer : Place → ℕ → ℕ → Option Fit → Answer Place → Answer Place
+fit_answer p level n (Some f) others = done (reached_of p level n f.row (4 - f.depth))
+fit_answer p level n None others = others
 
 -- "A segment goes to the first of these that its tag fits .. If none fits it is out of place."
 unfoldable pub first_answer : ℕ → Table → Place → ℕ → List Choice → Answer Place

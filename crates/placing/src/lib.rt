@@ -3,6 +3,7 @@
 #![tactic(auto)]
 
 ghost use Rattle.std.specs.Prelude.{◌≡◌, ℕ, ◌-◌};
+ghost use Rattle.laws.specs.Lists.{between};
 ghost use Rattle.placing.specs.Table.{entry_of, after_of, end_of, level_of};
 ghost use Rattle.placing.specs.Place.{count_at, kept_of, reached_of, start_place};
 ghost use Rattle.placing.specs.Rule.{in_group, fits, again, first_of, step_of, may_end, group_of};
@@ -10,9 +11,11 @@ ghost use Rattle.placing.specs.Answer.{stepped_answer, place_answer};
 ghost use Rattle.placing.specs.Reading.{read_group, turn_of};
 
 use messages::UIT;
+use std::ops::ControlFlow;
 
 /// The row reached, and how often each open level has been entered: the place itself at its own level,
 /// each group that it stands in at that group's level. Deeper levels have 0.
+// Five fields and no array: the laws speak of every place, and a list of counts would need its length in each of them.
 #[derive(Clone, Copy)]
 pub struct Place {
     pub row: usize,
@@ -23,61 +26,53 @@ pub struct Place {
     pub c4: u32,
 }
 
-/// The place of the next segment; out of place is document 01's number 9.
-#[derive(Clone, Copy)]
-pub enum Stepped {
-    Placed(Place),
-    OutOfPlace,
-}
-
 /// Where a tag fits in one place: the row, and the depth that is left below it.
-#[derive(Clone, Copy)]
-pub enum Fit {
-    At(usize, usize),
-    Nowhere,
+#[derive(Clone, Copy, PartialEq, Eq, Debug)]
+pub struct Fit {
+    pub row: usize,
+    pub depth: usize,
 }
 
-// What reading a group's places comes to: a fit, a mandatory place that is not passed, or their end.
-#[derive(Clone, Copy)]
-enum Reading {
-    Found(usize, usize),
-    Barred,
-    Past,
+/// The column of a row's position in document 000.
+pub const POSITION: usize = 0;
+
+/// The column of its tag, 0 for a group.
+pub const TAG: usize = 1;
+
+/// The column of its status: 1 where it is mandatory.
+pub const MANDATORY: usize = 2;
+
+/// The column of the greatest number.
+pub const NUMBER: usize = 3;
+
+/// The column of its group.
+pub const GROUP: usize = 4;
+
+/// The column of its level.
+pub const LEVEL: usize = 5;
+
+/// The column of how many rows a group holds.
+pub const HELD: usize = 6;
+
+/// The column of the row of the group that it stands in.
+pub const OUTER: usize = 7;
+
+/// The rows from one index up to and without another, as far as there are so many.
+pub fn rows_between<R>(rows: &[R], from: usize, to: usize) -> &[R]
+    ensures { result.now ≡ between rows.now from to }
+{
+    let rest = &rows[from.min(rows.len())..];
+    &rest[..to.saturating_sub(from).min(rest.len())]
 }
-
-// What one level comes to: the segment is placed, it is out of place, or the level above is asked.
-#[derive(Clone, Copy)]
-enum Turn {
-    Here(Place),
-    Out,
-    Up,
-}
-
-// The columns of a row that are read here; column 0 is the position in document 000.
-const TAG: usize = 1;
-
-const MANDATORY: usize = 2;
-
-const NUMBER: usize = 3;
-
-const GROUP: usize = 4;
-
-const LEVEL: usize = 5;
-
-const HELD: usize = 6;
-
-const OUTER: usize = 7;
 
 /// The number in a row's column, 0 past the last row.
 pub fn entry(table: &[[u32; 8]], row: usize, column: usize) -> u32
     ensures { result ≡ entry_of table.now row column }
 {
-    if row < table.len() {
-        if column < 8 {
-            return table[row][column];
-        }
-    }
-    0
+    let Some(columns) = table.get(row) else {
+        return 0;
+    };
+    columns.get(column).copied().unwrap_or(0)
 }
 
 // The row of the next place of the same group.
@@ -85,13 +80,10 @@ fn after(table: &[[u32; 8]], row: usize) -> usize
     ensures { result ≡ after_of table.now row }
 {
     let rows = table.len();
-    if row < rows {
-        let next = row + 1 + entry(table, row, HELD) as usize;
-        if next < rows {
-            return next;
-        }
+    if rows <= row {
+        return rows;
     }
-    rows
+    (row + 1 + entry(table, row, HELD) as usize).min(rows)
 }
 
 // The row past the group in which a row of that level stands.
@@ -108,61 +100,58 @@ fn end(table: &[[u32; 8]], row: usize, level: usize) -> usize
 fn level_of(table: &[[u32; 8]], row: usize) -> usize
     ensures { result ≡ level_of table.now row }
 {
-    let level = entry(table, row, LEVEL);
-    if level < 4 {
-        return level as usize;
-    }
-    4
+    entry(table, row, LEVEL).min(4) as usize
 }
 
-// Reading a group's places from one row up to another: the first that fits, up to the first mandatory one.
+// Reading a group's places from one row up to another: the first that fits, nothing at a mandatory one; past them the reading goes on.
 #[cycle(at_group_in_group)]
-fn in_group(table: &[[u32; 8]], from: usize, end: usize, tag: u32, depth: usize) -> Reading
+fn in_group(
+    table: &[[u32; 8]],
+    from: usize,
+    end: usize,
+    tag: u32,
+    depth: usize,
+) -> ControlFlow<Option<Fit>, ()>
     ensures { result ≡ read_group depth table.now tag from end }
 {
     if depth == 0 {
-        return Reading::Barred;
+        return ControlFlow::Break(None);
     }
     let mut row = from;
+    // The row moves past all that a place holds, not by one.
     while row < end {
         if table.len() <= row {
-            return Reading::Past;
+            return ControlFlow::Continue(());
         }
-        let own = entry(table, row, TAG);
-        if own == 0 {
-            let h = at_group(table, row, tag, depth - 1);
-            if let Fit::At(r, d) = h {
-                return Reading::Found(r, d);
-            }
-        } else if own == tag {
-            return Reading::Found(row, depth - 1);
+        let fit = at_place(table, row, tag, depth - 1);
+        if fit.is_some() {
+            return ControlFlow::Break(fit);
         }
         if entry(table, row, MANDATORY) != 0 {
-            return Reading::Barred;
+            return ControlFlow::Break(None);
         }
         row = after(table, row);
     }
-    Reading::Past
+    ControlFlow::Continue(())
 }
 
 // Reading one place that is a group: it fits where one of its places does.
 #[cycle(at_group_in_group)]
-fn at_group(table: &[[u32; 8]], row: usize, tag: u32, depth: usize) -> Fit
+fn at_group(table: &[[u32; 8]], row: usize, tag: u32, depth: usize) -> Option<Fit>
     ensures { result ≡ in_group depth table.now tag row }
 {
     let end = after(table, row);
     if row < end {
-        return match in_group(table, row + 1, end, tag, depth) {
-            Reading::Found(r, d) => Fit::At(r, d),
-            Reading::Barred => Fit::Nowhere,
-            Reading::Past => Fit::Nowhere,
-        };
+        if let ControlFlow::Break(fit) = in_group(table, row + 1, end, tag, depth) {
+            return fit;
+        }
     }
-    Fit::Nowhere
+    None
 }
 
 // One place: a segment fits its own tag.
-fn at_place(table: &[[u32; 8]], row: usize, tag: u32, depth: usize) -> Fit
+#[cycle(at_group_in_group)]
+fn at_place(table: &[[u32; 8]], row: usize, tag: u32, depth: usize) -> Option<Fit>
     ensures { result ≡ fits depth table.now tag row }
 {
     let own = entry(table, row, TAG);
@@ -170,9 +159,9 @@ fn at_place(table: &[[u32; 8]], row: usize, tag: u32, depth: usize) -> Fit
         return at_group(table, row, tag, depth);
     }
     if own == tag {
-        Fit::At(row, depth)
+        Some(Fit { row, depth })
     } else {
-        Fit::Nowhere
+        None
     }
 }
 
@@ -180,7 +169,7 @@ fn at_place(table: &[[u32; 8]], row: usize, tag: u32, depth: usize) -> Fit
 fn depth_below(level: usize) -> usize
     ensures { result ≡ 4 - level }
 {
-    if level < 4 { 4 - level } else { 0 }
+    4usize.saturating_sub(level)
 }
 
 // The count of level k where the place at a level is entered for the n-th time, and in it the first place of each level down to the last.
@@ -223,19 +212,14 @@ impl Place {
     fn count(self, level: usize) -> u32
         ensures { result ≡ count_at self level }
     {
-        if level == 0 {
-            return self.c0;
+        match level {
+            0 => self.c0,
+            1 => self.c1,
+            2 => self.c2,
+            3 => self.c3,
+            4 => self.c4,
+            _ => 0,
         }
-        if level == 1 {
-            return self.c1;
-        }
-        if level == 2 {
-            return self.c2;
-        }
-        if level == 3 {
-            return self.c3;
-        }
-        if level == 4 { self.c4 } else { 0 }
     }
 
     /// The place in a row: that of a level entered for the n-th time, the levels below it anew.
@@ -252,61 +236,65 @@ impl Place {
         }
     }
 
+    // The place of a fit, that of a level entered for the n-th time.
+    fn placed(self, level: usize, n: u32, fit: Fit) -> Place
+        ensures { result ≡ reached_of self level n fit.row (4 - fit.depth) }
+    {
+        self.reached(level, n, fit.row, depth_below(fit.depth))
+    }
+
     // The same place again, or the group once more, while its number allows.
-    fn once_more(self, table: &[[u32; 8]], row: usize, level: usize, tag: u32) -> Stepped
+    fn once_more(self, table: &[[u32; 8]], row: usize, level: usize, tag: u32) -> Option<Place>
         ensures { result ≡ first_of table.now self tag (again table.now self level row) }
     {
         let n = self.count(level);
         if n < entry(table, row, NUMBER) {
-            let h = at_place(table, row, tag, depth_below(level));
-            if let Fit::At(r, d) = h {
-                return Stepped::Placed(self.reached(level, n + 1, r, depth_below(d)));
-            }
+            let fit = at_place(table, row, tag, depth_below(level))?;
+            return Some(self.placed(level, n + 1, fit));
         }
-        Stepped::OutOfPlace
+        None
     }
 
-    // One level: the same place again, then the later places of the same group.
-    fn turn(self, table: &[[u32; 8]], row: usize, level: usize, tag: u32) -> Turn
+    // One level: the same place again, then the later places of the same group. Past them the level above is asked.
+    fn turn(
+        self,
+        table: &[[u32; 8]],
+        row: usize,
+        level: usize,
+        tag: u32,
+    ) -> ControlFlow<Option<Place>, ()>
         ensures { result ≡ turn_of table.now self tag level row }
     {
-        let s = self.once_more(table, row, level, tag);
-        if let Stepped::Placed(q) = s {
-            return Turn::Here(q);
+        let again = self.once_more(table, row, level, tag);
+        if again.is_some() {
+            return ControlFlow::Break(again);
         }
         let next = after(table, row);
         let last = end(table, row, level);
-        let g = in_group(table, next, last, tag, depth_below(level) + 1);
-        match g {
-            Reading::Found(r, d) => Turn::Here(self.reached(level, 1, r, depth_below(d))),
-            Reading::Barred => Turn::Out,
-            Reading::Past => Turn::Up,
+        match in_group(table, next, last, tag, depth_below(level) + 1) {
+            ControlFlow::Break(Some(fit)) => ControlFlow::Break(Some(self.placed(level, 1, fit))),
+            ControlFlow::Break(None) => ControlFlow::Break(None),
+            ControlFlow::Continue(()) => ControlFlow::Continue(()),
         }
     }
 
-    /// The place of the next segment, by its tag.
-    pub fn step(self, table: &[[u32; 8]], tag: u32) -> Stepped
+    /// The place of the next segment, by its tag; none where it is out of place, document 01's number 9.
+    pub fn step(self, table: &[[u32; 8]], tag: u32) -> Option<Place>
         ensures step { result ≡ step_of table.now self tag }
         ensures said { (at : ℕ) → stepped_answer at result ≡ place_answer at table.now self tag }
     {
         let mut row = self.row;
         let mut level = level_of(table, row);
+        // The row goes up with the level, and level 0 is asked too.
         loop {
-            match self.turn(table, row, level, tag) {
-                Turn::Here(q) => {
-                    return Stepped::Placed(q);
-                }
-                Turn::Out => {
-                    return Stepped::OutOfPlace;
-                }
-                Turn::Up => {
-                    if level == 0 {
-                        return Stepped::OutOfPlace;
-                    }
-                    row = entry(table, row, OUTER) as usize;
-                    level -= 1;
-                }
+            if let ControlFlow::Break(stepped) = self.turn(table, row, level, tag) {
+                return stepped;
             }
+            if level == 0 {
+                return None;
+            }
+            row = entry(table, row, OUTER) as usize;
+            level -= 1;
         }
     }
 
@@ -314,11 +302,6 @@ impl Place {
     pub fn may_end(self, table: &[[u32; 8]]) -> bool
         ensures { result ≡ may_end table.now self }
     {
-        let s = self.step(table, UIT);
-        if let Stepped::Placed(_) = s {
-            true
-        } else {
-            false
-        }
+        self.step(table, UIT).is_some()
     }
 }

@@ -7,16 +7,16 @@
 
 ghost use Rattle.std.specs.Prelude.{◌≡◌};
 
-use dates::{Date, Made, Number};
-use joining::Joined;
-use lines::{past, piece_at, read_input, say, say_number};
+use dates::Date;
+use joining::JoinError;
+use lines::{read_input, say, say_number};
 use parts::Part;
 use period::{Fault, Period};
 use std::io;
-use syntax::segment::{Scanned, read_segment};
+use syntax::segment::read_segment;
 
 fn print_date(rt: &impl Print, number: usize) -> io::Result<()> {
-    let Made::Valid(date) = Date::from_number(number) else {
+    let Some(date) = Date::from_number(number) else {
         return Ok(());
     };
     let text = date.text();
@@ -43,12 +43,10 @@ fn digit(yes: bool) -> u8 {
     if yes { b'1' } else { b'0' }
 }
 
-fn days_text(s: &[u8], segment: Part, period: Period) -> [u8; 512] {
+fn days_text(s: &[u8], segment: Part, period: Result<Period, Fault>) -> [u8; 512] {
     let mut text = [b'0'; 512];
-    let mut k = 0;
-    while k < 512 {
-        text[k] = digit(period::day_runs(s, segment, period, k));
-        k += 1;
+    for (k, character) in text.iter_mut().enumerate() {
+        *character = digit(period::day_runs(s, segment, period, k));
     }
     text
 }
@@ -57,7 +55,7 @@ fn print_days(
     rt: &impl Print,
     s: &[u8],
     segment: Part,
-    period: Period,
+    period: Result<Period, Fault>,
     n: usize,
 ) -> io::Result<()> {
     if 512 < n {
@@ -75,11 +73,11 @@ fn refuse(rt: &impl Print, fault: Fault) -> io::Result<()> {
 fn answer_period(rt: &impl Print, line: &[u8], segment: Part, wish: bool) -> io::Result<()> {
     let period = period::read_period(line, segment, wish);
     match period {
-        Period::Wrong(fault) => refuse(rt, fault),
-        Period::Good(first, n, _) => {
-            print_span(rt, first, n)?;
+        Err(fault) => refuse(rt, fault),
+        Ok(Period { days, form: _ }) => {
+            print_span(rt, days.first, days.count)?;
             say(rt, b" ")?;
-            print_days(rt, line, segment, period, n)
+            print_days(rt, line, segment, period, days.count)
         }
     }
 }
@@ -88,32 +86,27 @@ fn answer_period(rt: &impl Print, line: &[u8], segment: Part, wish: bool) -> io:
 fn segment_at(line: &[u8], from: usize) -> Part
     ensures { result.from ≡ from }
 {
-    match read_segment(line, from) {
-        Scanned::End(to) => Part { from, to },
-        Scanned::NotPermitted(_) => Part { from, to: from },
-        Scanned::Unended => Part { from, to: from },
-        Scanned::Malformed => Part { from, to: from },
+    Part {
+        from,
+        to: read_segment(line, from).unwrap_or(from),
     }
 }
 
-fn answer_joined(rt: &impl Print, joined: Joined) -> io::Result<()> {
+fn answer_joined(rt: &impl Print, joined: Result<(), JoinError>) -> io::Result<()> {
     match joined {
-        Joined::Done => say(rt, b"done "),
-        Joined::WrongPeriod(fault) => {
+        Ok(()) => say(rt, b"done "),
+        Err(JoinError::WrongPeriod(fault)) => {
             refuse(rt, fault)?;
             say(rt, b" ")
         }
-        Joined::Outside => say(rt, b"refused 13 "),
+        Err(JoinError::Outside) => say(rt, b"refused 13 "),
     }
 }
 
 fn window_text(days: [u8; 64]) -> [u8; 512] {
     let mut text = [b'0'; 512];
-    let s: &[u8] = &days;
-    let mut k = 0;
-    while k < 512 {
-        text[k] = digit(calendar::test_day(s, k));
-        k += 1;
+    for (k, character) in text.iter_mut().enumerate() {
+        *character = digit(calendar::test_day(&days, k));
     }
     text
 }
@@ -133,6 +126,7 @@ fn join_all(
     wish: bool,
 ) -> io::Result<()> {
     let mut at = from;
+    // The index moves past the segment that was read, not by one.
     while at < line.len() {
         let segment = segment_at(line, at);
         let to = segment.to;
@@ -162,10 +156,10 @@ fn answer_pop(rt: &impl Print, line: &[u8], wish: bool) -> io::Result<()> {
         answer_period(rt, line, segment_at(line, 7), wish)?;
         return say(rt, b"\n");
     }
-    let Made::Valid(date) = dates::read_date(line, 5) else {
+    let Some(date) = dates::read_date(line, 5) else {
         return Ok(());
     };
-    let Number::Day(origin) = date.day_number() else {
+    let Some(origin) = date.day_number() else {
         return Ok(());
     };
     answer_join(rt, line, origin, wish)?;
@@ -185,12 +179,9 @@ fn wish_after(line: &[u8], wish: bool) -> bool {
 
 fn answer_all(rt: &impl Print, text: &[u8]) -> io::Result<()> {
     let mut wish = true;
-    let mut at = 0;
-    while at < text.len() {
-        let line = piece_at(text, at, b'\n');
+    for line in text.split(|&b| b == b'\n') {
         answer_pop(rt, line, wish)?;
         wish = wish_after(line, wish);
-        at = past(text, at, b'\n');
     }
     Ok(())
 }

@@ -4,11 +4,11 @@
 #![tactic(auto)]
 
 use answers::Refusal;
-use interchange::reader::{Reading, read};
+use interchange::reader::read;
 use lines::{read_input, say};
 use parts::{Part, bytes_of};
 use std::io;
-use text::{Written, write_refusal, write_table};
+use text::{write_refusal, write_table};
 
 fn print(rt: &impl Print, out: &[u8], n: usize) -> io::Result<()> {
     say(rt, bytes_of(out, Part { from: 0, to: n }))
@@ -18,16 +18,16 @@ fn print(rt: &impl Print, out: &[u8], n: usize) -> io::Result<()> {
 fn print_rows(rt: &impl Print, rows: &[u32], n: usize) -> io::Result<()> {
     let mut out = [0u8; 250000];
     match write_table(rows, n, &mut out) {
-        Written::Bytes(k) => print(rt, &out, k),
-        Written::NoRoom => Ok(()),
+        Some(k) => print(rt, &out, k),
+        None => Ok(()),
     }
 }
 
 fn print_refusal(rt: &impl Print, refusal: Refusal) -> io::Result<()> {
     let mut out = [0u8; 72];
     match write_refusal(refusal, &mut out) {
-        Written::Bytes(k) => print(rt, &out, k),
-        Written::NoRoom => Ok(()),
+        Some(k) => print(rt, &out, k),
+        None => Ok(()),
     }
 }
 
@@ -36,7 +36,7 @@ fn main(rt: HostRuntime) -> io::Result<()> {
     let n = read_input(&mut rt.stdin(), &mut input)?;
     let mut rows = [0u32; 45000];
     match read(&input[..n], true, &mut rows) {
-        Reading::Rows(k) => print_rows(&rt, &rows, k),
-        Reading::Refused(refusal) => print_refusal(&rt, refusal),
+        Ok(k) => print_rows(&rt, &rows, k),
+        Err(refusal) => print_refusal(&rt, refusal),
     }
 }

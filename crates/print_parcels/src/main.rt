@@ -3,24 +3,23 @@
 
 #![tactic(auto)]
 
-use answers::Refusal;
-use interchange::reader::Reading;
+use answers::{Reason, Refusal};
 use lines::say;
 use parcel_store::STORE;
-use parcels::{Parcel, begin, finish, take};
+use parcels::{begin, finish, take};
 use parts::{Part, bytes_of};
 use std::io;
 use std::io::Read;
-use text::{Written, write_refusal, write_table};
+use text::{write_refusal, write_table};
 
 // A text from an index on, in one write; whether there was room for it.
-fn print(rt: &impl Print, out: &[u8], from: usize, written: Written) -> io::Result<bool> {
+fn print(rt: &impl Print, out: &[u8], from: usize, written: Option<usize>) -> io::Result<bool> {
     match written {
-        Written::Bytes(to) => {
+        Some(to) => {
             say(rt, bytes_of(out, Part { from, to }))?;
             Ok(true)
         }
-        Written::NoRoom => Ok(false),
+        None => Ok(false),
     }
 }
 
@@ -42,14 +41,7 @@ fn print_rows(rt: &impl Print, rows: &[u32], n: usize) -> io::Result<bool> {
     if print(rt, &out, 17, written)? {
         return Ok(true);
     }
-    print_refusal(
-        rt,
-        Refusal {
-            number: 17,
-            position: 0,
-            part: 0,
-        },
-    )?;
+    print_refusal(rt, Reason::OutputTooShort.at(0))?;
     Ok(false)
 }
 
@@ -64,9 +56,9 @@ fn print_last(rt: &impl Print, rows: &[u32], n: usize, refusal: Refusal) -> io::
 fn print_parcel(rt: &impl Print, store: &mut [u8], parcel: &[u8]) -> io::Result<bool> {
     let mut rows = [0u32; 6144];
     match take(store, parcel, &mut rows) {
-        Parcel::Rows(n) => print_rows(rt, &rows, n),
-        Parcel::Refused(n, refusal) => {
-            print_last(rt, &rows, n, refusal)?;
+        Ok(n) => print_rows(rt, &rows, n),
+        Err(fault) => {
+            print_last(rt, &rows, fault.rows, fault.refusal)?;
             Ok(false)
         }
     }
@@ -74,8 +66,8 @@ fn print_parcel(rt: &impl Print, store: &mut [u8], parcel: &[u8]) -> io::Result<
 
 fn print_end(rt: &impl Print, store: &mut [u8]) -> io::Result<()> {
     match finish(store) {
-        Reading::Rows(_) => Ok(()),
-        Reading::Refused(refusal) => print_refusal(rt, refusal),
+        Ok(_) => Ok(()),
+        Err(refusal) => print_refusal(rt, refusal),
     }
 }
 
@@ -92,9 +84,10 @@ fn read_parcel(rt: &impl Print, from: &mut impl Read, store: &mut [u8]) -> io::R
 
 // A parcel has a byte at least, and with byte 60,001 the final answer is there.
 fn read_all(rt: &impl Print, from: &mut impl Read, store: &mut [u8]) -> io::Result<()> {
-    let mut left: usize = 60001;
-    while 0 < left && read_parcel(rt, from, store)? {
-        left -= 1;
+    for _ in 0..60001 {
+        if !read_parcel(rt, from, store)? {
+            return Ok(());
+        }
     }
     Ok(())
 }
@@ -102,6 +95,7 @@ fn read_all(rt: &impl Print, from: &mut impl Read, store: &mut [u8]) -> io::Resu
 fn main(rt: HostRuntime) -> io::Result<()> {
     say(&rt, b"offset\tgroup\ttag\n")?;
     let mut store = [0u8; STORE];
-    begin(&mut store, true);
+    // The store is as long as it has to be, so that nothing is refused.
+    let _ = begin(&mut store, true);
     read_all(&rt, &mut rt.stdin(), &mut store)
 }

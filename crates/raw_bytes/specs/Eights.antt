@@ -1,11 +1,9 @@
 -- Eight bytes of a list as one number.
 -- Assumes nothing.
-use Rattle.std.specs.Prelude.{◌≡◌, List, ℕ, ◌+◌, ◌≤◌, ◌<◌, length, get_or}
+use Rattle.std.specs.Prelude.{◌≡◌, List, Option, Some, None, ℕ, ◌+◌, ◌≤◌, ◌<◌, length, get_or}
 use Rattle.std.proofs.Common.{subst}
 use Rattle.laws.specs.Words.{word_of, Every, none, one, Byte}
 use Rattle.laws.specs.Eight.{eight_at}
-use Rattle.raw_bytes.specs.declared.Eight.{Eight}
-use Rattle.raw_bytes.specs.declared.Eight.TheVariants.{Word, Fewer}
 
 -- the number w is that of the eight bytes from an index on
 pub record Eights (s : List ℕ) (at w : ℕ) : Type 0 where
@@ -21,14 +19,14 @@ pub record Eights (s : List ℕ) (at w : ℕ) : Type 0 where
   pub byte₇ : get_or s (at + 7) 0 < 256
 
 -- there are so many, and this is their number; or there are not
-abbrev pub EightTold : List ℕ → ℕ → Eight → Type 0
-EightTold s at (Word w) = Eights s at w
-EightTold s at Fewer = length s < at + 8
+abbrev pub EightTold : List ℕ → ℕ → Option ℕ → Type 0
+EightTold s at (Some w) = Eights s at w
+EightTold s at None = length s < at + 8
 
-pub eights_known : (s : List ℕ) (at : ℕ) {r : Eight} {w : ℕ} → EightTold s at r → r ≡ Word w → Eights s at w
+pub eights_known : (s : List ℕ) (at : ℕ) {r : Option ℕ} {w : ℕ} → EightTold s at r → r ≡ Some w → Eights s at w
 eights_known s at t e = subst (EightTold s at) e t
 
-pub fewer_known : (s : List ℕ) (at : ℕ) {r : Eight} → EightTold s at r → r ≡ Fewer → length s < at + 8
+pub fewer_known : (s : List ℕ) (at : ℕ) {r : Option ℕ} → EightTold s at r → r ≡ None → length s < at + 8
 fewer_known s at t e = subst (EightTold s at) e t
 
 -- it is known by its bytes, and they by it

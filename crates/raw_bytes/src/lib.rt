@@ -13,30 +13,14 @@ const HIGH: usize = 0x8080_8080_8080_8080;
 
 const LOW: usize = 0x7f7f_7f7f_7f7f_7f7f;
 
-/// Eight bytes from an index on.
-#[derive(Clone, Copy)]
-pub enum Eight {
-    /// As one number, the first in the lowest bits.
-    Word(usize),
-    /// Fewer than eight stand there.
-    Fewer,
-}
-
 /// Bytes copied to an offset; where there is no room for all of them, none is. Whether there was room.
 pub fn put_bytes(out: &mut [u8], at: usize, bytes: &[u8]) -> bool
     ensures { (result ≡ leb (at + length bytes.now) (length out.old)) × (out.new ≡ put_at out.old at bytes.now) }
 {
-    if out.len() < bytes.len() {
+    if out.len() < bytes.len() || out.len() - bytes.len() < at {
         return false;
     }
-    if out.len() - bytes.len() < at {
-        return false;
-    }
-    let mut i = 0;
-    while i < bytes.len() {
-        out[at + i] = bytes[i];
-        i += 1;
-    }
+    out[at..at + bytes.len()].copy_from_slice(bytes);
     true
 }
 
@@ -57,11 +41,9 @@ pub fn put_decimal(out: &mut [u8], at: usize, n: usize) -> usize
     ensures left { out.new ≡ put_at out.old at (decimal_of n) }
 {
     let mut digits = [0u8; 20];
-    let mut from: usize = 20;
     let mut left = n;
-    while 0 < from {
-        from -= 1;
-        digits[from] = 48 + (left % 10) as u8;
+    for from in (0..20).rev() {
+        digits[from] = b'0' + (left % 10) as u8;
         if left < 10 {
             return put_from(out, at, &digits, from);
         }
@@ -74,7 +56,7 @@ pub fn put_decimal(out: &mut [u8], at: usize, n: usize) -> usize
 pub fn wide_byte(b: u8) -> usize
     ensures { (result ≡ b) × (result < 256) }
 {
-    b as usize
+    usize::from(b)
 }
 
 /// A number of 32 bits as a size.
@@ -88,10 +70,7 @@ pub fn wide(n: u32) -> usize
 pub fn byte_at(b: &[u8], at: usize) -> usize
     ensures { (result ≡ get_or b.now at 0) × (result < 256) }
 {
-    if at < b.len() {
-        return wide_byte(b[at]);
-    }
-    0
+    b.get(at).map_or(0, |x| wide_byte(*x))
 }
 
 /// The number in two bytes, the lower first; bytes past the end read as 0.
@@ -104,17 +83,15 @@ pub fn number_at(b: &[u8], at: usize) -> usize
     byte_at(b, at) + 256 * byte_at(b, at + 1)
 }
 
-/// The eight bytes from an index on: a flat row of `|`, of which the compiler makes one load.
-pub fn eight_at(s: &[u8], at: usize) -> Eight
+/// The eight bytes from an index on as one number, the first in the lowest bits, where so many stand there: a flat row of `|`, of which the compiler
+/// makes one load. The library's `from_le_bytes` adds, and of a sum it makes eight.
+pub fn eight_at(s: &[u8], at: usize) -> Option<usize>
     ensures { EightTold s.now at result }
 {
-    if s.len() < 8 {
-        return Eight::Fewer;
+    if s.len() < 8 || s.len() - 8 < at {
+        return None;
     }
-    if s.len() - 8 < at {
-        return Eight::Fewer;
-    }
-    Eight::Word(
+    Some(
         wide_byte(s[at + 7]) * 72057594037927936
             | wide_byte(s[at + 6]) * 281474976710656
             | wide_byte(s[at + 5]) * 1099511627776

@@ -1,6 +1,6 @@
 -- A text that reads back gives the calendar itself: joined into 64 bytes without a day, from its first date on, it leaves the calendar's bytes.
 -- Assumes nothing.
-use Rattle.std.specs.Prelude.{◌≡◌, Bool, true, List, ℕ, ◌+◌, ◌-◌, ◌*◌, ◌<◌}
+use Rattle.std.specs.Prelude.{◌≡◌, Bool, true, List, ℕ, ◌+◌, ◌-◌, ◌*◌, ◌<◌, Ok}
 use Rattle.std.proofs.Common.{sym, ap, ◌∙◌}
 use native.Mathlib.Omega.{arith}
 use Rattle.std.proofs.Math.Decide.{dec_lt}
@@ -14,8 +14,7 @@ use Rattle.calendar.specs.Same.{days_same}
 use Rattle.calendar.specs.Written.{day_count, good_calendar}
 use Rattle.period.specs.Period.{runs_in}
 use Rattle.period.specs.declared.Form.{Form}
-use Rattle.joining.specs.declared.Joined.TheVariants.{Done}
-use Rattle.joining.specs.Joined.{window_answer, answered, days_joined, selects}
+use Rattle.joining.specs.Joined.{window_answer, answered, days_joined, selects, joined}
 use Rattle.joining.specs.Union.{no_days, no_day, no_byte, length_none, length_joined, joined_day}
 use Rattle.joining.specs.Bytes.{AreBytes, joined_bytes}
 use Rattle.read_back.specs.Written.{ReadsBack}
@@ -25,7 +24,7 @@ module _ (wish : Bool) (text c : List ℕ) (first last : Date) (form : Form) (r 
   empty = no_days 64
 
   -- the period lies in the window
-  pub joined_done : answered wish 64 (number first) r.body ≡ Done
+  pub joined_done : answered wish 64 (number first) r.body ≡ joined
   unfolding answered window_answer
   joined_done =
       let f = good_facts c first last good in

@@ -20,9 +20,8 @@ use Rattle.calendar.specs.Days.{day}
 use Rattle.calendar.specs.Form.{HasForm, named_some, some_named, form_told}
 use Rattle.calendar.specs.Good.{good_facts}
 use Rattle.calendar.specs.Written.{day_count, good_calendar, start, named, weekday_form, digits_from, named_text, weekday_text}
-use Rattle.period.specs.Period.{rising_days, runs_by, runs_in}
+use Rattle.period.specs.Period.{rising_days, runs_by, runs_in, period_from}
 use Rattle.period.specs.declared.Form.TheVariants.{Every, ByWeekdays}
-use Rattle.period.specs.declared.Period.TheVariants.{Good}
 use Rattle.free_texts.specs.Free.{numeric}
 use Rattle.free_texts.specs.Parts.{two_elements, without_string}
 use Rattle.period.specs.Written.{weekdays_plain}
@@ -144,7 +143,7 @@ module _ (wish : Bool) (c : List ℕ) (first last : Date) (good : good_calendar 
       let x = week_present c (number first) (day_count first last) h in
       let e =
       period_read c first last f week_body [] names p refl w wish refl (digits_rise (named c (number first) (day_count first last)) 48 1 7 (omega arith) (omega arith)) refl (rw x)
-      ∙ ap (λ (b : Bool). Good (number first) (day_count first last) (pick b ByWeekdays Every)) x in
+      ∙ ap (λ (b : Bool). period_from (number first) (day_count first last) (pick b ByWeekdays Every)) x in
       record {
         body = week_body;
         ended = week_text_lem;

@@ -1,6 +1,6 @@
 -- What is written reads back: the dates and days of a day string, in full or short, are those of the calendar.
 -- Assumes nothing.
-use Rattle.std.specs.Prelude.{◌≡◌, Bool, true, false, not, ℕ, zero, suc, ◌+◌, ◌/◌, ◌%◌, ◌≤◌, ◌<◌, length, get_or, take, drop}
+use Rattle.std.specs.Prelude.{◌≡◌, Bool, true, false, not, ℕ, zero, suc, ◌+◌, ◌/◌, ◌%◌, ◌≤◌, ◌<◌, length, get_or, take, drop, Ok}
 use Rattle.std.proofs.Math.Path.{refl, sym, ap}
 use Rattle.std.proofs.Common.{◌∙◌, arith}
 use mathlib.Core.List.{List, [], ◌∷◌, ◌++◌, append_assoc}
@@ -10,7 +10,6 @@ use Rattle.std.proofs.Math.ListN.{get_or-eq_default}
 use borrow.Author.Tests.{le-leb, lt-ltb}
 use Rattle.laws.specs.Choice.{pick, both, either, all, both_false, all_append}
 use Rattle.syntax.specs.Segment.{body_at, segment_at}
-use Rattle.syntax.specs.declared.segment.Scanned.TheVariants.{End}
 use Rattle.parts.specs.Places.{present}
 use Rattle.dates.specs.Dates.{number}
 use Rattle.laws.specs.Decimal.{digit}
@@ -22,12 +21,11 @@ use Rattle.calendar.specs.Steps.{length_characters, character_at}
 use Rattle.calendar.specs.Good.{GoodCalendar, good_facts}
 use Rattle.calendar.specs.Written.{day_count, good_period, days_span, good_calendar, start, day_character, day_characters, character_count, day_string_text, string_text}
 use Rattle.calendar.specs.Short.{Counted, counted}
-use Rattle.period.specs.Period.{zero_or_one, day_string, fits_days, rising_days, form_of, formed_of, period_of, runs_by, runs_in, runs}
+use Rattle.period.specs.Period.{zero_or_one, day_string, fits_days, rising_days, form_of, formed_of, period_of, runs_by, runs_in, runs, period_from}
 use Rattle.period.specs.Tests.{two_dates}
 use Rattle.period.specs.Written.{string_plain, cut_good}
 use Rattle.period.specs.declared.Form.{Form}
 use Rattle.period.specs.declared.Form.TheVariants.{Every, ByString}
-use Rattle.period.specs.declared.Period.TheVariants.{Good}
 use Rattle.free_texts.specs.Free.{numeric}
 use Rattle.free_texts.specs.Parts.{one_element, with_string}
 use Rattle.free_texts.specs.Whole.{Parts, string_parts, stands_alone}
@@ -77,7 +75,7 @@ module _ (c : List ℕ) (a b : Date) (good : GoodCalendar c a b) where
   -- a POP whose parts are these dates and a form that is told is a good period
   module _ (g s w : List ℕ) (p : Parts g (dates a b) s w) (ns : all numeric s ≡ true) (nw : all numeric w ≡ true) where
     pub period_read : (wish : Bool) → fits_days (day_count a b) s ≡ true → rising_days 48 w ≡ true → both (present s) (present w) ≡ false
-        → both (not (present s)) (not (present w)) ≡ false → period_of wish g ≡ Good (number a) (day_count a b) (form_of s w)
+        → both (not (present s)) (not (present w)) ≡ false → period_of wish g ≡ period_from (number a) (day_count a b) (form_of s w)
     unfolding days_span formed_of
     period_read wish f r n l =
         sym (cut_good g (dates a b) s w p.cut (numeric_dates a b) ns nw wish
@@ -139,8 +137,8 @@ pub record ReadsBack (wish : Bool) (text c : List ℕ) (first last : Date) (form
   pub body : List ℕ
   pub ended : text ≡ body ++ (39 ∷ [])
   pub cut : body_at text 0 ≡ body
-  pub segment : segment_at text 0 ≡ End (length body)
-  pub period : period_of wish body ≡ Good (number first) (day_count first last) form
+  pub segment : segment_at text 0 ≡ Ok (length body)
+  pub period : period_of wish body ≡ period_from (number first) (day_count first last) form
   pub days : (k : ℕ) → k < day_count first last → runs wish body k ≡ day c k
 
 module _ (wish short : Bool) (c : List ℕ) (first last : Date) (good : good_calendar c first last ≡ true) where
@@ -174,7 +172,7 @@ module _ (wish short : Bool) (c : List ℕ) (first last : Date) (good : good_cal
       let x = some_characters c count (omega arith) in
       let e =
       period_read c first last f string_body string [] p s refl wish (string_fits c (day_count first last) count few) no_weekdays (rw x) (rw x)
-      ∙ ap (λ (t : Bool). Good (number first) (day_count first last) (pick t ByString Every)) x in
+      ∙ ap (λ (t : Bool). period_from (number first) (day_count first last) (pick t ByString Every)) x in
       record {
         body = string_body;
         ended = string_text_lem;

@@ -10,11 +10,11 @@
 ghost use Rattle.std.specs.Prelude.{◌<◌, length};
 
 use answers::Refusal;
-use interchange::reader::{Reading, read};
-use lines::{number, past, piece_at, read_input, say, say_line, say_number, sign_at};
+use interchange::reader::read;
+use lines::{number, past, read_input, say, say_line, say_number, sign_at};
 use parts::{Part, bytes_of};
 use std::io;
-use text::{Written, write_refusal, write_table};
+use text::{write_refusal, write_table};
 
 // Where the notation goes on past the sign at an index.
 fn after(line: &[u8], i: usize) -> usize
@@ -24,7 +24,10 @@ fn after(line: &[u8], i: usize) -> usize
     if line[i] == b'{' {
         return past(line, i, b'|');
     }
-    sign_at(line, i).next
+    match sign_at(line, i) {
+        Some(sign) => sign.next,
+        None => i + 1,
+    }
 }
 
 fn put(out: &mut [u8], at: usize, b: u8) -> usize {
@@ -38,14 +41,9 @@ fn put(out: &mut [u8], at: usize, b: u8) -> usize {
 // The bytes from an index to another, once more at a third; where they end.
 fn copy(out: &mut [u8], from: usize, to: usize, at: usize) -> usize {
     let mut n = at;
-    let mut i = from;
-    while i < to {
-        if out.len() <= i {
-            return n;
-        }
+    for i in from..to.min(out.len()) {
         let b = out[i];
         n = put(out, n, b);
-        i += 1;
     }
     n
 }
@@ -53,10 +51,8 @@ fn copy(out: &mut [u8], from: usize, to: usize, at: usize) -> usize {
 // The bytes from an index to another, as often as a number says; where they end.
 fn repeat(out: &mut [u8], from: usize, to: usize, times: usize) -> usize {
     let mut n = to;
-    let mut left = times;
-    while 1 < left {
+    for _ in 1..times {
         n = copy(out, from, to, n);
-        left -= 1;
     }
     n
 }
@@ -87,8 +83,12 @@ fn take(line: &[u8], i: usize, said: Said, out: &mut [u8]) -> Said
             times: 0,
         };
     }
+    let bytes = match sign_at(line, i) {
+        Some(sign) => put(out, n, sign.byte),
+        None => n,
+    };
     Said {
-        bytes: put(out, n, sign_at(line, i).byte),
+        bytes,
         start: said.start,
         times: said.times,
     }
@@ -102,6 +102,7 @@ fn expand(line: &[u8], from: usize, out: &mut [u8]) -> usize {
         times: 0,
     };
     let mut i = from;
+    // The index moves past what was read, not by one.
     while i < line.len() {
         said = take(line, i, said, out);
         i = after(line, i);
@@ -115,11 +116,8 @@ fn one_more(r: usize, b: u8) -> usize {
 
 fn remainder(text: &[u8]) -> usize {
     let mut r = 0;
-    let mut i = 0;
-    while i < text.len() {
-        let b = text[i];
+    for &b in text {
         r = one_more(r, b);
-        i += 1;
     }
     r
 }
@@ -140,16 +138,16 @@ fn print_table(rt: &impl Print, text: &[u8], rows: usize) -> io::Result<()> {
 fn answer_rows(rt: &impl Print, rows: &[u32], n: usize) -> io::Result<()> {
     let mut out = [0u8; 250000];
     match write_table(rows, n, &mut out) {
-        Written::Bytes(k) => print_table(rt, bytes_of(&out, Part { from: 0, to: k }), n),
-        Written::NoRoom => say(rt, b"no room\n"),
+        Some(k) => print_table(rt, bytes_of(&out, Part { from: 0, to: k }), n),
+        None => say(rt, b"no room\n"),
     }
 }
 
 fn answer_refusal(rt: &impl Print, refusal: Refusal) -> io::Result<()> {
     let mut out = [0u8; 72];
     match write_refusal(refusal, &mut out) {
-        Written::Bytes(k) => say(rt, bytes_of(&out, Part { from: 0, to: k })),
-        Written::NoRoom => say(rt, b"no room\n"),
+        Some(k) => say(rt, bytes_of(&out, Part { from: 0, to: k })),
+        None => say(rt, b"no room\n"),
     }
 }
 
@@ -160,8 +158,8 @@ fn answer_case(
     rows: &mut [u32],
 ) -> io::Result<()> {
     match read(interchange, wish, rows) {
-        Reading::Rows(n) => answer_rows(rt, rows, n),
-        Reading::Refused(refusal) => answer_refusal(rt, refusal),
+        Ok(n) => answer_rows(rt, rows, n),
+        Err(refusal) => answer_refusal(rt, refusal),
     }
 }
 
@@ -181,15 +179,14 @@ fn answer_in(
 
 // Whether the lines below ask.
 fn answer_line(rt: &impl Print, line: &[u8], wish: bool) -> io::Result<bool> {
-    if line.len() == 0 {
-        return Ok(wish);
-    }
-    if line[0] == b'#' {
-        say_line(rt, line)?;
-        return Ok(wish);
-    }
-    if line[0] == b'a' {
-        return Ok(number(line, past(line, 0, b'\t')) == 1);
+    match line.first() {
+        None => return Ok(wish),
+        Some(b'#') => {
+            say_line(rt, line)?;
+            return Ok(wish);
+        }
+        Some(b'a') => return Ok(number(line, past(line, 0, b'\t')) == 1),
+        Some(_) => {}
     }
     let mut interchange = [0u8; 60001];
     let n = expand(line, past(line, 0, b'\t'), &mut interchange);
@@ -206,10 +203,8 @@ fn answer_line(rt: &impl Print, line: &[u8], wish: bool) -> io::Result<bool> {
 
 fn answer_all(rt: &impl Print, text: &[u8]) -> io::Result<()> {
     let mut wish = true;
-    let mut at = 0;
-    while at < text.len() {
-        wish = answer_line(rt, piece_at(text, at, b'\n'), wish)?;
-        at = past(text, at, b'\n');
+    for line in text.split(|&b| b == b'\n') {
+        wish = answer_line(rt, line, wish)?;
     }
     Ok(())
 }

@@ -1,6 +1,6 @@
 -- Where a number is found among slots in order, and what is put there.
 -- Assumes nothing.
-use Rattle.std.specs.Prelude.{◌≡◌, true, take}
+use Rattle.std.specs.Prelude.{◌≡◌, ℕ, true, take, Result, Ok, Err}
 use Rattle.std.proofs.Math.Path.{refl, ap}
 use Rattle.std.proofs.Common.{sym, ◌∙◌, zero-add, le_of_suc-le-suc, not-suc-le-zero}
 use mathlib.Core.List.{List, [], ◌∷◌, ◌++◌}
@@ -12,10 +12,8 @@ use borrow.Author.Tests.{eq-eqb, ne_eqb}
 use Rattle.std.proofs.Math.ListN.{length, get_or, get_or-append}
 use Rattle.std.proofs.Math.Seq.{get_or-append-add}
 use Rattle.laws.specs.Choice.{both_parts, false≢true}
-use Rattle.slots.specs.declared.Order.{Order}
-use Rattle.slots.specs.declared.Order.TheVariants.{Before, Same, After}
-use Rattle.slots.specs.declared.Found.{Found}
-use Rattle.slots.specs.declared.Found.TheVariants.{At, Gap}
+use Rattle.std.specs.declared.cmp.Ordering.{Ordering}
+use Rattle.std.specs.declared.cmp.Ordering.TheVariants.{Less, Equal, Greater}
 use Rattle.slots.specs.Order.{order_of}
 use Rattle.slots.specs.Find.{number_order, slot_order, halve, find_of}
 use Rattle.slots.specs.Rising.{is_before, rises, before_next, rising}
@@ -25,9 +23,9 @@ use Rattle.laws.specs.Joined.{joined, Each, each_append, length_each}
 use Rattle.records.specs.Joined.{slots_joined}
 
 -- a number's slot among slots, from the first on; k is the first one's index
-unfoldable pub find_in : List ℕ → List (List ℕ) → ℕ → Found
-find_in x [] k = Gap k
-find_in x (r ∷ rs) k = by_order (number_order x r) (find_in x rs (suc k)) (At k) (Gap k)
+unfoldable pub find_in : List ℕ → List (List ℕ) → ℕ → Result ℕ ℕ
+find_in x [] k = Err k
+find_in x (r ∷ rs) k = by_order (number_order x r) (find_in x rs (suc k)) (Ok k) (Err k)
 
 -- every slot is used
 abbrev pub Used : List (List ℕ) → Type 0
@@ -41,13 +39,13 @@ Unused (r ∷ rs) = (get_or r 0 0 ≡ 0) × Unused rs
 
 module _ (x : List ℕ) where
   -- the walk by index is the walk along the list
-  walk_in : (ord : ℕ → Order) (rs : List (List ℕ)) (k : ℕ) → ((i : ℕ) → i < length rs → ord (k + i) ≡ number_order x (get_or rs i [])) → walk ord (length rs) k ≡ find_in x rs k
+  walk_in : (ord : ℕ → Ordering) (rs : List (List ℕ)) (k : ℕ) → ((i : ℕ) → i < length rs → ord (k + i) ≡ number_order x (get_or rs i [])) → walk ord (length rs) k ≡ find_in x rs k
   unfolding walk find_in
   walk_in ord [] k h = refl
   walk_in ord (r ∷ rs) k h =
       let e : ord k ≡ number_order x r = (rw add-zero at (h 0 (omega arith))) in
       rw e
-      (ap (λ (f : Found). by_order (number_order x r) f (At k) (Gap k))
+      (ap (λ (f : Result ℕ ℕ). by_order (number_order x r) f (Ok k) (Err k))
       (walk_in ord rs (suc k) (λ i l. let e₂ : suc k + i ≡ k + suc i = omega arith in rw e₂ (h (suc i) (suc-le-suc l)))))
 
   -- unused slots at the end are not looked at
@@ -55,7 +53,7 @@ module _ (x : List ℕ) where
   unfolding find_in number_order
   find_padded [] [] k u = refl
   find_padded [] (z ∷ zs) k u = rw (number_order, eq-eqb (get_or z 0 0) 0 u.0)
-  find_padded (r ∷ rs) zs k u = ap (λ (f : Found). by_order (number_order x r) f (At k) (Gap k)) (find_padded rs zs (suc k) u)
+  find_padded (r ∷ rs) zs k u = ap (λ (f : Result ℕ ℕ). by_order (number_order x r) f (Ok k) (Err k)) (find_padded rs zs (suc k) u)
 
   -- halving finds what the walk finds, where the slots are lined up
   pub find_lined : (rs : List (List ℕ)) → Each 140 rs → Lined (λ k. number_order x (get_or rs k [])) (length rs) → find_of (joined rs) x ≡ find_in x rs 0
@@ -70,10 +68,10 @@ module _ (x : List ℕ) where
 
 -- ---- slots whose numbers rise are lined up
 
-pub is_before_lem : (o : Order) → is_before o ≡ true → o ≡ Before
-is_before_lem Before q = refl
-is_before_lem Same q = absurd (false≢true q)
-is_before_lem After q = absurd (false≢true q)
+pub is_before_lem : (o : Ordering) → is_before o ≡ true → o ≡ Less
+is_before_lem Less q = refl
+is_before_lem Equal q = absurd (false≢true q)
+is_before_lem Greater q = absurd (false≢true q)
 
 pub used_at : (rs : List (List ℕ)) (k : ℕ) → Used rs → k < length rs → get_or (get_or rs k []) 0 0 ≡ 0 → ⊥
 used_at [] k u h = absurd (not-suc-le-zero h)
@@ -86,7 +84,7 @@ unused_at (z ∷ zs) zero u = u.0
 unused_at (z ∷ zs) (suc k) u = unused_at zs k u.1
 
 -- the first comes before each other
-pub first_before : (r : List ℕ) (rs : List (List ℕ)) → rising (r ∷ rs) ≡ true → (j : ℕ) → j < length rs → order_of (take 10 r) (take 10 (get_or rs j [])) ≡ Before
+pub first_before : (r : List ℕ) (rs : List (List ℕ)) → rising (r ∷ rs) ≡ true → (j : ℕ) → j < length rs → order_of (take 10 r) (take 10 (get_or rs j [])) ≡ Less
 unfolding rising rises
 first_before r [] q j h = absurd (not-suc-le-zero h)
 first_before r (p ∷ rs) q zero h = is_before_lem _ (both_parts _ _ q).0
@@ -96,7 +94,7 @@ first_before r (p ∷ rs) q (suc j) h =
     (is_before_lem _ w.0)
     (λ a. after≢before (sym a ∙ first_before p rs w.1 j (le_of_suc-le-suc h)))
 
-pub rising_apart : (rs : List (List ℕ)) → rising rs ≡ true → (i j : ℕ) → i < j → j < length rs → order_of (take 10 (get_or rs i [])) (take 10 (get_or rs j [])) ≡ Before
+pub rising_apart : (rs : List (List ℕ)) → rising rs ≡ true → (i j : ℕ) → i < j → j < length rs → order_of (take 10 (get_or rs i [])) (take 10 (get_or rs j [])) ≡ Less
 unfolding rising
 rising_apart [] q i j h k = absurd (not-suc-le-zero k)
 rising_apart (r ∷ rs) q i zero h k = absurd (not-suc-le-zero h)
@@ -108,7 +106,7 @@ module _ (x : List ℕ) (rs zs : List (List ℕ)) (u : Used rs) (z : Unused zs) 
   unfolding number_order
   used_order k h = rw (get_or-append rs zs [] k h, ne_eqb (get_or (get_or rs k []) 0 0) 0 (used_at rs k u h))
 
-  unused_order : (k : ℕ) → length rs ≤ k → number_order x (get_or (rs ++ zs) k []) ≡ After
+  unused_order : (k : ℕ) → length rs ≤ k → number_order x (get_or (rs ++ zs) k []) ≡ Greater
   unfolding number_order
   unused_order k h =
       let e : k ≡ length rs + (k - length rs) = omega arith in

@@ -1,3 +1,4 @@
 pub mod Register
 pub mod Laws
 pub mod Opening
+pub mod Room

@@ -1,36 +1,37 @@
 -- What each answer of the register's calls means. Document 01, "What each number means".
 -- Assumes nothing.
-use Rattle.std.specs.Prelude.{ℕ}
-use Rattle.answers.specs.Answers.{Answer, done, not_register, bad_account, nothing_pending, no_record, output_too_short, bad_opening}
-use Rattle.register.specs.declared.Opened.{Opened}
-use Rattle.register.specs.declared.Opened.TheVariants as opened
-use Rattle.register.specs.declared.Released.{Released}
-use Rattle.register.specs.declared.Released.TheVariants as released
-use Rattle.register.specs.declared.Withdrawn.{Withdrawn}
-use Rattle.register.specs.declared.Withdrawn.TheVariants as withdrawn
-use Rattle.register.specs.declared.Shown.{Shown}
-use Rattle.register.specs.declared.Shown.TheVariants as shown
+use Rattle.std.specs.Prelude.{ℕ, Result, Ok, Err}
+use Rattle.answers.specs.Answers.{Answer, done, not_register, bad_account, nothing_pending, bad_opening}
+use Rattle.shown.specs.Shown.{lines_answer}
+use Rattle.register.specs.declared.OpenError.{OpenError}
+use Rattle.register.specs.declared.OpenError.TheVariants as opening
+use Rattle.register.specs.declared.AccountError.{AccountError}
+use Rattle.register.specs.declared.AccountError.TheVariants as account
+use Rattle.register.specs.declared.WithdrawError.{WithdrawError}
+use Rattle.register.specs.declared.WithdrawError.TheVariants as withdrawal
+use Rattle.register.specs.declared.ShowError.{ShowError}
+use Rattle.register.specs.declared.ShowError.TheVariants as showing
 
 -- "buffer is not a register (for opening: wrong length)"
-unfoldable pub opened_answer : Opened → Answer ℕ
-opened_answer opened.Done = done 0
-opened_answer opened.WrongLength = not_register
-opened_answer opened.BadOpening = bad_opening
+unfoldable pub opened_answer : Result (Unit {0}) OpenError → Answer ℕ
+opened_answer (Ok u) = done 0
+opened_answer (Err opening.WrongLength) = not_register
+opened_answer (Err opening.BadOpening) = bad_opening
 
-unfoldable pub released_answer : Released → Answer ℕ
-released_answer (released.Entries n) = done n
-released_answer released.NotRegister = not_register
-released_answer released.BadAccount = bad_account
+unfoldable pub account_answer : AccountError → Answer ℕ
+account_answer account.NotRegister = not_register
+account_answer account.BadAccount = bad_account
 
-unfoldable pub withdrawn_answer : Withdrawn → Answer ℕ
-withdrawn_answer withdrawn.Done = done 0
-withdrawn_answer withdrawn.NotRegister = not_register
-withdrawn_answer withdrawn.BadAccount = bad_account
-withdrawn_answer withdrawn.NothingPending = nothing_pending
+unfoldable pub released_answer : Result ℕ AccountError → Answer ℕ
+released_answer (Ok n) = done n
+released_answer (Err e) = account_answer e
 
-unfoldable pub record_answer : Shown → Answer ℕ
-record_answer (shown.Bytes n) = done n
-record_answer shown.NotRegister = not_register
-record_answer shown.BadAccount = bad_account
-record_answer shown.NoRecord = no_record
-record_answer shown.TooShort = output_too_short
+unfoldable pub withdrawn_answer : Result (Unit {0}) WithdrawError → Answer ℕ
+withdrawn_answer (Ok u) = done 0
+withdrawn_answer (Err (withdrawal.Account e)) = account_answer e
+withdrawn_answer (Err withdrawal.NothingPending) = nothing_pending
+
+unfoldable pub record_answer : Result ℕ ShowError → Answer ℕ
+record_answer (Ok n) = done n
+record_answer (Err (showing.Account e)) = account_answer e
+record_answer (Err (showing.Lines e)) = lines_answer (Err e)

@@ -13,10 +13,11 @@
 
 use checking::is_register;
 use dates::Date;
-use lines::{decode, field, past, piece_at, read_input, say, say_line, say_number};
+use lines::{decode, field, piece_at, read_input, say, say_line, say_number};
 use parts::{Part, bytes_of};
-use register::{Opened, Released, Shown, Withdrawn};
-use staging::Staged;
+use register::{AccountError, OpenError, ShowError, WithdrawError};
+use shown::LinesError;
+use staging::StageError;
 use std::io;
 
 // What a command comes to, in document 01's numbers.
@@ -72,10 +73,8 @@ fn expand(line: &[u8], k: usize, out: &mut [u8]) -> usize {
 
 fn quotas(line: &[u8]) -> [u32; 8] {
     let mut found = [0u32; 8];
-    let mut k = 0;
-    while k < 8 {
+    for k in 0..8 {
         found[k] = (number(line, 4 + k) % 4294967296) as u32;
-        k += 1;
     }
     found
 }
@@ -90,18 +89,18 @@ fn first_date(line: &[u8]) -> Date {
 
 fn open(b: &mut [u8], line: &[u8]) -> Told {
     match register::open(b, first_date(line), quotas(line)) {
-        Opened::Done => done(0),
-        Opened::WrongLength => refused(1),
-        Opened::BadOpening => refused(18),
+        Ok(()) => done(0),
+        Err(OpenError::WrongLength) => refused(1),
+        Err(OpenError::BadOpening) => refused(18),
     }
 }
 
-fn told_staged(staged: Staged) -> Told {
+fn told_staged(staged: Result<usize, StageError>) -> Told {
     match staged {
-        Staged::Done(n) => done(n),
-        Staged::NotRegister => refused(1),
-        Staged::NoAccount => refused(2),
-        Staged::Refused(refusal) => Told {
+        Ok(n) => done(n),
+        Err(StageError::NotRegister) => refused(1),
+        Err(StageError::NoAccount) => refused(2),
+        Err(StageError::Refused(refusal)) => Told {
             number: refusal.number as usize,
             position: refusal.position,
             part: refusal.part as usize,
@@ -132,11 +131,17 @@ fn stage_flat(b: &mut [u8], line: &[u8]) -> Told {
     ))
 }
 
+fn no_account(reason: AccountError) -> Told {
+    match reason {
+        AccountError::NotRegister => refused(1),
+        AccountError::BadAccount => refused(2),
+    }
+}
+
 fn release(b: &mut [u8], line: &[u8]) -> Told {
     match register::release(b, number(line, 1)) {
-        Released::Entries(n) => done(n),
-        Released::NotRegister => refused(1),
-        Released::BadAccount => refused(2),
+        Ok(n) => done(n),
+        Err(reason) => no_account(reason),
     }
 }
 
@@ -144,20 +149,18 @@ fn withdraw(b: &mut [u8], line: &[u8]) -> Told {
     let mut text = [0u8; 20];
     let n = expand(line, 2, &mut text);
     match register::withdraw(b, number(line, 1), bytes_of(&text, Part { from: 0, to: n })) {
-        Withdrawn::Done => done(0),
-        Withdrawn::NotRegister => refused(1),
-        Withdrawn::BadAccount => refused(2),
-        Withdrawn::NothingPending => refused(16),
+        Ok(()) => done(0),
+        Err(WithdrawError::Account(reason)) => no_account(reason),
+        Err(WithdrawError::NothingPending) => refused(16),
     }
 }
 
 fn show(b: &[u8], account: usize, k: usize, out: &mut [u8]) -> Told {
     match register::show(b, account, k, out) {
-        Shown::Bytes(n) => done(n),
-        Shown::NotRegister => refused(1),
-        Shown::BadAccount => refused(2),
-        Shown::NoRecord => refused(16),
-        Shown::TooShort => refused(17),
+        Ok(n) => done(n),
+        Err(ShowError::Account(reason)) => no_account(reason),
+        Err(ShowError::Lines(LinesError::NoRecord)) => refused(16),
+        Err(ShowError::Lines(LinesError::TooShort)) => refused(17),
     }
 }
 
@@ -169,11 +172,8 @@ fn one_more(digest: usize, b: u8) -> usize {
 
 fn digest(bytes: &[u8]) -> usize {
     let mut d = 0;
-    let mut i = 0;
-    while i < bytes.len() {
-        let b = bytes[i];
+    for &b in bytes {
         d = one_more(d, b);
-        i += 1;
     }
     d
 }
@@ -185,14 +185,9 @@ fn next_noise(seed: usize) -> usize {
 fn fill_noise(store: &mut [u8], line: &[u8]) {
     let to = number(line, 3);
     let mut seed = number(line, 1);
-    let mut i = number(line, 2);
-    while i < to {
-        if store.len() <= i {
-            return;
-        }
+    for i in number(line, 2)..to.min(store.len()) {
         seed = next_noise(seed);
         store[i] = small(seed / 65536);
-        i += 1;
     }
 }
 
@@ -229,14 +224,14 @@ fn answer_show(rt: &impl Print, store: &[u8], lent: usize, line: &[u8]) -> io::R
     say(rt, bytes_of(&out, Part { from: 0, to: n }))
 }
 
-fn call(b: &mut [u8], line: &[u8], command: u8) -> Told {
-    match command {
-        b'o' => open(b, line),
-        b's' => stage(b, line, true),
-        b'g' => stage(b, line, false),
-        b'f' => stage_flat(b, line),
-        b'r' => release(b, line),
-        b'w' => withdraw(b, line),
+fn call(b: &mut [u8], line: &[u8]) -> Told {
+    match line.first() {
+        Some(b'o') => open(b, line),
+        Some(b's') => stage(b, line, true),
+        Some(b'g') => stage(b, line, false),
+        Some(b'f') => stage_flat(b, line),
+        Some(b'r') => release(b, line),
+        Some(b'w') => withdraw(b, line),
         _ => {
             if is_register(b) {
                 return done(1);
@@ -246,21 +241,15 @@ fn call(b: &mut [u8], line: &[u8], command: u8) -> Told {
     }
 }
 
-fn call_lent(store: &mut [u8], lent: usize, line: &[u8], command: u8) -> Told {
+fn call_lent(store: &mut [u8], lent: usize, line: &[u8]) -> Told {
     if store.len() < lent {
         return done(0);
     }
-    call(&mut store[..lent], line, command)
+    call(&mut store[..lent], line)
 }
 
-fn answer_call(
-    rt: &impl Print,
-    store: &mut [u8],
-    lent: usize,
-    line: &[u8],
-    command: u8,
-) -> io::Result<()> {
-    let told = call_lent(store, lent, line, command);
+fn answer_call(rt: &impl Print, store: &mut [u8], lent: usize, line: &[u8]) -> io::Result<()> {
+    let told = call_lent(store, lent, line);
     print_told(rt, told, store)?;
     say(rt, b"\n")
 }
@@ -271,34 +260,30 @@ fn answer_command(
     store: &mut [u8],
     lent: usize,
     line: &[u8],
-    command: u8,
 ) -> io::Result<usize> {
-    match command {
-        b'#' => {
+    match line.first() {
+        Some(b'#') => {
             say_line(rt, line)?;
             return Ok(lent);
         }
-        b'p' => {
+        Some(b'p') => {
             answer_show(rt, store, lent, line)?;
             return Ok(lent);
         }
-        b'b' => put(store, number(line, 1), small(number(line, 2))),
-        b'n' => fill_noise(store, line),
-        b'l' => {
+        Some(b'b') => put(store, number(line, 1), small(number(line, 2))),
+        Some(b'n') => fill_noise(store, line),
+        Some(b'l') => {
             return Ok(number(line, 1));
         }
-        _ => answer_call(rt, store, lent, line, command)?,
+        _ => answer_call(rt, store, lent, line)?,
     }
     Ok(lent)
 }
 
 fn answer_all(rt: &impl Print, text: &[u8], store: &mut [u8]) -> io::Result<()> {
     let mut lent = 35858;
-    let mut at = 0;
-    while at < text.len() {
-        let command = text[at];
-        lent = answer_command(rt, store, lent, piece_at(text, at, b'\n'), command)?;
-        at = past(text, at, b'\n');
+    for line in text.split_inclusive(|&b| b == b'\n') {
+        lent = answer_command(rt, store, lent, line.strip_suffix(b"\n").unwrap_or(line))?;
     }
     Ok(())
 }

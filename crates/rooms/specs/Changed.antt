@@ -7,8 +7,8 @@ use Rattle.std.proofs.Math.Option.{Option, none, some}
 use mathlib.Core.List.{List, [], ◌∷◌, ◌++◌, append-nil}
 use Rattle.laws.specs.Choice.{pick, all, choose, both_parts}
 use Rattle.values.specs.Values.{same_text}
-use Rattle.slots.specs.declared.Order.{Order}
-use Rattle.slots.specs.declared.Order.TheVariants.{Before, Same, After}
+use Rattle.std.specs.declared.cmp.Ordering.{Ordering}
+use Rattle.std.specs.declared.cmp.Ordering.TheVariants.{Less, Equal, Greater}
 use Rattle.slots.specs.Order.{order_of}
 use Rattle.records.specs.Order.{same_text_lem, after_flip}
 use Rattle.contents.specs.Contents.{Record, good_record, in_order, good_account}
@@ -28,14 +28,14 @@ module _
     (P : List Record → Option Record → List Record → Type 0)
     (ended : P [] none (listed (f none) ++ []))
     (found : (r : Record) (rs : List Record) → in_order (r ∷ rs) ≡ true → r.number ≡ x → P (r ∷ rs) (some r) (listed (f (some r)) ++ rs))
-    (gap : (r : Record) (rs : List Record) → in_order (r ∷ rs) ≡ true → order_of x r.number ≡ Before → P (r ∷ rs) none (listed (f none) ++ (r ∷ rs)))
-    (passed : (r : Record) (rs : List Record) (o : Option Record) (l : List Record) → in_order (r ∷ rs) ≡ true → order_of r.number x ≡ Before → P rs o l → P (r ∷ rs) o (r ∷ l))
+    (gap : (r : Record) (rs : List Record) → in_order (r ∷ rs) ≡ true → order_of x r.number ≡ Less → P (r ∷ rs) none (listed (f none) ++ (r ∷ rs)))
+    (passed : (r : Record) (rs : List Record) (o : Option Record) (l : List Record) → in_order (r ∷ rs) ≡ true → order_of r.number x ≡ Less → P rs o l → P (r ∷ rs) o (r ∷ l))
   where
-    here : (r : Record) (rs : List Record) → in_order (r ∷ rs) ≡ true → P rs (lookup x rs) (changed x f rs) → (o : Order) → order_of r.number x ≡ o
+    here : (r : Record) (rs : List Record) → in_order (r ∷ rs) ≡ true → P rs (lookup x rs) (changed x f rs) → (o : Ordering) → order_of r.number x ≡ o
         → P (r ∷ rs) (lookup x (r ∷ rs)) (changed x f (r ∷ rs))
-    here r rs w ih Before e = rw (lookup_passed x r rs e, changed_passed x r rs f e) (passed r rs (lookup x rs) (changed x f rs) w e ih)
-    here r rs w ih Same e = rw (lookup_found x r rs e, changed_found x r rs f e) (found r rs w (same_text_lem r.number x e))
-    here r rs w ih After e = rw (lookup_gap x r rs w e, changed_gap x r rs f e) (gap r rs w (after_flip r.number x e))
+    here r rs w ih Less e = rw (lookup_passed x r rs e, changed_passed x r rs f e) (passed r rs (lookup x rs) (changed x f rs) w e ih)
+    here r rs w ih Equal e = rw (lookup_found x r rs e, changed_found x r rs f e) (found r rs w (same_text_lem r.number x e))
+    here r rs w ih Greater e = rw (lookup_gap x r rs w e, changed_gap x r rs f e) (gap r rs w (after_flip r.number x e))
 
     by_place : (rs : List Record) → in_order rs ≡ true → P rs (lookup x rs) (changed x f rs)
     unfolding lookup changed
@@ -89,15 +89,15 @@ module _ (x : List ℕ) (f : Option Record → Option Record) where
 
   -- the changed records are in order, and a number before the first record's and before the changed one is before the first one's again
   in_order_lem : (rs : List Record) → in_order rs ≡ true → Keeps x (f (lookup x rs))
-      → (in_order (changed x f rs) ≡ true) × ((y : List ℕ) → before_first y rs ≡ true → order_of y x ≡ Before → before_first y (changed x f rs) ≡ true)
+      → (in_order (changed x f rs) ≡ true) × ((y : List ℕ) → before_first y rs ≡ true → order_of y x ≡ Less → before_first y (changed x f rs) ≡ true)
   in_order_lem =
-      by_place x f (λ rs o l. Keeps x (f o) → (in_order l ≡ true) × ((y : List ℕ) → before_first y rs ≡ true → order_of y x ≡ Before → before_first y l ≡ true))
+      by_place x f (λ rs o l. Keeps x (f o) → (in_order l ≡ true) × ((y : List ℕ) → before_first y rs ≡ true → order_of y x ≡ Less → before_first y l ≡ true))
       (λ k. (order_listed x [] (f none) k refl none_order, λ y b e. front_listed x [] y (f none) k e b))
       (λ r rs w n k. (
         order_listed x rs (f (some r)) k (subst (λ (y : List ℕ). before_first y rs ≡ true) n (first_after r rs w)) (tail_order r rs w),
         λ y b e. front_listed x rs y (f (some r)) k e (skip_first y r rs w (before_told y r.number b)),
       ))
-      (λ r rs w n k. (order_listed x (r ∷ rs) (f none) k (before_by x r.number Before n) w, λ y b e. front_listed x (r ∷ rs) y (f none) k e b))
+      (λ r rs w n k. (order_listed x (r ∷ rs) (f none) k (before_by x r.number Less n) w, λ y b e. front_listed x (r ∷ rs) y (f none) k e b))
       (λ r rs o l w n ih k. (order_on r l ((ih k).1 r.number (first_after r rs w) n) (ih k).0, λ y b e. b))
 
   pub changed_order : (rs : List Record) → in_order rs ≡ true → Keeps x (f (lookup x rs)) → in_order (changed x f rs) ≡ true

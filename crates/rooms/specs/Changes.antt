@@ -1,14 +1,12 @@
 -- A number's place among records in order, by which it is looked up and changed.
 -- Assumes nothing.
-use Rattle.std.specs.Prelude.{◌≡◌, refl, true, List, [], ◌∷◌, ◌++◌, map, ℕ, suc, ◌+◌, length, get_or, take, drop}
+use Rattle.std.specs.Prelude.{◌≡◌, refl, true, List, [], ◌∷◌, ◌++◌, map, ℕ, suc, ◌+◌, length, get_or, take, drop, Result, Ok, Err}
 use Rattle.std.proofs.Common.{sym, ◌∙◌, ap, append-nil, suc-le-suc, arith, ne_eqb}
 use Rattle.std.proofs.Math.Option.{Option, none}
 use Rattle.laws.specs.Choice.{all, both_parts}
 use Rattle.laws.specs.Filled.{filled_up}
-use Rattle.slots.specs.declared.Order.{Order}
-use Rattle.slots.specs.declared.Order.TheVariants.{Before, Same, After}
-use Rattle.slots.specs.declared.Found.{Found}
-use Rattle.slots.specs.declared.Found.TheVariants.{At, Gap}
+use Rattle.std.specs.declared.cmp.Ordering.{Ordering}
+use Rattle.std.specs.declared.cmp.Ordering.TheVariants.{Less, Equal, Greater}
 use Rattle.slots.specs.Order.{order_of}
 use Rattle.slots.specs.Find.{number_order, find_of, Within}
 use Rattle.records.specs.Linear.{by_order}
@@ -22,9 +20,9 @@ use Rattle.rooms.specs.Slots.{record_number, slot_number, slot_used, slots_each,
 use Rattle.rooms.specs.Lookup.{tail_order, lookup_passed, lookup_found, lookup_gap, changed_passed, changed_found, changed_gap}
 
 -- a number's place among records, from the first on; k is the first one's index
-unfoldable pub place_in : List ℕ → List Record → ℕ → Found
-place_in x [] k = Gap k
-place_in x (r ∷ rs) k = by_order (order_of r.number x) (place_in x rs (suc k)) (At k) (Gap k)
+unfoldable pub place_in : List ℕ → List Record → ℕ → Result ℕ ℕ
+place_in x [] k = Err k
+place_in x (r ∷ rs) k = by_order (order_of r.number x) (place_in x rs (suc k)) (Ok k) (Err k)
 
 -- ---- halving the room finds this place
 
@@ -49,52 +47,52 @@ find_place quota rs x q p =
 -- ---- what is at a place
 
 -- the record that was found
-abbrev pub found_in : Found → List Record → Option Record
-found_in (At k) rs = record_at k rs
-found_in (Gap k) rs = none
+abbrev pub found_in : Result ℕ ℕ → List Record → Option Record
+found_in (Ok k) rs = record_at k rs
+found_in (Err k) rs = none
 
 -- the records with what stands at a place changed
-unfoldable pub changed_at : Found → (Option Record → Option Record) → List Record → List Record
-changed_at (At k) f rs = take k rs ++ (listed (f (record_at k rs)) ++ drop (k + 1) rs)
-changed_at (Gap k) f rs = take k rs ++ (listed (f none) ++ drop k rs)
+unfoldable pub changed_at : Result ℕ ℕ → (Option Record → Option Record) → List Record → List Record
+changed_at (Ok k) f rs = take k rs ++ (listed (f (record_at k rs)) ++ drop (k + 1) rs)
+changed_at (Err k) f rs = take k rs ++ (listed (f none) ++ drop k rs)
 
 -- one place on
-abbrev later_found : Found → Found
-later_found (At k) = At (suc k)
-later_found (Gap k) = Gap (suc k)
+abbrev later_found : Result ℕ ℕ → Result ℕ ℕ
+later_found (Ok k) = Ok (suc k)
+later_found (Err k) = Err (suc k)
 
-later_by : (o : Order) (f : Found) (k : ℕ) → by_order o (later_found f) (At (suc k)) (Gap (suc k)) ≡ later_found (by_order o f (At k) (Gap k))
-later_by Before f k = refl
-later_by Same f k = refl
-later_by After f k = refl
+later_by : (o : Ordering) (f : Result ℕ ℕ) (k : ℕ) → by_order o (later_found f) (Ok (suc k)) (Err (suc k)) ≡ later_found (by_order o f (Ok k) (Err k))
+later_by Less f k = refl
+later_by Equal f k = refl
+later_by Greater f k = refl
 
 place_later : (x : List ℕ) (rs : List Record) (k : ℕ) → place_in x rs (suc k) ≡ later_found (place_in x rs k)
 unfolding place_in
 place_later x [] k = refl
 place_later x (r ∷ rs) k = rw (place_later x rs (suc k)) (later_by (order_of r.number x) (place_in x rs (suc k)) k)
 
-place_by : (x : List ℕ) (r : Record) (rs : List Record) (o : Order) → order_of r.number x ≡ o → place_in x (r ∷ rs) 0 ≡ by_order o (later_found (place_in x rs 0)) (At 0) (Gap 0)
+place_by : (x : List ℕ) (r : Record) (rs : List Record) (o : Ordering) → order_of r.number x ≡ o → place_in x (r ∷ rs) 0 ≡ by_order o (later_found (place_in x rs 0)) (Ok 0) (Err 0)
 unfolding place_in
 place_by x r rs o e = rw (e, place_later x rs 0)
 
-found_later : (p : Found) (r : Record) (rs : List Record) → found_in (later_found p) (r ∷ rs) ≡ found_in p rs
+found_later : (p : Result ℕ ℕ) (r : Record) (rs : List Record) → found_in (later_found p) (r ∷ rs) ≡ found_in p rs
 unfolding record_at
-found_later (At k) r rs = refl
-found_later (Gap k) r rs = refl
+found_later (Ok k) r rs = refl
+found_later (Err k) r rs = refl
 
-changed_later : (p : Found) (f : Option Record → Option Record) (r : Record) (rs : List Record) → changed_at (later_found p) f (r ∷ rs) ≡ r ∷ changed_at p f rs
+changed_later : (p : Result ℕ ℕ) (f : Option Record → Option Record) (r : Record) (rs : List Record) → changed_at (later_found p) f (r ∷ rs) ≡ r ∷ changed_at p f rs
 unfolding changed_at record_at
-changed_later (At k) f r rs =
+changed_later (Ok k) f r rs =
     let e : suc k + 1 ≡ suc (k + 1) = omega arith in
     rw e
-changed_later (Gap k) f r rs = refl
+changed_later (Err k) f r rs = refl
 
 -- a place is among the records or at their end
-within_by : (n : ℕ) (o : Order) (p : Found) → Within n p → Within (suc n) (by_order o (later_found p) (At 0) (Gap 0))
-within_by n Before (At k) h = suc-le-suc h
-within_by n Before (Gap k) h = suc-le-suc h
-within_by n Same p h = omega arith
-within_by n After p h = omega arith
+within_by : (n : ℕ) (o : Ordering) (p : Result ℕ ℕ) → Within n p → Within (suc n) (by_order o (later_found p) (Ok 0) (Err 0))
+within_by n Less (Ok k) h = suc-le-suc h
+within_by n Less (Err k) h = suc-le-suc h
+within_by n Equal p h = omega arith
+within_by n Greater p h = omega arith
 
 pub place_within : (x : List ℕ) (rs : List Record) → Within (length rs) (place_in x rs 0)
 unfolding place_in
@@ -103,20 +101,20 @@ place_within x (r ∷ rs) = rw (place_later x rs 0) (within_by (length rs) (orde
 
 -- ---- a number is looked up in its place, and changed there
 
-look_by : (x : List ℕ) (r : Record) (rs : List Record) → in_order (r ∷ rs) ≡ true → (o : Order) → order_of r.number x ≡ o
+look_by : (x : List ℕ) (r : Record) (rs : List Record) → in_order (r ∷ rs) ≡ true → (o : Ordering) → order_of r.number x ≡ o
     → lookup x rs ≡ found_in (place_in x rs 0) rs → lookup x (r ∷ rs) ≡ found_in (place_in x (r ∷ rs) 0) (r ∷ rs)
 unfolding record_at
-look_by x r rs w Before e ih = lookup_passed x r rs e ∙ ih ∙ rw (place_by x r rs Before e) (sym (found_later (place_in x rs 0) r rs))
-look_by x r rs w Same e ih = lookup_found x r rs e ∙ rw (place_by x r rs Same e)
-look_by x r rs w After e ih = lookup_gap x r rs w e ∙ rw (place_by x r rs After e)
+look_by x r rs w Less e ih = lookup_passed x r rs e ∙ ih ∙ rw (place_by x r rs Less e) (sym (found_later (place_in x rs 0) r rs))
+look_by x r rs w Equal e ih = lookup_found x r rs e ∙ rw (place_by x r rs Equal e)
+look_by x r rs w Greater e ih = lookup_gap x r rs w e ∙ rw (place_by x r rs Greater e)
 
-change_by : (x : List ℕ) (f : Option Record → Option Record) (r : Record) (rs : List Record) (o : Order) → order_of r.number x ≡ o
+change_by : (x : List ℕ) (f : Option Record → Option Record) (r : Record) (rs : List Record) (o : Ordering) → order_of r.number x ≡ o
     → changed x f rs ≡ changed_at (place_in x rs 0) f rs → changed x f (r ∷ rs) ≡ changed_at (place_in x (r ∷ rs) 0) f (r ∷ rs)
 unfolding changed_at record_at
-change_by x f r rs Before e ih =
-    changed_passed x r rs f e ∙ ap (λ (l : List Record). r ∷ l) ih ∙ rw (place_by x r rs Before e) (sym (changed_later (place_in x rs 0) f r rs))
-change_by x f r rs Same e ih = changed_found x r rs f e ∙ rw (place_by x r rs Same e)
-change_by x f r rs After e ih = changed_gap x r rs f e ∙ rw (place_by x r rs After e)
+change_by x f r rs Less e ih =
+    changed_passed x r rs f e ∙ ap (λ (l : List Record). r ∷ l) ih ∙ rw (place_by x r rs Less e) (sym (changed_later (place_in x rs 0) f r rs))
+change_by x f r rs Equal e ih = changed_found x r rs f e ∙ rw (place_by x r rs Equal e)
+change_by x f r rs Greater e ih = changed_gap x r rs f e ∙ rw (place_by x r rs Greater e)
 
 pub lookup_place : (x : List ℕ) (rs : List Record) → in_order rs ≡ true → lookup x rs ≡ found_in (place_in x rs 0) rs
 unfolding lookup place_in

@@ -5,7 +5,7 @@ use Rattle.std.proofs.Math.Path.{refl}
 use Rattle.std.proofs.Common.{sym, ◌∙◌, arith}
 use Rattle.std.proofs.Math.Option.{Option, none, some}
 use Rattle.laws.specs.Choice.{all, both_parts}
-use Rattle.slots.specs.declared.Order.TheVariants.{Before}
+use Rattle.std.specs.declared.cmp.Ordering.TheVariants.{Less}
 use Rattle.slots.specs.Order.{order_of}
 use Rattle.contents.specs.Contents.{Record, comes_before, before_next, in_order}
 use Rattle.contents.specs.Calls.{lookup, listed}
@@ -53,9 +53,9 @@ module _ (x : List ℕ) (t : List Record) where
   order_listed none k b w = w
   order_listed (some r) k b w = rw (next_first r t, k, b) w
 
-  pub front_listed : (y : List ℕ) (o : Option Record) → Keeps x o → order_of y x ≡ Before → before_first y t ≡ true → before_first y (listed o ++ t) ≡ true
+  pub front_listed : (y : List ℕ) (o : Option Record) → Keeps x o → order_of y x ≡ Less → before_first y t ≡ true → before_first y (listed o ++ t) ≡ true
   front_listed y none k b e = e
-  front_listed y (some r) k b e = rw k (before_by y x Before b)
+  front_listed y (some r) k b e = rw k (before_by y x Less b)
 
 pub look_on : (y : List ℕ) (r : Record) (l rs : List Record) → lookup y l ≡ lookup y rs → lookup y (r ∷ l) ≡ lookup y (r ∷ rs)
 unfolding lookup
@@ -85,6 +85,6 @@ pub first_after : (r : Record) (rs : List Record) → in_order (r ∷ rs) ≡ tr
 unfolding in_order
 first_after r rs w = sym (next_first r rs) ∙ (both_parts (before_next r rs) (in_order rs) w).0
 
-pub skip_first : (y : List ℕ) (p : Record) (rs : List Record) → in_order (p ∷ rs) ≡ true → order_of y p.number ≡ Before → before_first y rs ≡ true
+pub skip_first : (y : List ℕ) (p : Record) (rs : List Record) → in_order (p ∷ rs) ≡ true → order_of y p.number ≡ Less → before_first y rs ≡ true
 skip_first y p [] w b = refl
-skip_first y p (q ∷ rs) w b = before_by y q.number Before (before_through y p.number q.number b (next_before p q rs w))
+skip_first y p (q ∷ rs) w b = before_by y q.number Less (before_through y p.number q.number b (next_before p q rs w))

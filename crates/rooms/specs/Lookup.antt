@@ -5,8 +5,8 @@ use Rattle.std.proofs.Common.{sym, ◌∙◌, ap, subst, arith}
 use Rattle.std.proofs.Math.Option.{Option, none, some}
 use Rattle.laws.specs.Choice.{all, choose, both_parts, false≢true}
 use Rattle.values.specs.Values.{same_text}
-use Rattle.slots.specs.declared.Order.{Order}
-use Rattle.slots.specs.declared.Order.TheVariants.{Before, Same, After}
+use Rattle.std.specs.declared.cmp.Ordering.{Ordering}
+use Rattle.std.specs.declared.cmp.Ordering.TheVariants.{Less, Equal, Greater}
 use Rattle.slots.specs.Order.{order_of}
 use Rattle.slots.specs.Rising.{is_before}
 use Rattle.records.specs.Order.{after≢before, before_trans, before_flip, after_flip}
@@ -23,16 +23,16 @@ pub some_is : {A : Type 0} {a b : A} → some a ≡ some b → a ≡ b
 some_is q = cc
 
 -- the tests by the order that they come to
-pub same_by : (a b : List ℕ) (o : Order) → order_of a b ≡ o → same_text a b ≡ is_same_order o
+pub same_by : (a b : List ℕ) (o : Ordering) → order_of a b ≡ o → same_text a b ≡ is_same_order o
 same_by a b o e = same_order a b ∙ ap is_same_order e
 
-pub before_by : (a b : List ℕ) (o : Order) → order_of a b ≡ o → comes_before a b ≡ is_before o
+pub before_by : (a b : List ℕ) (o : Ordering) → order_of a b ≡ o → comes_before a b ≡ is_before o
 before_by a b o e = before_order a b ∙ ap is_before e
 
-pub before_told : (a b : List ℕ) → comes_before a b ≡ true → order_of a b ≡ Before
+pub before_told : (a b : List ℕ) → comes_before a b ≡ true → order_of a b ≡ Less
 before_told a b q = is_before_lem (order_of a b) (sym (before_order a b) ∙ q)
 
-pub before_through : (a b c : List ℕ) → order_of a b ≡ Before → order_of b c ≡ Before → order_of a c ≡ Before
+pub before_through : (a b c : List ℕ) → order_of a b ≡ Less → order_of b c ≡ Less → order_of a c ≡ Less
 before_through a b c p q = before_trans a b c p (λ e. after≢before (sym e ∙ q))
 
 -- ---- records in order
@@ -41,16 +41,16 @@ pub tail_order : (r : Record) (rs : List Record) → in_order (r ∷ rs) ≡ tru
 unfolding in_order
 tail_order r rs w = (both_parts (before_next r rs) (in_order rs) w).1
 
-pub next_before : (r p : Record) (rs : List Record) → in_order (r ∷ (p ∷ rs)) ≡ true → order_of r.number p.number ≡ Before
+pub next_before : (r p : Record) (rs : List Record) → in_order (r ∷ (p ∷ rs)) ≡ true → order_of r.number p.number ≡ Less
 unfolding in_order
 next_before r p rs w = before_told r.number p.number (both_parts (comes_before r.number p.number) (in_order (p ∷ rs)) w).0
 
 -- a number before the first record's is in none
-pub lookup_before : (x : List ℕ) (r : Record) (rs : List Record) → in_order (r ∷ rs) ≡ true → order_of x r.number ≡ Before → lookup x (r ∷ rs) ≡ none
+pub lookup_before : (x : List ℕ) (r : Record) (rs : List Record) → in_order (r ∷ rs) ≡ true → order_of x r.number ≡ Less → lookup x (r ∷ rs) ≡ none
 unfolding lookup
-lookup_before x r [] w q = rw (same_by r.number x After (before_flip x r.number q))
+lookup_before x r [] w q = rw (same_by r.number x Greater (before_flip x r.number q))
 lookup_before x r (p ∷ rs) w q =
-    rw (same_by r.number x After (before_flip x r.number q))
+    rw (same_by r.number x Greater (before_flip x r.number q))
     (lookup_before x p rs (tail_order r (p ∷ rs) w) (before_through x r.number p.number q (next_before r p rs w)))
 
 -- no later record has the first one's number
@@ -94,29 +94,29 @@ lookup_bad x rs g b = go (lookup x rs) refl
 -- ---- the first record's part in what is looked up and in what is changed
 
 module _ (x : List ℕ) (r : Record) (rs : List Record) where
-  pub lookup_passed : order_of r.number x ≡ Before → lookup x (r ∷ rs) ≡ lookup x rs
+  pub lookup_passed : order_of r.number x ≡ Less → lookup x (r ∷ rs) ≡ lookup x rs
   unfolding lookup
-  lookup_passed e = rw (same_by r.number x Before e)
+  lookup_passed e = rw (same_by r.number x Less e)
 
-  pub lookup_found : order_of r.number x ≡ Same → lookup x (r ∷ rs) ≡ some r
+  pub lookup_found : order_of r.number x ≡ Equal → lookup x (r ∷ rs) ≡ some r
   unfolding lookup
-  lookup_found e = rw (same_by r.number x Same e)
+  lookup_found e = rw (same_by r.number x Equal e)
 
-  pub lookup_gap : in_order (r ∷ rs) ≡ true → order_of r.number x ≡ After → lookup x (r ∷ rs) ≡ none
+  pub lookup_gap : in_order (r ∷ rs) ≡ true → order_of r.number x ≡ Greater → lookup x (r ∷ rs) ≡ none
   lookup_gap w e = lookup_before x r rs w (after_flip r.number x e)
 
   module _ (f : Option Record → Option Record) where
-    pub changed_passed : order_of r.number x ≡ Before → changed x f (r ∷ rs) ≡ r ∷ changed x f rs
+    pub changed_passed : order_of r.number x ≡ Less → changed x f (r ∷ rs) ≡ r ∷ changed x f rs
     unfolding changed
-    changed_passed e = rw (same_by r.number x Before e, before_by x r.number After (before_flip r.number x e))
+    changed_passed e = rw (same_by r.number x Less e, before_by x r.number Greater (before_flip r.number x e))
 
-    pub changed_found : order_of r.number x ≡ Same → changed x f (r ∷ rs) ≡ listed (f (some r)) ++ rs
+    pub changed_found : order_of r.number x ≡ Equal → changed x f (r ∷ rs) ≡ listed (f (some r)) ++ rs
     unfolding changed
-    changed_found e = rw (same_by r.number x Same e)
+    changed_found e = rw (same_by r.number x Equal e)
 
-    pub changed_gap : order_of r.number x ≡ After → changed x f (r ∷ rs) ≡ listed (f none) ++ (r ∷ rs)
+    pub changed_gap : order_of r.number x ≡ Greater → changed x f (r ∷ rs) ≡ listed (f none) ++ (r ∷ rs)
     unfolding changed
-    changed_gap e = rw (same_by r.number x After e, before_by x r.number Before (after_flip r.number x e))
+    changed_gap e = rw (same_by r.number x Greater e, before_by x r.number Less (after_flip r.number x e))
 
 -- ---- the law
 
@@ -124,10 +124,10 @@ heads : (r q : Record) (rs qs : List Record) → in_order (r ∷ rs) ≡ true �
 unfolding lookup
 heads r q rs qs v w h = go (order_of q.number r.number) refl
   where
-    go : (o : Order) → order_of q.number r.number ≡ o → r ≡ q
-    go Before e = absurd (none≢some (sym (lookup_before q.number r rs v e) ∙ h q.number ∙ lookup_here q qs))
-    go Same e = some_is (sym (lookup_here r rs) ∙ h r.number ∙ rw (same_by q.number r.number Same e))
-    go After e = absurd (none≢some (sym (lookup_before r.number q qs w (after_flip q.number r.number e)) ∙ sym (h r.number) ∙ lookup_here r rs))
+    go : (o : Ordering) → order_of q.number r.number ≡ o → r ≡ q
+    go Less e = absurd (none≢some (sym (lookup_before q.number r rs v e) ∙ h q.number ∙ lookup_here q qs))
+    go Equal e = some_is (sym (lookup_here r rs) ∙ h r.number ∙ rw (same_by q.number r.number Equal e))
+    go Greater e = absurd (none≢some (sym (lookup_before r.number q qs w (after_flip q.number r.number e)) ∙ sym (h r.number) ∙ lookup_here r rs))
 
 tails : (r : Record) (rs qs : List Record) → in_order (r ∷ rs) ≡ true → in_order (r ∷ qs) ≡ true → ((x : List ℕ) → lookup x (r ∷ rs) ≡ lookup x (r ∷ qs))
     → (x : List ℕ) → lookup x rs ≡ lookup x qs

@@ -7,8 +7,8 @@ use Rattle.laws.specs.Choice.{both, all, choose, both_parts, false≢true}
 use Rattle.laws.specs.Filled.{filled_up}
 use Rattle.syntax.specs.Bytes.{permitted_of}
 use Rattle.values.specs.Values.{same_text}
-use Rattle.slots.specs.declared.Order.{Order}
-use Rattle.slots.specs.declared.Order.TheVariants.{Before, Same, After}
+use Rattle.std.specs.declared.cmp.Ordering.{Ordering}
+use Rattle.std.specs.declared.cmp.Ordering.TheVariants.{Less, Equal, Greater}
 use Rattle.slots.specs.Order.{order_of}
 use Rattle.slots.specs.Rising.{is_before}
 use Rattle.records.specs.Order.{same_self, same_text_lem}
@@ -16,10 +16,10 @@ use Rattle.records.specs.Padded.{NoZero, order_filled}
 use Rattle.contents.specs.Contents.{good_number, comes_before}
 use Rattle.contents.specs.Written.{up_to_zero}
 
-abbrev pub is_same_order : Order → Bool
-is_same_order Before = false
-is_same_order Same = true
-is_same_order After = false
+abbrev pub is_same_order : Ordering → Bool
+is_same_order Less = false
+is_same_order Equal = true
+is_same_order Greater = false
 
 -- one text comes before another, or is the same, as the order of both says
 by_order : (a b : List ℕ) → (comes_before a b ≡ is_before (order_of a b)) × (same_text a b ≡ is_same_order (order_of a b))
@@ -50,10 +50,10 @@ same_order a b = (by_order a b).1
 
 -- ---- the test of two texts decides whether they are one
 
-is_same : (o : Order) → is_same_order o ≡ true → o ≡ Same
-is_same Before q = absurd (false≢true q)
-is_same Same q = refl
-is_same After q = absurd (false≢true q)
+is_same : (o : Ordering) → is_same_order o ≡ true → o ≡ Equal
+is_same Less q = absurd (false≢true q)
+is_same Equal q = refl
+is_same Greater q = absurd (false≢true q)
 
 pub same_told : (a b : List ℕ) → same_text a b ≡ true → a ≡ b
 same_told a b q = same_text_lem a b (is_same (order_of a b) (sym (same_order a b) ∙ q))

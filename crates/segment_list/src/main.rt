@@ -3,8 +3,8 @@
 
 #![tactic(auto)]
 
-use lent::{Found, found_past};
-use lines::{letters, past, piece_at, read_input, say, say_line, say_number, say_refusal};
+use lent::found_past;
+use lines::{letters, read_input, say, say_line, say_number, say_refusal};
 use std::io;
 
 fn answer_segment(rt: &impl Print, at: usize, tag: u32) -> io::Result<()> {
@@ -22,30 +22,26 @@ fn answer_over(rt: &impl Print, at: usize) -> io::Result<()> {
 // A segment has at least four bytes, so the walk ends within a quarter as many passes as the line has bytes.
 fn walk(rt: &impl Print, line: &[u8]) -> io::Result<()> {
     let mut at = 0;
-    let mut n = 0;
-    while n <= line.len() / 4 {
+    for n in 0..line.len() / 4 + 1 {
         match found_past(line, n) {
-            Found::Segment(tag, after) => {
-                answer_segment(rt, at, tag)?;
-                at = after;
+            Ok(Some(segment)) => {
+                answer_segment(rt, at, segment.tag)?;
+                at = segment.after;
             }
-            Found::Over => {
+            Ok(None) => {
                 return answer_over(rt, at);
             }
-            Found::Refused(refusal) => {
+            Err(refusal) => {
                 return say_refusal(rt, refusal.number, refusal.position, refusal.part);
             }
         }
-        n += 1;
     }
     Ok(())
 }
 
 fn answer_all(rt: &impl Print, text: &[u8]) -> io::Result<()> {
-    let mut at = 0;
-    while at < text.len() {
-        walk(rt, piece_at(text, at, b'\n'))?;
-        at = past(text, at, b'\n');
+    for line in text.split_inclusive(|&b| b == b'\n') {
+        walk(rt, line.strip_suffix(b"\n").unwrap_or(line))?;
     }
     Ok(())
 }

@@ -3,7 +3,6 @@
 #![tactic(auto)]
 
 ghost use Rattle.std.specs.Prelude.{◌≡◌};
-ghost use Rattle.laws.specs.Lists.{between};
 ghost use Rattle.placing.specs.Tsdupd12B.{tsdupd_12b_table};
 ghost use Rattle.placing.specs.Tables.{tables, lent_in};
 
@@ -11,6 +10,7 @@ use messages::{
     ADS, ALS, ASD, CNY, CON, DTI, ERI, FRQ, HDR, IFT, LNG, MES, MSD, MessageType, NME, ODI, ORG,
     PDT, POP, POR, PRD, RFR, RLS, SER, TCE, TFF, TIZ, TRF, UIH, UIT,
 };
+use placing::rows_between;
 
 const M: u32 = 1;
 
@@ -188,22 +188,6 @@ pub fn tsdupd_12b() -> [[u32; 8]; 49]
         [480, RLS, C, 1, 8, 2, 0, 45],
         [490, UIT, M, 1, 0, 0, 0, 0],
     ]
-}
-
-// The rows from one index up to and without another.
-fn rows_between(tables: &[[u32; 8]], from: usize, to: usize) -> &[[u32; 8]]
-    ensures { result.now ≡ between tables.now from to }
-{
-    if to <= from {
-        return &tables[0..0];
-    }
-    if tables.len() <= from {
-        return &tables[0..0];
-    }
-    if tables.len() < to {
-        return &tables[from..];
-    }
-    &tables[from..to]
 }
 
 /// A type's own table among the rows of D.04A; of D.12B there is none.

@@ -4,31 +4,16 @@
 
 #![tactic(auto)]
 
-use interchange::reader::{Reading, read};
-use lines::{past, piece_at, read_input, say, say_number, say_refusal};
+use interchange::reader::read;
+use lines::{read_input, say, say_number, say_refusal};
 use parts::bytes_of;
-use services::{Counted, Found, FoundPeriod, Service, next_period, next_service, test_services};
+use services::{Periods, Service, Services, test_services};
 use std::io;
 
 fn print_periods(rt: &impl Print, rows: &[u32], from: usize, to: usize) -> io::Result<()> {
-    let mut i = from;
-    while i < to {
-        match next_period(rows, i, to) {
-            FoundPeriod::Pop(k, offset) => {
-                say(rt, b" ")?;
-                say_number(rt, offset)?;
-                if k < i {
-                    return Ok(());
-                }
-                if to <= k {
-                    return Ok(());
-                }
-                i = k + 1;
-            }
-            FoundPeriod::NoMore => {
-                return Ok(());
-            }
-        }
+    for offset in Periods::among(rows, from, to) {
+        say(rt, b" ")?;
+        say_number(rt, offset)?;
     }
     Ok(())
 }
@@ -48,24 +33,8 @@ fn print_service(rt: &impl Print, s: &[u8], rows: &[u32], service: Service) -> i
 }
 
 fn print_services(rt: &impl Print, s: &[u8], rows: &[u32], n: usize) -> io::Result<()> {
-    let mut i = 0;
-    while i < n {
-        match next_service(s, rows, n, i) {
-            Found::At(service) => {
-                print_service(rt, s, rows, service)?;
-                let k = service.from;
-                if k < i {
-                    return Ok(());
-                }
-                if n <= k {
-                    return Ok(());
-                }
-                i = k + 1;
-            }
-            Found::NoMore => {
-                return Ok(());
-            }
-        }
+    for service in Services::of(s, rows, n) {
+        print_service(rt, s, rows, service)?;
     }
     Ok(())
 }
@@ -73,38 +42,26 @@ fn print_services(rt: &impl Print, s: &[u8], rows: &[u32], n: usize) -> io::Resu
 fn answer_rows(rt: &impl Print, s: &[u8], rows: &[u32], n: usize) -> io::Result<()> {
     print_services(rt, s, rows, n)?;
     match test_services(s, rows, n) {
-        Counted::Services(k) => {
+        Ok(k) => {
             say(rt, b"services ")?;
             say_number(rt, k)?;
             say(rt, b"\n")
         }
-        Counted::Refused(refusal) => say_refusal(
-            rt,
-            refusal.number,
-            refusal.position,
-            refusal.part,
-        ),
+        Err(refusal) => say_refusal(rt, refusal.number, refusal.position, refusal.part),
     }
 }
 
 fn answer_interchange(rt: &impl Print, s: &[u8]) -> io::Result<()> {
     let mut rows = [0u32; 45000];
     match read(s, true, &mut rows) {
-        Reading::Rows(n) => answer_rows(rt, s, &rows, n),
-        Reading::Refused(refusal) => say_refusal(
-            rt,
-            refusal.number,
-            refusal.position,
-            refusal.part,
-        ),
+        Ok(n) => answer_rows(rt, s, &rows, n),
+        Err(refusal) => say_refusal(rt, refusal.number, refusal.position, refusal.part),
     }
 }
 
 fn answer_all(rt: &impl Print, text: &[u8]) -> io::Result<()> {
-    let mut at = 0;
-    while at < text.len() {
-        answer_interchange(rt, piece_at(text, at, b'\n'))?;
-        at = past(text, at, b'\n');
+    for line in text.split_inclusive(|&b| b == b'\n') {
+        answer_interchange(rt, line.strip_suffix(b"\n").unwrap_or(line))?;
     }
     Ok(())
 }

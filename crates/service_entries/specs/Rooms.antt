@@ -1,7 +1,7 @@
 -- What the code finds in a room of good records and makes of it is what is said of the records.
 -- Assumes nothing.
 use Prim.Native.Nat.{ℕ, zero, suc, ◌+◌, ◌-◌, ◌*◌, ◌≤◌, ◌<◌}
-use Rattle.std.specs.Prelude.{◌≡◌, Bool, not, replicate}
+use Rattle.std.specs.Prelude.{◌≡◌, ℕ, Bool, not, replicate, Result, Ok, Err, Some}
 use Rattle.std.proofs.Math.Path.{refl, ap, subst}
 use Rattle.std.proofs.Common.{sym, ◌∙◌, arith, lit≤, take-append-drop, take_at, take_all, take-take, take-add}
 use Rattle.std.proofs.Math.Bool.{true, false}
@@ -17,8 +17,6 @@ use Rattle.laws.specs.Choice.{all}
 use Rattle.laws.specs.Put.{put_at, put_room, put_front}
 use Rattle.laws.specs.Filled.{filled_up}
 use Rattle.gaps.specs.Move.{closed_in, inserted_in}
-use Rattle.slots.specs.declared.Found.{Found}
-use Rattle.slots.specs.declared.Found.TheVariants.{At, Gap}
 use Rattle.slots.specs.Find.{find_of, Within}
 use Rattle.contents.specs.Contents.{Pending, nothing, put, removal, Record, good_number, is_calendar, good_record, good_account}
 use Rattle.contents.specs.Written.{live_bytes, pending_bytes, slot_of, room_bytes}
@@ -184,7 +182,7 @@ module _ (quota : ℕ) (rs : List Record) (g : good_account quota rs ≡ true) w
     byte : (j : ℕ) → j < 140 → get_or room (k * 140 + j) 0 ≡ get_or (slot_of r) j 0
     byte j h = slot_byte quota rs k r records fits e j h
 
-    known_there : known_at room (k * 140) ≡ known_of (some r)
+    known_there : Some (known_at room (k * 140)) ≡ known_of (some r)
     unfolding known_at known_of
     known_there = rw (byte 10 (lit≤ tt), byte 75 (lit≤ tt), live_flag r good_at, removal_flag r good_at)
 
@@ -213,24 +211,24 @@ module _ (quota : ℕ) (rs : List Record) (g : good_account quota rs ≡ true) w
     put_there x c n h = pending_there (put c) (put_good x c n h (some r) good_at) (ap suc (calendar_length c h))
 
   -- by the place that is found
-  known_by_lem : (p : Found) → Within (length rs) p → known_by room p ≡ known_of (found_in p rs)
+  known_by_lem : (p : Result ℕ ℕ) → Within (length rs) p → known_by room p ≡ known_of (found_in p rs)
   unfolding known_of
-  known_by_lem (Gap k) w = refl
-  known_by_lem (At k) w =
+  known_by_lem (Err k) w = refl
+  known_by_lem (Ok k) w =
       let t = record_there k rs w in
       rw t.1 (known_there k t.0 t.1)
 
-  remove_by_lem : (p : Found) → Within (length rs) p → remove_by room p ≡ room_bytes quota (changed_at p removed rs)
+  remove_by_lem : (p : Result ℕ ℕ) → Within (length rs) p → remove_by room p ≡ room_bytes quota (changed_at p removed rs)
   unfolding changed_at
-  remove_by_lem (Gap k) w = ap (room_bytes quota) (sym (take-append-drop k rs))
-  remove_by_lem (At k) w =
+  remove_by_lem (Err k) w = ap (room_bytes quota) (sym (take-append-drop k rs))
+  remove_by_lem (Ok k) w =
       let t = record_there k rs w in
       rw t.1 (removed_there k t.0 t.1 t.0.live refl)
 
-  put_by_lem : (x c : List ℕ) → good_number x ≡ true → is_calendar c ≡ true → (p : Found) → Within (length rs) p → length (changed_at p (put_over x c) rs) ≤ quota
+  put_by_lem : (x c : List ℕ) → good_number x ≡ true → is_calendar c ≡ true → (p : Result ℕ ℕ) → Within (length rs) p → length (changed_at p (put_over x c) rs) ≤ quota
       → put_by room (filled_up 10 x) (put_entry c) p ≡ room_bytes quota (changed_at p (put_over x c) rs)
   unfolding changed_at inserted_in
-  put_by_lem x c n h (Gap k) w l =
+  put_by_lem x c n h (Err k) w l =
       let new : Record = record { number = x; live = none; pending = put c } in
       let q : good_record new ≡ true = put_good x c n h none refl in
       let z = size in
@@ -240,7 +238,7 @@ module _ (quota : ℕ) (rs : List Record) (g : good_account quota rs ≡ true) w
       let m = length_slot new q in
       let s = new_slot_lem x c n h in
       rw (s, le-leb (k * 140 + length (slot_of new)) (length room) (omega arith)) (room_inserted quota rs records k new q (omega arith) w)
-  put_by_lem x c n h (At k) w l =
+  put_by_lem x c n h (Ok k) w l =
       let t = record_there k rs w in
       rw t.1 (put_there k t.0 t.1 x c n h)
 

@@ -1,20 +1,17 @@
 -- The ways through the code, a law for each; what a call answered has a name of its own.
 -- Assumes nothing.
-use Rattle.std.specs.Prelude.{ℕ, ◌+◌, ◌*◌, ◌/◌, ◌≤◌, ◌<◌, ◌≡◌, refl, Bool, true, false, not, List, [], ◌∷◌, map, eqb, length, get_or, set, replicate}
+use Rattle.std.specs.Prelude.{ℕ, ◌+◌, ◌*◌, ◌/◌, ◌≤◌, ◌<◌, ◌≡◌, refl, Bool, true, false, not, List, [], ◌∷◌, map, eqb, length, get_or, set, replicate, Result, Ok, Err, Option, Some, None}
 use Rattle.std.proofs.Math.Path.{sym, ap}
 use Rattle.std.proofs.Common.{subst, ◌∙◌, append-nil, arith, eq-eqb, ne_eqb, take_all}
 use Rattle.syntax.specs.Bytes.{plain}
 use Rattle.syntax.specs.Segment.{body_at}
 use Rattle.laws.specs.Put.{put_at, put_room}
 use Rattle.joining.specs.Joined.{days_joined, join_all}
-use Rattle.slots.specs.declared.Found.{Found}
-use Rattle.slots.specs.declared.Found.TheVariants.{At, Gap}
 use Rattle.slots.specs.Find.{find_of, Within, find_within}
 use Rattle.gaps.specs.Move.{closed_in, inserted_in}
 use Rattle.services.specs.declared.Service.{Service}
 use Rattle.services.specs.Services.{periods_of}
 use Rattle.service_entries.specs.declared.Known.{Known}
-use Rattle.service_entries.specs.declared.Known.TheVariants as known
 use Rattle.stages.specs.Stage.{number_in, days_of}
 use Rattle.service_entries.specs.Room.{number_bytes, known_at, known_by, held_at, look_at, removal_entry, new_slot, put_by, put_in, slot_removed, remove_by, remove_in, remove_bytes, put_bytes, removes_in, puts_in}
 
@@ -44,40 +41,40 @@ pub look_held : (room x y : List ℕ) → x ≡ number_bytes y → held_at room 
 unfolding look_at
 look_held room x y e = ap (held_at room) e
 
-pub known_is : (room : List ℕ) (at : ℕ) → known.Record (not (eqb (get_or room (at + 10) 0) 0)) (eqb (get_or room (at + 75) 0) 2) ≡ known_at room at
+pub known_is : (room : List ℕ) (at : ℕ) → record { live = not (eqb (get_or room (at + 10) 0) 0); removal_pending = eqb (get_or room (at + 75) 0) 2 } ≡ known_at room at
 unfolding known_at
 known_is room at = refl
 
-module _ (room x : List ℕ) (f : Found) (q : f ≡ find_of room x) where
-  pub found_fits : (k : ℕ) → f ≡ At k → k * 140 + 140 ≤ length room
+module _ (room x : List ℕ) (f : Result ℕ ℕ) (q : f ≡ find_of room x) where
+  pub found_fits : (k : ℕ) → f ≡ Ok k → k * 140 + 140 ≤ length room
   found_fits k e =
       let w : k < length room / 140 = subst (Within (length room / 140)) (sym q ∙ e) (find_within room x) in
       omega arith
 
-  pub gap_fits : (k : ℕ) → f ≡ Gap k → k * 140 ≤ length room
+  pub gap_fits : (k : ℕ) → f ≡ Err k → k * 140 ≤ length room
   gap_fits k e =
       let w : k ≤ length room / 140 = subst (Within (length room / 140)) (sym q ∙ e) (find_within room x) in
       omega arith
 
-  pub held_found : (k : ℕ) (r : Known) → f ≡ At k → r ≡ known_at room (k * 140) → r ≡ held_at room x
-  held_found k r e a = a ∙ sym (ap (known_by room) (sym q ∙ e))
+  pub held_found : (k : ℕ) (r : Known) → f ≡ Ok k → r ≡ known_at room (k * 140) → Some r ≡ held_at room x
+  held_found k r e a = ap Some a ∙ sym (ap (known_by room) (sym q ∙ e))
 
-  pub held_gap : (k : ℕ) → f ≡ Gap k → known.Nothing ≡ held_at room x
+  pub held_gap : (k : ℕ) → f ≡ Err k → None ≡ held_at room x
   held_gap k e = sym (ap (known_by room) (sym q ∙ e))
 
-  pub put_found : (k : ℕ) (entry last : List ℕ) → f ≡ At k → last ≡ put_at room (k * 140 + 75) entry → last ≡ put_in room x entry
+  pub put_found : (k : ℕ) (entry last : List ℕ) → f ≡ Ok k → last ≡ put_at room (k * 140 + 75) entry → last ≡ put_in room x entry
   unfolding put_in
   put_found k entry last e a = a ∙ sym (ap (put_by room x entry) (sym q ∙ e))
 
-  pub put_gap : (k : ℕ) (entry slot last : List ℕ) → f ≡ Gap k → slot ≡ new_slot x entry → last ≡ inserted_in room (k * 140) slot → last ≡ put_in room x entry
+  pub put_gap : (k : ℕ) (entry slot last : List ℕ) → f ≡ Err k → slot ≡ new_slot x entry → last ≡ inserted_in room (k * 140) slot → last ≡ put_in room x entry
   unfolding put_in
   put_gap k entry slot last e b a = a ∙ ap (inserted_in room (k * 140)) b ∙ sym (ap (put_by room x entry) (sym q ∙ e))
 
-  pub remove_found : (k : ℕ) (last : List ℕ) → f ≡ At k → last ≡ slot_removed room (k * 140) → last ≡ remove_in room x
+  pub remove_found : (k : ℕ) (last : List ℕ) → f ≡ Ok k → last ≡ slot_removed room (k * 140) → last ≡ remove_in room x
   unfolding remove_in
   remove_found k last e a = a ∙ sym (ap (remove_by room) (sym q ∙ e))
 
-  pub remove_gap : (k : ℕ) → f ≡ Gap k → room ≡ remove_in room x
+  pub remove_gap : (k : ℕ) → f ≡ Err k → room ≡ remove_in room x
   unfolding remove_in
   remove_gap k e = sym (ap (remove_by room) (sym q ∙ e))
 

@@ -5,7 +5,7 @@
 mod numbers;
 mod orders;
 
-ghost use Rattle.std.specs.Prelude.{◌≡◌, ◌∷◌, map, ◌+◌, ◌≤◌, min, max, length};
+ghost use Rattle.std.specs.Prelude.{◌≡◌, ◌∷◌, map, ◌+◌, ◌≤◌, min, length};
 ghost use Rattle.syntax.specs.Segment.{body_at};
 ghost use Rattle.joining.specs.Joined.{join_all};
 ghost use Rattle.gaps.specs.Move.{inserted_in};
@@ -17,7 +17,7 @@ ghost use Rattle.service_entries.specs.Front.{Ends};
 use joining::join_at;
 pub use numbers::{Number, number_of, read_number};
 pub use orders::{put_order, put_orders};
-use services::{Found, FoundPeriod, Service, next_period, next_service};
+use services::{Periods, Service, Services};
 
 const SLOT: usize = 140;
 
@@ -26,12 +26,13 @@ const LIVE: usize = 10;
 
 const PENDING: usize = 75;
 
-/// What an account holds of a number.
+/// What is known of a record that an account holds.
 #[derive(Clone, Copy)]
-pub enum Known {
-    Nothing,
-    /// A record: whether it has a live calendar, and whether its removal is pending.
-    Record(bool, bool),
+pub struct Known {
+    /// Whether it has a live calendar.
+    pub live: bool,
+    /// Whether its removal is pending.
+    pub removal_pending: bool,
 }
 
 // The flags of the slot at an index.
@@ -39,16 +40,19 @@ fn known_at(room: &[u8], at: usize) -> Known
     requires { at + 140 ≤ length room.now }
     ensures { result ≡ known_at room.now at }
 {
-    Known::Record(room[at + LIVE] != 0, room[at + PENDING] == 2)
+    Known {
+        live: room[at + LIVE] != 0,
+        removal_pending: room[at + PENDING] == 2,
+    }
 }
 
-/// What a room holds of a number as it stands in a slot.
-pub fn held(room: &[u8], number: [u8; 10]) -> Known
+/// What a room holds of a number as it stands in a slot: its record, if there is one.
+pub fn held(room: &[u8], number: [u8; 10]) -> Option<Known>
     ensures { result ≡ held_at room.now number }
 {
     match slots::find(room, &number) {
-        slots::Found::At(k) => known_at(room, k * SLOT),
-        slots::Found::Gap(_) => Known::Nothing,
+        Ok(k) => Some(known_at(room, k * SLOT)),
+        Err(_) => None,
     }
 }
 
@@ -57,18 +61,11 @@ pub fn days_of(first: usize, s: &[u8], rows: &[u32], from: usize, to: usize, wis
     ensures { result ≡ days_of wish first s.now (periods_from rows.now from to) }
 {
     let mut days = [0u8; 64];
-    let mut i = from;
-    loop {
-        match next_period(rows, i, to) {
-            FoundPeriod::Pop(k, at) => {
-                join_at(&mut days, first, s, at, wish);
-                i = k + 1;
-            }
-            FoundPeriod::NoMore => {
-                return days;
-            }
-        }
+    for at in Periods::among(rows, from, to) {
+        // A POP that is refused leaves the days as they are.
+        let _ = join_at(&mut days, first, s, at, wish);
     }
+    days
 }
 
 // A pending entry: its flag, and its calendar.
@@ -102,16 +99,6 @@ pub(crate) fn end_of(room: &[u8]) -> usize
     room.len()
 }
 
-// The later of two places.
-fn later(a: usize, b: usize) -> usize
-    ensures { result ≡ max a b }
-{
-    if a < b {
-        return b;
-    }
-    a
-}
-
 // Where a slot more ends, or the room.
 fn slot_more(end: usize, len: usize) -> usize
     requires { end ≤ len }
@@ -130,7 +117,7 @@ fn insert_slot(room: &mut [u8], at: usize, slot: [u8; 140], end: usize) -> usize
     ensures left { room.new ≡ inserted_in room.old at slot }
     ensures zeros { Ends room.new result }
 {
-    let top = slot_more(later(at, end), room.len());
+    let top = slot_more(at.max(end), room.len());
     gaps::insert(&mut room[..top], at, &slot);
     top
 }
@@ -142,12 +129,12 @@ pub(crate) fn put_service(room: &mut [u8], number: [u8; 10], entry: [u8; 65], en
     ensures zeros { Ends room.new result }
 {
     match slots::find(room, &number) {
-        slots::Found::At(k) => {
+        Ok(k) => {
             let at = k * SLOT;
             raw_bytes::put_bytes(room, at + PENDING, &entry);
-            later(end, at + SLOT)
+            end.max(at + SLOT)
         }
-        slots::Found::Gap(k) => {
+        Err(k) => {
             let slot = new_slot(number, entry);
             insert_slot(room, k * SLOT, slot, end)
         }
@@ -172,10 +159,10 @@ fn remove_service(room: &mut [u8], number: [u8; 10])
     ensures { room.new ≡ remove_in room.old number }
 {
     match slots::find(room, &number) {
-        slots::Found::At(k) => {
+        Ok(k) => {
             remove_at(room, k * SLOT);
         }
-        slots::Found::Gap(_) => {}
+        Err(_) => {}
     }
 }
 
@@ -216,17 +203,8 @@ fn put_one(
 pub fn remove_all(room: &mut [u8], s: &[u8], rows: &[u32], n: usize)
     ensures { room.new ≡ removes_in s.now (services_of s.now rows.now n) room.old }
 {
-    let mut i = 0;
-    loop {
-        match next_service(s, rows, n, i) {
-            Found::At(service) => {
-                remove_one(room, s, service);
-                i = service.to;
-            }
-            Found::NoMore => {
-                return;
-            }
-        }
+    for service in Services::of(s, rows, n) {
+        remove_one(room, s, service);
     }
 }
 
@@ -235,16 +213,7 @@ pub fn put_all(room: &mut [u8], first: usize, s: &[u8], rows: &[u32], n: usize)
     ensures { room.new ≡ puts_in first s.now rows.now (services_of s.now rows.now n) room.old }
 {
     let mut end = end_of(room);
-    let mut i = 0;
-    loop {
-        match next_service(s, rows, n, i) {
-            Found::At(service) => {
-                end = put_one(room, first, s, rows, service, end);
-                i = service.to;
-            }
-            Found::NoMore => {
-                return;
-            }
-        }
+    for service in Services::of(s, rows, n) {
+        end = put_one(room, first, s, rows, service, end);
     }
 }

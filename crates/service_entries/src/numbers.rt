@@ -32,10 +32,8 @@ fn ten_at(s: &[u8], from: usize, n: usize) -> [u8; 10]
     ensures { result ≡ number_bytes (take n (drop from s.now)) }
 {
     let mut ten = [0u8; 10];
-    let mut i = 0;
-    while i < 10 {
+    for i in 0..10 {
         ten[i] = kept(s[from + i], i < n);
-        i += 1;
     }
     ten
 }
@@ -52,10 +50,8 @@ fn is_quiet(number: &[u8]) -> bool
     ensures { result ≡ true → all (quiet 63) number.now ≡ true }
 {
     let mut count = 0;
-    let mut i = 0;
-    while i < number.len() {
-        count += released(number[i]);
-        i += 1;
+    for &b in number {
+        count += released(b);
     }
     count == 0
 }

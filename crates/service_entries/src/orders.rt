@@ -47,25 +47,15 @@ fn enter_order(room: &mut [u8], order: &[u8], end: usize) -> usize
     put_service(room, number, entry, end)
 }
 
-// How many of n orders a buffer holds.
-fn order_count(orders: &[u8], n: usize) -> usize
-    ensures { result ≡ min n (length orders.now / 75) }
-{
-    let room = orders.len() / ORDER;
-    if n < room { n } else { room }
-}
-
 /// All puts among the first n orders.
 pub fn put_orders(room: &mut [u8], orders: &[u8], n: usize)
     ensures { room.new ≡ put_orders orders.now 0 (min n (length orders.now / 75)) room.old }
 {
     let mut end = end_of(room);
-    let count = order_count(orders, n);
-    let mut k = 0;
-    while k < count {
+    let count = n.min(orders.len() / ORDER);
+    for k in 0..count {
         let at = ORDER * k;
         let to = at + ORDER;
         end = enter_order(room, &orders[at..to], end);
-        k += 1;
     }
 }

@@ -18,7 +18,7 @@ use Rattle.services.specs.declared.Service.{Service}
 use Rattle.services.specs.Rows.{offset_at, row_count}
 use Rattle.services.specs.Search.{none_holds}
 use Rattle.services.specs.Services.{is_service, service_number, says_number, is_same_service, is_twice, service_at, is_wrong, tested_of}
-use Rattle.services.specs.Ways.{Next}
+use Rattle.services.specs.Walks.{First}
 use Rattle.slots.specs.Words.{high_of, low_of}
 use Rattle.service_entries.specs.Room.{number_bytes}
 use Rattle.rooms.specs.Order.{same_told}
@@ -90,19 +90,19 @@ module _ (marks s rows : List ℕ) (i : ℕ) (w : Marked marks s rows i) where
           false≢true (sym q ∙ ap (λ (y : List ℕ). is_marked marks (mark_of y)) (sym e) ∙ w.seen j h t.0)
 
   -- up to the next service
-  pub marked_to : (m : ℕ) (v : Service) → Next s rows m i v → Marked marks s rows v.from
-  marked_to m v n = record { size = w.size; seen = seen_to }
+  pub marked_to : (n : ℕ) (v : Service) (rest : List Service) → First s rows n i v rest → Marked marks s rows v.from
+  marked_to n v rest f = record { size = w.size; seen = seen_to }
     where
       seen_to : (j : ℕ) → j < v.from → is_service rows j ≡ true → is_marked marks (mark_of (plain (bytes_of s (service_number s (offset_at rows j))))) ≡ true
       seen_to j h q =
           elim (dec_lt j i) [
             | yes a ↦ w.seen j a q
-            | no a ↦ absurd (false≢true (sym (n.before j (omega arith) h) ∙ q))
+            | no a ↦ absurd (false≢true (sym (f.before j (omega arith) h) ∙ q))
           ]
 
   -- one service more
-  pub marked_on : (m : ℕ) (v : Service) → Next s rows m i v → Marked (set marks (mark_of (number_in s v)) 1) s rows v.to
-  marked_on m v n = record { size = length-set marks (mark_of (number_in s v)) 1 ∙ w.size; seen = seen_there }
+  pub marked_on : (n : ℕ) (v : Service) (rest : List Service) → First s rows n i v rest → Marked (set marks (mark_of (number_in s v)) 1) s rows (v.from + 1)
+  marked_on n v rest f = record { size = length-set marks (mark_of (number_in s v)) 1 ∙ w.size; seen = seen_there }
     where
       below : mark_of (number_in s v) < length marks
       below =
@@ -110,20 +110,15 @@ module _ (marks s rows : List ℕ) (i : ℕ) (w : Marked marks s rows i) where
           let h = mark_below (number_bytes (number_in s v)) in
           omega arith
 
-      seen_there : (j : ℕ) → j < v.to → is_service rows j ≡ true → is_marked (set marks (mark_of (number_in s v)) 1) (mark_of (plain (bytes_of s (service_number s (offset_at rows j))))) ≡ true
+      seen_there : (j : ℕ) → j < v.from + 1 → is_service rows j ≡ true → is_marked (set marks (mark_of (number_in s v)) 1) (mark_of (plain (bytes_of s (service_number s (offset_at rows j))))) ≡ true
       seen_there j h q =
-          elim (dec_lt j i) [
-            | yes a ↦ marked_stays marks (mark_of (number_in s v)) (mark_of (plain (bytes_of s (service_number s (offset_at rows j))))) below (w.seen j a q)
-            | no a ↦ elim (dec_lt j v.from) [
-              | yes b ↦ absurd (false≢true (sym (n.before j (omega arith) b) ∙ q))
-              | no b ↦ elim (dec_lt v.from j) [
-                | yes d ↦ absurd (false≢true (sym (n.behind j d h) ∙ q))
-                | no d ↦
-                    let e : v.from ≡ j = omega arith in
-                    subst (λ (x : ℕ). is_marked (set marks (mark_of (number_in s v)) 1) (mark_of (plain (bytes_of s (service_number s (offset_at rows x))))) ≡ true) e
-                    (ap (λ (y : List ℕ). is_marked (set marks (mark_of (number_in s v)) 1) (mark_of y)) (sym (number_of_row s rows (row_count rows m) v.from v n.own)) ∙ marked_there marks (mark_of (number_in s v)) below)
-              ]
-            ]
+          elim (dec_lt j v.from) [
+            | yes b ↦
+                marked_stays marks (mark_of (number_in s v)) (mark_of (plain (bytes_of s (service_number s (offset_at rows j))))) below ((marked_to n v rest f).seen j b q)
+            | no b ↦
+                let e : v.from ≡ j = omega arith in
+                subst (λ (x : ℕ). is_marked (set marks (mark_of (number_in s v)) 1) (mark_of (plain (bytes_of s (service_number s (offset_at rows x))))) ≡ true) e
+                (ap (λ (y : List ℕ). is_marked (set marks (mark_of (number_in s v)) 1) (mark_of y)) (sym (number_of_row s rows n v.from v f.own)) ∙ marked_there marks (mark_of (number_in s v)) below)
           ]
 
 -- ---- 11 and 12 by the marks

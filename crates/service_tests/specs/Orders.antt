@@ -1,11 +1,10 @@
 -- The orders of services that are kept while they are tested, and that they put what the services put.
 -- Assumes nothing.
 use Prim.Native.Nat.{ℕ, suc, ◌+◌, ◌*◌, ◌≤◌, ◌<◌}
-use Rattle.std.specs.Prelude.{◌≡◌, Bool, true, false}
+use Rattle.std.specs.Prelude.{◌≡◌, Bool, true, false, Option, Result, Ok, Err}
 use Rattle.std.proofs.Math.Path.{refl, ap}
 use Rattle.std.proofs.Common.{sym, ◌∙◌}
 use mathlib.Core.List.{List, [], ◌∷◌, map}
-use Rattle.std.proofs.Math.Option.{none, some}
 use Rattle.answers.specs.declared.Refusal.{Refusal}
 use native.Mathlib.Omega.{arith}
 use Rattle.std.proofs.Math.ListN.{length}
@@ -14,10 +13,6 @@ use Rattle.answers.specs.Answers.{Answer, done, refused}
 use Rattle.answers.specs.Laws.{refused≢done, done_is}
 use Rattle.syntax.specs.Segment.{body_at}
 use Rattle.period.specs.Period.{period_of}
-use Rattle.period.specs.declared.Period.{Period}
-use Rattle.period.specs.declared.Period.TheVariants.{Good, Wrong}
-use Rattle.joining.specs.declared.Joined.{Joined}
-use Rattle.joining.specs.declared.Joined.TheVariants as joined
 use Rattle.joining.specs.Joined.{in_window, window_answer, window_answer_by, answered, days_joined, join_all}
 use Rattle.services.specs.declared.Service.{Service}
 use Rattle.service_entries.specs.declared.Known.{Known}
@@ -27,34 +22,38 @@ use Rattle.stages.specs.Stage.{outside_by}
 use Rattle.service_tests.specs.declared.Totals.{Totals}
 use Rattle.service_tests.specs.Tests.{test_one, then_test, test_all}
 use Rattle.service_tests.specs.Passed.{passed}
+use Rattle.period.specs.declared.Period.{Period}
+use Rattle.period.specs.declared.Fault.{Fault}
+use Rattle.joining.specs.declared.JoinError.{JoinError}
+use Rattle.joining.specs.declared.JoinError.TheVariants.{WrongPeriod, Outside}
 
 -- the orders of the services up to the first that is refused
 abbrev pub then_order : (Totals → List ℕ) → List ℕ → Answer Totals → List ℕ
 then_order more d (done t) = more t
 then_order more d (refused refusal) = d
 
-unfoldable pub orders_all : ℕ → List ℕ → List ℕ → (List ℕ → Known) → List Service → Totals → List ℕ → List ℕ
+unfoldable pub orders_all : ℕ → List ℕ → List ℕ → (List ℕ → Option Known) → List Service → Totals → List ℕ → List ℕ
 orders_all first s rows look [] t d = d
 orders_all first s rows look (v ∷ vs) t d =
     then_order (λ u. orders_all first s rows look vs u (ordered d t.services (order_of first s rows v))) d (test_one first s rows look v t)
 
 -- ---- joining tests too
 
-abbrev pub is_outside : Joined → Bool
-is_outside joined.Outside = true
-is_outside joined.Done = false
-is_outside (joined.WrongPeriod x) = false
+abbrev pub is_outside : Result (Unit {0}) JoinError → Bool
+is_outside (Err Outside) = true
+is_outside (Ok x) = false
+is_outside (Err (WrongPeriod x)) = false
 
-outside_by_lem : (first : ℕ) (p : Period) → is_outside (window_answer_by 64 first p) ≡ outside_by first p
+outside_by_lem : (first : ℕ) (p : Result Period Fault) → is_outside (window_answer_by 64 first p) ≡ outside_by first p
 unfolding window_answer
-outside_by_lem first (Wrong x) = refl
-outside_by_lem first (Good f n form) = choose (in_window 512 first f n) (λ q. rw q) (λ q. rw q)
+outside_by_lem first (Err x) = refl
+outside_by_lem first (Ok v) = choose (in_window 512 first v.days.first v.days.count) (λ q. rw q) (λ q. rw q)
 
-pub outside_told : (first : ℕ) (g : List ℕ) (m : ℕ) (r : Joined) → m ≡ 64 → r ≡ answered true m first g → is_outside r ≡ outside_by first (period_of true g)
+pub outside_told : (first : ℕ) (g : List ℕ) (m : ℕ) (r : Result (Unit {0}) JoinError) → m ≡ 64 → r ≡ answered true m first g → is_outside r ≡ outside_by first (period_of true g)
 unfolding answered
 outside_told first g m r l e = ap is_outside (e ∙ ap (λ (k : ℕ). window_answer_by k first (period_of true g)) l) ∙ outside_by_lem first (period_of true g)
 
-pub join_told : (first : ℕ) (g c last : List ℕ) (r : Joined) → length c ≡ 64 → (r ≡ answered true (length c) first g) × (last ≡ days_joined true c first g)
+pub join_told : (first : ℕ) (g c last : List ℕ) (r : Result (Unit {0}) JoinError) → length c ≡ 64 → (r ≡ answered true (length c) first g) × (last ≡ days_joined true c first g)
     → (is_outside r ≡ outside_by first (period_of true g)) × (last ≡ days_joined true c first g)
 join_told first g c last r l e = (outside_told first g (length c) r l e.0, e.1)
 
@@ -63,12 +62,9 @@ pub join_next : (first : ℕ) (s l c last : List ℕ) (at : ℕ) (rest : List �
 unfolding join_all
 join_next first s l c last at rest e b = rw (e, b)
 
-pub some≢none : {n : ℕ} → some n ≡ none → ⊥
-some≢none e = let z : ◌≡◌ {A = ℕ} 0 1 = cc in omega arith
-
 -- ---- the ways through the code
 
-module _ (first : ℕ) (s rows : List ℕ) (look : List ℕ → Known) (l : List Service) (t : Totals) (d : List ℕ) where
+module _ (first : ℕ) (s rows : List ℕ) (look : List ℕ → Option Known) (l : List Service) (t : Totals) (d : List ℕ) where
   pub orders_done : l ≡ [] → orders_all first s rows look l t d ≡ d
   unfolding orders_all
   orders_done e = rw e
@@ -85,7 +81,7 @@ module _ (first : ℕ) (s rows : List ℕ) (look : List ℕ → Known) (l : List
 
 -- ---- the orders put what the services put
 
-module _ (first : ℕ) (s rows : List ℕ) (look : List ℕ → Known) where
+module _ (first : ℕ) (s rows : List ℕ) (look : List ℕ → Option Known) where
   -- one that passes counts one more
   count_more : (v : Service) (t w : Totals) → test_one first s rows look v t ≡ done w → w.services ≡ t.services + 1
   count_more v t w e = ap (λ (x : Totals). x.services) (passed first s rows look v t w e).1

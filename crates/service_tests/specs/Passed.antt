@@ -1,10 +1,9 @@
 -- What services that pass their tests are.
 -- Assumes nothing.
-use Rattle.std.specs.Prelude.{ℕ, ◌≡◌, false, List, ◌∷◌}
+use Rattle.std.specs.Prelude.{ℕ, ◌≡◌, false, List, ◌∷◌, Option, Some, None}
 use Rattle.std.proofs.Math.Path.{refl}
 use Rattle.std.proofs.Common.{sym, ap, ◌∙◌}
 use Rattle.std.proofs.Math.Bool.{true}
-use Rattle.std.proofs.Math.Option.{Option, none, some}
 use Rattle.laws.specs.Choice.{both, choose}
 use Rattle.answers.specs.declared.Refusal.{Refusal}
 use Rattle.answers.specs.Answers.{Answer, done, refused}
@@ -22,19 +21,19 @@ pub refused_again : (A : Type 0) (B : Type 0) (x y : Refusal) → ◌≡◌ {A =
 refused_again A B x y q = ap refused (refused_is q)
 
 -- what a service that passes its tests is
-pub record Pass (first : ℕ) (s rows : List ℕ) (look : List ℕ → Known) (v : Service) : Type 0 where
+pub record Pass (first : ℕ) (s rows : List ℕ) (look : List ℕ → Option Known) (v : Service) : Type 0 where
   pub right : is_wrong s rows v ≡ false
   pub once : is_twice s rows (bytes_of s v.number) v.from ≡ false
-  pub inside : first_outside true first s (periods_of rows v) ≡ none
+  pub inside : first_outside true first s (periods_of rows v) ≡ None
   pub known : both v.removal (unknown_by (look (number_in s v))) ≡ false
 
-module _ (first : ℕ) (s rows : List ℕ) (look : List ℕ → Known) (v : Service) (t u : Totals) where
+module _ (first : ℕ) (s rows : List ℕ) (look : List ℕ → Option Known) (v : Service) (t u : Totals) where
   abbrev known : Answer Totals
   known = test_known v.removal v.prd (look (number_in s v)) t
 
-  inside_none : (o : Option ℕ) (y : Answer Totals) → test_inside o y ≡ done u → (o ≡ none) × (y ≡ done u)
-  inside_none none y q = (refl, q)
-  inside_none (some at) y q = absurd (refused≢done q)
+  inside_none : (o : Option ℕ) (y : Answer Totals) → test_inside o y ≡ done u → (o ≡ None) × (y ≡ done u)
+  inside_none None y q = (refl, q)
+  inside_none (Some at) y q = absurd (refused≢done q)
 
   known_done : known ≡ done u → (both v.removal (unknown_by (look (number_in s v))) ≡ false) × (u ≡ counted v.removal (look (number_in s v)) t)
   unfolding test_known
@@ -55,7 +54,7 @@ module _ (first : ℕ) (s rows : List ℕ) (look : List ℕ → Known) (v : Serv
       (record { right = p; once = r; inside = w.0; known = k.0 }, k.1)))
 
 -- the first passes, and the others are tested on from what it counts
-module _ (first : ℕ) (s rows : List ℕ) (look : List ℕ → Known) (v : Service) (vs : List Service) (t u : Totals) where
+module _ (first : ℕ) (s rows : List ℕ) (look : List ℕ → Option Known) (v : Service) (vs : List Service) (t u : Totals) where
   then_done : (x : Answer Totals) → test_one first s rows look v t ≡ x → then_test (test_all first s rows look vs) x ≡ done u
       → Pass first s rows look v × (test_all first s rows look vs (counted v.removal (look (number_in s v)) t) ≡ done u)
   then_done (done w) e q =

@@ -1,8 +1,8 @@
 -- The ways through the code, a law for each; what a call answered has a name of its own.
 -- Assumes nothing.
-use Rattle.std.specs.Prelude.{ℕ, ◌+◌, ◌-◌, ◌≤◌, ◌<◌, ◌≡◌, refl, Bool, true, false, not, List, [], ◌∷◌, ltb, length}
+use Rattle.std.specs.Prelude.{ℕ, ◌+◌, ◌-◌, ◌≤◌, ◌<◌, ◌≡◌, refl, Bool, true, false, not, List, [], ◌∷◌, ltb, length, set, replicate, Option, Some, None, Result}
+use mir.Val.{bool_byte}
 use Rattle.std.proofs.Common.{sym, ap, ◌∙◌, arith, le-leb, ltb-true, ltb-false}
-use Rattle.std.proofs.Math.Option.{Option, none, some}
 use Rattle.answers.specs.declared.Refusal.{Refusal}
 use Rattle.std.proofs.lemmas.Bool.{lt-leb}
 use Rattle.laws.specs.Choice.{both, both_true, either, either_true, choose}
@@ -11,24 +11,26 @@ use Rattle.answers.specs.Laws.{refused≢done}
 use Rattle.syntax.specs.Segment.{body_at}
 use Rattle.parts.specs.declared.Part.{Part}
 use Rattle.parts.specs.Places.{bytes_of, segment_of}
-use Rattle.period.specs.declared.Period.{Period}
 use Rattle.period.specs.Period.{period_of}
 use Rattle.joining.specs.Joined.{in_window}
 use Rattle.services.specs.declared.Service.{Service}
 use Rattle.parts.specs.Segments.{segment_body}
 use Rattle.services.specs.Rows.{offset_at, row_count, first_from}
 use Rattle.services.specs.Search.{list_none, list_some}
-use Rattle.services.specs.Services.{is_period_row, periods_from, periods_of, has_period, number_fits, periods_fit, is_wrong, is_twice, tested_of}
+use Rattle.services.specs.Walks.{First, first_is}
+use Rattle.services.specs.Services.{is_period_row, services_from, services_of, periods_from, periods_of, has_period, number_fits, periods_fit, is_wrong, is_twice, tested_of}
 use Rattle.service_tests.specs.declared.Totals.{Totals}
 use Rattle.service_entries.specs.declared.Known.{Known}
-use Rattle.service_entries.specs.declared.Known.TheVariants as known
 use Rattle.stages.specs.Stage.{number_in, outside_by, first_outside}
-use Rattle.service_tests.specs.Tests.{unknown_by, adds, drops, removals, test_known, test_inside, test_one, test_all}
+use Rattle.service_tests.specs.Tests.{unknown_by, adds, drops, removals, test_known, test_inside, test_one, test_all, no_totals, Counts}
+use Rattle.service_tests.specs.Marks.{mark_of, Marked, marked_start, marked_to, marked_on}
 use Rattle.service_tests.specs.Passed.{refused_again, passed}
+use Rattle.period.specs.declared.Period.{Period}
+use Rattle.period.specs.declared.Fault.{Fault}
 
 -- ---- periods and their window
 
-pub period_read : (wish : Bool) (s : List ℕ) (at : ℕ) (p : Part) (y z : Period) → p ≡ segment_of s at → y ≡ period_of wish (bytes_of s p) → y ≡ z → period_of wish (body_at s at) ≡ z
+pub period_read : (wish : Bool) (s : List ℕ) (at : ℕ) (p : Part) (y z : Result Period Fault) → p ≡ segment_of s at → y ≡ period_of wish (bytes_of s p) → y ≡ z → period_of wish (body_at s at) ≡ z
 period_read wish s at p y z a b e = sym (b ∙ ap (period_of wish) (segment_body s at p a)) ∙ e
 
 module _ (first from n : ℕ) where
@@ -46,12 +48,12 @@ module _ (first from n : ℕ) where
         (λ p. let l = ltb-false (512 - n) (from - first) p in rw (p, le-leb first from h, le-leb (from - first + n) 512 (omega arith)))
 
 module _ (wish : Bool) (first : ℕ) (s l : List ℕ) where
-  pub outside_none : l ≡ [] → none ≡ first_outside wish first s l
+  pub outside_none : l ≡ [] → None ≡ first_outside wish first s l
   unfolding first_outside
   outside_none e = rw e
 
   module _ (at : ℕ) (rest : List ℕ) (e : l ≡ at ∷ rest) where
-    pub outside_here : outside_by first (period_of wish (body_at s at)) ≡ true → some at ≡ first_outside wish first s l
+    pub outside_here : outside_by first (period_of wish (body_at s at)) ≡ true → Some at ≡ first_outside wish first s l
     unfolding first_outside
     outside_here q = rw (e, q)
 
@@ -109,8 +111,8 @@ wrong_is s rows v x n carries e a b = e ∙ rw (a, b)
 
 -- ---- the tests of a service
 
-module _ (removal : Bool) (prd : ℕ) (k : Known) (t : Totals) where
-  module _ (h : Known) (e : h ≡ k) (b : Bool) (q : b ≡ both removal (unknown_by h)) where
+module _ (removal : Bool) (prd : ℕ) (k : Option Known) (t : Totals) where
+  module _ (h : Option Known) (e : h ≡ k) (b : Bool) (q : b ≡ both removal (unknown_by h)) where
     pub known_refused : b ≡ true → refused (naming 14 prd) ≡ test_known removal prd k t
     unfolding test_known
     known_refused p = rw (← e, ← q, p)
@@ -120,34 +122,38 @@ module _ (removal : Bool) (prd : ℕ) (k : Known) (t : Totals) where
     unfolding test_known
     known_counted p a d m x y z = rw (← e, ← q, p, x, y, z)
 
+pub removals_is : (removal : Bool) → bool_byte removal ≡ removals removal
+removals_is true = refl
+removals_is false = refl
+
 -- what a record that is held makes of the counts
-module _ (removal : Bool) (h : Known) where
+module _ (removal : Bool) (h : Option Known) where
   pub adds_removal : removal ≡ true → 0 ≡ adds removal h
   adds_removal q = rw q
 
-  pub adds_put : h ≡ known.Nothing → removal ≡ false → 1 ≡ adds removal h
+  pub adds_put : h ≡ None → removal ≡ false → 1 ≡ adds removal h
   adds_put e q = rw (e, q)
 
-  pub adds_record : (l p : Bool) → h ≡ known.Record l p → 0 ≡ adds removal h
-  adds_record l p e = rw e (choose removal (λ q. rw q) (λ q. rw q))
+  pub adds_record : (r : Known) → h ≡ Some r → 0 ≡ adds removal h
+  adds_record r e = rw e (choose removal (λ q. rw q) (λ q. rw q))
 
-  pub drops_nothing : h ≡ known.Nothing → 0 ≡ drops removal h
+  pub drops_nothing : h ≡ None → 0 ≡ drops removal h
   drops_nothing e = rw e (choose removal (λ q. rw q) (λ q. rw q))
 
-  pub drops_live : (l p : Bool) → h ≡ known.Record l p → l ≡ true → 0 ≡ drops removal h
-  drops_live l p e q = rw (e, q) (choose removal (λ r. rw r) (λ r. rw r))
+  pub drops_live : (r : Known) → h ≡ Some r → r.live ≡ true → 0 ≡ drops removal h
+  drops_live r e q = rw (e, q) (choose removal (λ p. rw p) (λ p. rw p))
 
   pub drops_put : removal ≡ false → 0 ≡ drops removal h
   drops_put q = rw q
 
-  pub drops_removal : (l p : Bool) → h ≡ known.Record l p → l ≡ false → removal ≡ true → 1 ≡ drops removal h
-  drops_removal l p e q r = rw (e, q, r)
+  pub drops_removal : (r : Known) → h ≡ Some r → r.live ≡ false → removal ≡ true → 1 ≡ drops removal h
+  drops_removal r e q p = rw (e, q, p)
 
-  pub unknown_nothing : h ≡ known.Nothing → removal ≡ both removal (unknown_by h)
+  pub unknown_nothing : h ≡ None → removal ≡ both removal (unknown_by h)
   unknown_nothing e = rw e (sym (both_true removal))
 
-  pub unknown_record : (l p : Bool) → h ≡ known.Record l p → removal ≡ true → p ≡ both removal (unknown_by h)
-  unknown_record l p e q = rw (e, q)
+  pub unknown_record : (r : Known) → h ≡ Some r → removal ≡ true → r.removal_pending ≡ both removal (unknown_by h)
+  unknown_record r e q = rw (e, q)
 
   pub unknown_put : removal ≡ false → false ≡ both removal (unknown_by h)
   unknown_put q = rw q
@@ -160,7 +166,7 @@ module _ (s rows : List ℕ) (v : Service) where
       choose (is_wrong s rows v) (λ p. absurd (refused≢done (rw p at q)))
       (λ p. choose (is_twice s rows (bytes_of s v.number) v.from) (λ r. absurd (refused≢done (rw (p, r) at q))) (λ r. (p, r)))
 
-  module _ (first : ℕ) (look : List ℕ → Known) (t : Totals) where
+  module _ (first : ℕ) (look : List ℕ → Option Known) (t : Totals) where
     pub one_refused : (x : Refusal) → refused x ≡ tested_of s rows v → refused x ≡ test_one first s rows look v t
     unfolding tested_of test_one
     one_refused x q =
@@ -178,22 +184,21 @@ module _ (s rows : List ℕ) (v : Service) where
           let k = tested_good (sym g) in
           rw (k.0, k.1, o)
 
-adds_few : (removal : Bool) (k : Known) → adds removal k ≤ 1
+adds_few : (removal : Bool) (k : Option Known) → adds removal k ≤ 1
 adds_few true k = omega arith
-adds_few false known.Nothing = omega arith
-adds_few false (known.Record live removal) = omega arith
+adds_few false None = omega arith
+adds_few false (Some r) = omega arith
 
-drops_few : (removal : Bool) (k : Known) → drops removal k ≤ 1
+drops_few : (removal : Bool) (k : Option Known) → drops removal k ≤ 1
 drops_few false k = omega arith
-drops_few true known.Nothing = omega arith
-drops_few true (known.Record true removal) = omega arith
-drops_few true (known.Record false removal) = omega arith
+drops_few true None = omega arith
+drops_few true (Some r) = choose r.live (λ q. rw q (omega arith)) (λ q. rw q (omega arith))
 
 removals_few : (removal : Bool) → removals removal ≤ 1
 removals_few true = omega arith
 removals_few false = omega arith
 
-module _ (first : ℕ) (s rows : List ℕ) (look : List ℕ → Known) where
+module _ (first : ℕ) (s rows : List ℕ) (look : List ℕ → Option Known) where
   -- a service more is counted, and at most one record more
   pub one_more : (v : Service) (t u : Totals) → done u ≡ test_one first s rows look v t
       → (u.services ≡ t.services + 1) × (u.added ≤ t.added + 1) × (u.dropped ≤ t.dropped + 1) × (u.removals ≤ t.removals + 1)
@@ -221,3 +226,53 @@ module _ (first : ℕ) (s rows : List ℕ) (look : List ℕ → Known) where
       pub all_stop : (x : Refusal) → refused x ≡ test_one first s rows look v t → refused x ≡ test_all first s rows look l t
       unfolding test_all
       all_stop x q = rw (e, ← q)
+
+-- ---- the services passed so far: from some row on are those that are left, the marks of the others are set, and no more of them are counted
+
+pub record Walked (marks s rows : List ℕ) (n : ℕ) (left : List Service) (t : Totals) : Type 0 where
+  pub row : ℕ
+  pub onward : left ≡ services_from s rows n row
+  pub marked : Marked marks s rows row
+  pub services : t.services ≤ row
+  pub added : t.added ≤ row
+  pub dropped : t.dropped ≤ row
+  pub removals : t.removals ≤ row
+
+pub walked_start : (s rows : List ℕ) (m : ℕ) → Walked (replicate 16384 0) s rows (row_count rows m) (services_of s rows m) no_totals
+walked_start s rows m =
+    record { row = 0; onward = refl; marked = marked_start s rows; services = omega arith; added = omega arith; dropped = omega arith; removals = omega arith }
+
+module _ (marks s rows : List ℕ) (n : ℕ) (left : List Service) (t : Totals) (w : Walked marks s rows n left t) (v : Service) (rest : List Service) (e : left ≡ v ∷ rest) where
+  next : First s rows n w.row v rest
+  next = first_is s rows n w.row v rest (sym w.onward ∙ e)
+
+  pub walked_to : Marked marks s rows v.from
+  walked_to = marked_to marks s rows w.row w.marked n v rest next
+
+  pub walked_counts : n < 18446744073709551616 → Counts t
+  walked_counts h =
+      let a = next.further in
+      let b = next.inside in
+      let c = w.services in
+      let d = w.added in
+      let f = w.dropped in
+      let g = w.removals in
+      record { services = omega arith; added = omega arith; dropped = omega arith; removals = omega arith }
+
+  pub walked_on : (first : ℕ) (look : List ℕ → Option Known) (u : Totals) → done u ≡ test_one first s rows look v t → Walked (set marks (mark_of (number_in s v)) 1) s rows n rest u
+  walked_on first look u q =
+      let m = one_more first s rows look v t u q in
+      let a = next.further in
+      let c = w.services in
+      let d = w.added in
+      let f = w.dropped in
+      let g = w.removals in
+      record {
+        row = v.from + 1;
+        onward = next.others;
+        marked = marked_on marks s rows w.row w.marked n v rest next;
+        services = omega arith;
+        added = omega arith;
+        dropped = omega arith;
+        removals = omega arith;
+      }

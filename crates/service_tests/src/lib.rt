@@ -4,31 +4,30 @@
 
 mod numbers;
 
-ghost use Rattle.std.specs.Prelude.{◌≡◌, true, not, map, ◌≤◌, ◌<◌, length, set};
-ghost use Rattle.std.proofs.Math.Option.{none};
+ghost use Rattle.std.specs.Prelude.{◌≡◌, true, not, map, ◌≤◌, length, set, None};
 ghost use Rattle.laws.specs.Choice.{both};
 ghost use Rattle.syntax.specs.Segment.{body_at};
 ghost use Rattle.period.specs.Period.{period_of};
 ghost use Rattle.joining.specs.Joined.{in_window, days_joined, join_all};
-ghost use Rattle.answers.specs.Answers.{refused, naming};
 ghost use Rattle.services.specs.Services as services;
 ghost use Rattle.services.specs.Services.{number_fits, periods_fit, periods_from, has_period, services_of};
 ghost use Rattle.stages.specs.Stage.{number_in, outside_by, first_outside, days_of};
-ghost use Rattle.service_tests.specs.Tests.{window_found, totals_answer, unknown_by, adds, drops, removals, test_known, test_inside, test_all, no_totals};
+ghost use Rattle.service_tests.specs.Tests.{totals_answer, unknown_by, adds, drops, removals, test_known, test_inside, test_all, no_totals, Counts};
 ghost use Rattle.service_tests.specs.Marks.{mark_of, Marked};
 ghost use Rattle.service_tests.specs.Orders.{orders_all};
 ghost use Rattle.service_entries.specs.Room.{number_bytes, held_at, look_at};
 
 use crate::numbers::{mark_of, set_mark};
-use answers::Refusal;
-use joining::{Joined, join_at};
+use answers::{Reason, Refusal};
+use calendar::Span;
+use joining::{JoinError, join_at};
 use parts::segment_at;
-use period::{Period, Pop, pop_at, read_period};
+use period::{pop_at, read_period};
 use service_entries::{Known, Number, held, put_order, read_number};
-use services::{Found, FoundPeriod, Service, next_period, next_service, test_service};
+use services::{Periods, Service, Services, test_service};
 
 /// What the services of an interchange come to.
-#[derive(Clone, Copy)]
+#[derive(Clone, Copy, Default)]
 pub struct Totals {
     /// How many there are.
     pub services: usize,
@@ -40,32 +39,17 @@ pub struct Totals {
     pub removals: usize,
 }
 
-/// What the tests of the services come to.
-#[derive(Clone, Copy)]
-pub enum Tested {
-    Passed(Totals),
-    /// The first that is refused: 11, 12, 13 or 14.
-    Refused(Refusal),
-}
-
-/// Where the first period that is not wholly in the window stands.
-#[derive(Clone, Copy)]
-pub enum Window {
-    Inside,
-    Outside(usize),
-}
-
-// Whether n days from a day on are not wholly in the window.
-fn is_past(first: usize, from: usize, n: usize) -> bool
-    ensures { result ≡ not (in_window 512 first from n) }
+// Whether days are not wholly in the window.
+fn is_past(first: usize, days: Span) -> bool
+    ensures { result ≡ not (in_window 512 first days.first days.count) }
 {
-    if from < first {
+    if days.first < first {
         return true;
     }
-    if 512 < n {
+    if 512 < days.count {
         return true;
     }
-    512 - n < from - first
+    512 - days.count < days.first - first
 }
 
 // 13: whether the POP at an offset, whatever it says and wherever it ends, is not wholly in the window.
@@ -73,8 +57,8 @@ fn is_any_outside(first: usize, s: &[u8], at: usize, wish: bool) -> bool
     ensures { result ≡ outside_by first (period_of wish (body_at s.now at)) }
 {
     match read_period(s, segment_at(s, at), wish) {
-        Period::Wrong(_) => false,
-        Period::Good(from, n, _) => is_past(first, from, n),
+        Ok(period) => is_past(first, period.days),
+        Err(_) => false,
     }
 }
 
@@ -83,8 +67,8 @@ fn is_outside(first: usize, s: &[u8], at: usize, wish: bool) -> bool
     ensures { result ≡ outside_by first (period_of wish (body_at s.now at)) }
 {
     match pop_at(s, at, wish) {
-        Pop::Whole(_, from, n, _) => is_past(first, from, n),
-        Pop::Other => is_any_outside(first, s, at, wish),
+        Some(pop) => is_past(first, pop.period.days),
+        None => is_any_outside(first, s, at, wish),
     }
 }
 
@@ -96,29 +80,21 @@ pub fn test_window(
     from: usize,
     to: usize,
     wish: bool,
-) -> Window
-    ensures { window_found result ≡ first_outside wish first s.now (periods_from rows.now from to) }
+) -> Option<usize>
+    ensures { result ≡ first_outside wish first s.now (periods_from rows.now from to) }
 {
-    let mut i = from;
-    loop {
-        match next_period(rows, i, to) {
-            FoundPeriod::Pop(k, at) => {
-                if is_outside(first, s, at, wish) {
-                    return Window::Outside(at);
-                }
-                i = k + 1;
-            }
-            FoundPeriod::NoMore => {
-                return Window::Inside;
-            }
+    for at in Periods::among(rows, from, to) {
+        if is_outside(first, s, at, wish) {
+            return Some(at);
         }
     }
+    None
 }
 
 // What the POPs of a service come to: the first that is not wholly in the window, and whether there is any POP.
 #[derive(Clone, Copy)]
 struct Walk {
-    window: Window,
+    outside: Option<usize>,
     carries: bool,
 }
 
@@ -137,9 +113,9 @@ fn join_one(days: &mut [u8], first: usize, s: &[u8], at: usize) -> bool
     ensures left { days.new ≡ days_joined true days.old first (body_at s.now at) }
 {
     match join_at(days, first, s, at, true) {
-        Joined::Outside => true,
-        Joined::Done => false,
-        Joined::WrongPeriod(_) => false,
+        Err(JoinError::Outside) => true,
+        Ok(()) => false,
+        Err(JoinError::WrongPeriod(_)) => false,
     }
 }
 
@@ -153,110 +129,75 @@ fn join_window(
     to: usize,
 ) -> Walk
     requires { length days.old ≡ 64 }
-    ensures told { (window_found result.window ≡ first_outside true first s.now (periods_from rows.now from to)) × (result.carries ≡ has_period rows.now from to) }
-    ensures left { window_found result.window ≡ none → days.new ≡ join_all true days.old first (map (body_at s.now) (periods_from rows.now from to)) }
+    ensures told { (result.outside ≡ first_outside true first s.now (periods_from rows.now from to)) × (result.carries ≡ has_period rows.now from to) }
+    ensures left { result.outside ≡ None → days.new ≡ join_all true days.old first (map (body_at s.now) (periods_from rows.now from to)) }
 {
-    let mut i = from;
     let mut carries = false;
-    loop {
-        match next_period(rows, i, to) {
-            FoundPeriod::Pop(k, at) => {
-                if join_one(days, first, s, at) {
-                    return Walk {
-                        window: Window::Outside(at),
-                        carries: true,
-                    };
-                }
-                i = k + 1;
-                carries = true;
-            }
-            FoundPeriod::NoMore => {
-                return Walk {
-                    window: Window::Inside,
-                    carries,
-                };
-            }
+    for at in Periods::among(rows, from, to) {
+        carries = true;
+        if join_one(days, first, s, at) {
+            return Walk {
+                outside: Some(at),
+                carries,
+            };
         }
+    }
+    Walk {
+        outside: None,
+        carries,
     }
 }
 
 // The same into a calendar of its own.
 fn join_days(first: usize, s: &[u8], rows: &[u32], from: usize, to: usize) -> Days
-    ensures told { (window_found result.walk.window ≡ first_outside true first s.now (periods_from rows.now from to)) × (result.walk.carries ≡ has_period rows.now from to) }
-    ensures left { window_found result.walk.window ≡ none → result.days ≡ days_of true first s.now (periods_from rows.now from to) }
+    ensures told { (result.walk.outside ≡ first_outside true first s.now (periods_from rows.now from to)) × (result.walk.carries ≡ has_period rows.now from to) }
+    ensures left { result.walk.outside ≡ None → result.days ≡ days_of true first s.now (periods_from rows.now from to) }
 {
     let mut days = [0u8; 64];
     let walk = join_window(&mut days, first, s, rows, from, to);
     Days { walk, days }
 }
 
-// What a refusal is.
-fn refuse(number: u8, position: usize) -> Tested
-    ensures { totals_answer result ≡ refused (naming number position) }
-{
-    Tested::Refused(Refusal {
-        number,
-        position,
-        part: 0,
-    })
-}
-
 // How many records a service adds: a put of a number that has none.
-fn added_by(removal: bool, held: Known) -> usize
+fn added_by(removal: bool, held: Option<Known>) -> usize
     ensures { (result ≡ adds removal held) × (result ≤ 1) }
 {
-    match held {
-        Known::Nothing => { if removal { 0 } else { 1 } }
-        Known::Record(_, _) => 0,
-    }
+    usize::from(!removal && held.is_none())
 }
 
 // How many records a service drops: a removal of one that has nothing live.
-fn dropped_by(removal: bool, held: Known) -> usize
+fn dropped_by(removal: bool, held: Option<Known>) -> usize
     ensures { (result ≡ drops removal held) × (result ≤ 1) }
 {
-    match held {
-        Known::Nothing => 0,
-        Known::Record(live, _) => {
-            if live {
-                return 0;
-            }
-            if removal { 1 } else { 0 }
-        }
-    }
-}
-
-// How many removals a service is.
-fn removals_by(removal: bool) -> usize
-    ensures { (result ≡ removals removal) × (result ≤ 1) }
-{
-    if removal { 1 } else { 0 }
+    usize::from(removal && held.is_some_and(|known| !known.live))
 }
 
 // 14: whether a service removes a number of which an account holds no record, or whose removal is pending.
-fn is_unknown(removal: bool, held: Known) -> bool
+fn is_unknown(removal: bool, held: Option<Known>) -> bool
     ensures { result ≡ both removal (unknown_by held) }
 {
-    match held {
-        Known::Nothing => removal,
-        Known::Record(_, pending) => removal && pending,
-    }
+    removal && held.is_none_or(|known| known.removal_pending)
 }
 
 // Tests a service for 14, and counts it.
-fn test_known(room: &[u8], number: [u8; 10], service: Service, totals: Totals) -> Tested
-    requires { (totals.services < 18446744073709551615) × (totals.added < 18446744073709551615) × (totals.dropped < 18446744073709551615) × (totals.removals < 18446744073709551615) }
+fn test_known(
+    room: &[u8],
+    number: [u8; 10],
+    service: Service,
+    totals: Totals,
+) -> Result<Totals, Refusal>
+    requires { Counts totals }
     ensures { totals_answer result ≡ test_known service.removal service.prd (held_at room.now number) totals }
 {
     let known = held(room, number);
     if is_unknown(service.removal, known) {
-        return refuse(14, service.prd);
+        return Err(Reason::UnknownService.at(service.prd));
     }
-    Tested::Passed(Totals {
+    Ok(Totals {
         services: totals.services + 1,
         added: totals.added + added_by(service.removal, known),
         dropped: totals.dropped + dropped_by(service.removal, known),
-        removals: totals.removals + removals_by(service.removal),
+        removals: totals.removals + usize::from(service.removal),
     })
 }
 
@@ -285,7 +226,7 @@ fn test_number(
     service: Service,
     number: Number,
     carries: bool,
-) -> services::Tested
+) -> Result<(), Refusal>
     requires { Marked marks.old s.now rows.now service.from × ((number.bytes ≡ number_bytes (number_in s.now service)) × (number.length ≡ length (number_in s.now service))) × (carries ≡ has_period rows.now service.from service.to) }
     ensures told { services.tested_answer result ≡ services.tested_of s.now rows.now service }
     ensures left { marks.new ≡ set marks.old (mark_of (number_in s.now service)) 1 }
@@ -295,13 +236,9 @@ fn test_number(
         return test_service(s, rows, service);
     }
     if is_wrong(service.removal, number.length, carries) {
-        return services::Tested::Refused(Refusal {
-            number: 11,
-            position: service.prd,
-            part: 0,
-        });
+        return Err(Reason::WrongService.at(service.prd));
     }
-    services::Tested::Good
+    Ok(())
 }
 
 // Tests a service that passes 11 and 12 for 13 and 14, and counts it.
@@ -309,19 +246,20 @@ fn test_one(
     room: &[u8],
     number: [u8; 10],
     service: Service,
-    window: Window,
+    outside: Option<usize>,
     totals: Totals,
-) -> Tested
-    requires { (totals.services < 18446744073709551615) × (totals.added < 18446744073709551615) × (totals.dropped < 18446744073709551615) × (totals.removals < 18446744073709551615) }
-    ensures { totals_answer result ≡ test_inside (window_found window) (test_known service.removal service.prd (held_at room.now number) totals) }
+) -> Result<Totals, Refusal>
+    requires { Counts totals }
+    ensures { totals_answer result ≡ test_inside outside (test_known service.removal service.prd (held_at room.now number) totals) }
 {
-    match window {
-        Window::Inside => test_known(room, number, service, totals),
-        Window::Outside(at) => refuse(13, at),
+    if let Some(at) = outside {
+        return Err(Reason::OutsideWindow.at(at));
     }
+    test_known(room, number, service, totals)
 }
 
-/// Tests the services of n rows in order, all against the room as it stands, and keeps an order for each that passes.
+/// Tests the services of n rows in order, all against the room as it stands, and keeps an order for each that passes: what they come to, or the
+/// first refusal, 11, 12, 13 or 14.
 pub fn test_all(
     orders: &mut [u8],
     room: &[u8],
@@ -329,43 +267,26 @@ pub fn test_all(
     s: &[u8],
     rows: &[u32],
     n: usize,
-) -> Tested
+) -> Result<Totals, Refusal>
     ensures told { totals_answer result ≡ test_all first s.now rows.now (look_at room.now) (services_of s.now rows.now n) no_totals }
     ensures left { orders.new ≡ orders_all first s.now rows.now (look_at room.now) (services_of s.now rows.now n) no_totals orders.old }
 {
     let mut marks = [0u8; 16384];
-    let mut i = 0;
-    let mut totals = Totals {
-        services: 0,
-        added: 0,
-        dropped: 0,
-        removals: 0,
-    };
-    loop {
-        match next_service(s, rows, n, i) {
-            Found::At(service) => {
-                let part = service.number;
-                let number = read_number(s, part);
-                let joined = join_days(first, s, rows, service.from, service.to);
-                let walk = joined.walk;
-                match test_number(&mut marks, s, rows, service, number, walk.carries) {
-                    services::Tested::Good => {
-                        let bytes = number.bytes;
-                        let window = walk.window;
-                        let days = joined.days;
-                        match test_one(room, bytes, service, window, totals) {
-                            Tested::Passed(more) => {
-                                put_order(orders, totals.services, bytes, service.removal, days);
-                                i = service.to;
-                                totals = more;
-                            }
-                            Tested::Refused(refusal) => return Tested::Refused(refusal),
-                        }
-                    }
-                    services::Tested::Refused(refusal) => return Tested::Refused(refusal),
-                }
-            }
-            Found::NoMore => return Tested::Passed(totals),
-        }
+    let mut totals = Totals::default();
+    for service in Services::of(s, rows, n) {
+        let number = read_number(s, service.number);
+        let joined = join_days(first, s, rows, service.from, service.to);
+        let walk = joined.walk;
+        test_number(&mut marks, s, rows, service, number, walk.carries)?;
+        let more = test_one(room, number.bytes, service, walk.outside, totals)?;
+        put_order(
+            orders,
+            totals.services,
+            number.bytes,
+            service.removal,
+            joined.days,
+        );
+        totals = more;
     }
+    Ok(totals)
 }

@@ -1,9 +1,10 @@
 -- What callers cite of the services and of their tests.
 -- Assumes nothing.
-use Rattle.std.specs.Prelude.{ℕ, ◌≤◌, ◌<◌, ◌≡◌, refl, Bool, true, false, List, [], leb, length}
+use Rattle.std.specs.Prelude.{ℕ, ◌≤◌, ◌<◌, ◌≡◌, refl, Bool, true, false, List, [], leb, length, Result, Ok, Err}
 use Rattle.std.proofs.Common.{ap, ◌∙◌, arith}
 use borrow.Author.Tests.{leb-true, not-false, not-true}
 use Rattle.laws.specs.Choice.{both, both_parts, choose}
+use Rattle.answers.specs.declared.Refusal.{Refusal}
 use Rattle.answers.specs.Answers.{Answer, done, refused}
 use Rattle.answers.specs.Laws.{refused≢done, one_case}
 use Rattle.syntax.specs.Bytes.{plain}
@@ -12,10 +13,6 @@ use Rattle.syntax.specs.Segment.{body_at}
 use Rattle.parts.specs.Places.{bytes_of, segment_of}
 use Rattle.parts.specs.Located.{part_bytes}
 use Rattle.services.specs.declared.Service.{Service}
-use Rattle.services.specs.declared.Tested.{Tested}
-use Rattle.services.specs.declared.Tested.TheVariants.{Good, Refused}
-use Rattle.services.specs.declared.Counted.{Counted}
-use Rattle.services.specs.declared.Counted.TheVariants as counted
 use Rattle.services.specs.Rows.{row_count}
 use Rattle.services.specs.Search.{some_none}
 use Rattle.services.specs.Services.{service_number, number_fits, periods_fit, has_period, periods_of, is_wrong, is_same_service, is_twice, tested_of, tested_answer, counted_answer}
@@ -69,24 +66,24 @@ module _ (s rows : List ℕ) (v : Service) where
       (λ q. right_fine p q))
 
 -- what the tests answer fixes their case
-abbrev tested_case : Answer (Unit {0}) → Tested
-tested_case (done _) = Good
-tested_case (refused refusal) = Refused refusal
+abbrev tested_case : Answer (Unit {0}) → Result (Unit {0}) Refusal
+tested_case (done u) = Ok u
+tested_case (refused refusal) = Err refusal
 
-tested_back : (x : Tested) → tested_case (tested_answer x) ≡ x
-tested_back Good = refl
-tested_back (Refused x) = refl
+tested_back : (x : Result (Unit {0}) Refusal) → tested_case (tested_answer x) ≡ x
+tested_back (Ok u) = refl
+tested_back (Err x) = refl
 
-pub tested_same : (x y : Tested) → tested_answer x ≡ tested_answer y → x ≡ y
+pub tested_same : (x y : Result (Unit {0}) Refusal) → tested_answer x ≡ tested_answer y → x ≡ y
 tested_same = one_case tested_answer tested_case tested_back
 
-abbrev counted_case : Answer ℕ → Counted
-counted_case (done n) = counted.Services n
-counted_case (refused refusal) = counted.Refused refusal
+abbrev counted_case : Answer ℕ → Result ℕ Refusal
+counted_case (done n) = Ok n
+counted_case (refused refusal) = Err refusal
 
-counted_back : (x : Counted) → counted_case (counted_answer x) ≡ x
-counted_back (counted.Services n) = refl
-counted_back (counted.Refused x) = refl
+counted_back : (x : Result ℕ Refusal) → counted_case (counted_answer x) ≡ x
+counted_back (Ok n) = refl
+counted_back (Err x) = refl
 
-pub counted_same : (x y : Counted) → counted_answer x ≡ counted_answer y → x ≡ y
+pub counted_same : (x y : Result ℕ Refusal) → counted_answer x ≡ counted_answer y → x ≡ y
 counted_same = one_case counted_answer counted_case counted_back

@@ -7,3 +7,4 @@ pub mod Ways
 pub mod Laws
 pub mod Tables
 pub mod Numbers
+pub mod Walks

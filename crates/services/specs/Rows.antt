@@ -1,6 +1,6 @@
 -- Rows in a buffer, as the reader writes them: three numbers each, offset, group and tag.
 -- Assumes nothing.
-use Rattle.std.specs.Prelude.{ℕ, zero, suc, ◌+◌, ◌-◌, ◌*◌, ◌/◌, min, Bool, true, false, List, [], ◌∷◌, eqb, ltb, length, get_or}
+use Rattle.std.specs.Prelude.{ℕ, zero, suc, ◌+◌, ◌-◌, ◌*◌, ◌/◌, min, Bool, true, false, List, [], ◌∷◌, eqb, ltb, length, get_or, Option, Some, None}
 use Rattle.laws.specs.Choice.{pick, both}
 
 -- the offset of row i, or 0 where the buffer does not hold the row
@@ -23,6 +23,10 @@ first_in f (suc k) i = pick (f i) i (first_in f k (i + 1))
 -- the first number from i on and below n of which a test holds; where it holds of none, n, or i where i is not below n
 abbrev pub first_from : (ℕ → Bool) → ℕ → ℕ → ℕ
 first_from f i n = first_in f (n - i) i
+
+-- the same, or none where it holds of none
+abbrev pub found_from : (ℕ → Bool) → ℕ → ℕ → Option ℕ
+found_from f i n = pick (ltb (first_from f i n) n) (Some (first_from f i n)) None
 
 -- whether it holds of any
 abbrev pub some_from : (ℕ → Bool) → ℕ → ℕ → Bool

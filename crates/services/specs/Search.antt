@@ -1,14 +1,15 @@
 -- Laws of rows, of searches among them and of lists of them.
 -- Assumes nothing.
 use Prim.Native.Nat.{ℕ, zero, suc, ◌+◌, ◌-◌, ◌*◌, ◌/◌, ◌≤◌, ◌<◌}
-use Rattle.std.specs.Prelude.{◌≡◌, Bool, true, false, List, [], ◌∷◌, eqb, length, get_or}
+use Rattle.std.specs.Prelude.{◌≡◌, Bool, true, false, List, [], ◌∷◌, eqb, ltb, length, get_or, Option, Some, None, is_some}
 use Rattle.std.proofs.Math.Path.{refl, ap}
 use Rattle.std.proofs.Common.{sym, subst, ◌∙◌}
 use native.Mathlib.Omega.{arith}
 use Rattle.std.proofs.Math.Decide.{dec_lt}
 use borrow.Author.Tests.{eq-eqb, ne_eqb, lt-ltb, le-ltb, ltb-true, ltb-false}
+use Rattle.std.proofs.lemmas.Option.{none-some, same_Some}
 use Rattle.laws.specs.Choice.{pick, either, both_false, both_true, choose, false≢true}
-use Rattle.services.specs.Rows.{offset_at, is_row, first_in, first_from, some_from, list_of, list_from}
+use Rattle.services.specs.Rows.{offset_at, is_row, first_in, first_from, found_from, some_from, list_of, list_from}
 
 pub offset_some : (rows : List ℕ) (i : ℕ) → i < length rows / 3 → get_or rows (3 * i) 0 ≡ offset_at rows i
 unfolding offset_at
@@ -53,6 +54,32 @@ module _ (f : ℕ → Bool) (i n : ℕ) where
     first_on q =
         let e : n - i ≡ suc (n - (i + 1)) = omega arith in
         rw (e, q)
+
+-- what a search finds, or that it finds none
+module _ (f : ℕ → Bool) (i n : ℕ) where
+  pub found_there : first_from f i n < n → Some (first_from f i n) ≡ found_from f i n
+  found_there h = rw (lt-ltb (first_from f i n) n h)
+
+  pub found_nowhere : n ≤ first_from f i n → None ≡ found_from f i n
+  found_nowhere h = rw (le-ltb (first_from f i n) n h)
+
+  pub found_some : (r : Option ℕ) → r ≡ found_from f i n → is_some r ≡ ltb (first_from f i n) n
+  found_some r e = rw e (choose (ltb (first_from f i n) n) (λ l. rw l) (λ l. rw l))
+
+  pub found_row : (r : Option ℕ) → r ≡ found_from f i n → (k : ℕ) → r ≡ Some k → (k ≡ first_from f i n) × (k < n)
+  found_row r e k q =
+      choose (ltb (first_from f i n) n)
+      (λ l.
+      let d = same_Some (first_from f i n) k (rw l at (sym e ∙ q)) in
+      let h = ltb-true (first_from f i n) n l in
+      (sym d, omega arith))
+      (λ l. absurd (none-some k (rw l at (sym e ∙ q))))
+
+  pub found_no_row : (r : Option ℕ) → r ≡ found_from f i n → r ≡ None → n ≤ first_from f i n
+  found_no_row r e q =
+      choose (ltb (first_from f i n) n)
+      (λ l. absurd (none-some (first_from f i n) (sym (rw l at (sym e ∙ q)))))
+      (λ l. ltb-false (first_from f i n) n l)
 
 -- a search ends at or behind its start, and at or before its end
 pub first_bounds : (f : ℕ → Bool) (k i : ℕ) → (i ≤ first_in f k i) × (first_in f k i ≤ i + k)

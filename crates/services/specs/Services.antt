@@ -1,9 +1,10 @@
 -- The services of an accepted interchange (document 01, "The register", Stage; "What each number means", 11 and 12).
 -- s is the interchange, rows the buffer with the rows of its reading.
 -- Assumes nothing.
-use Rattle.std.specs.Prelude.{ℕ, ◌+◌, Bool, not, List, [], ◌∷◌, ltb, leb, length}
+use Rattle.std.specs.Prelude.{ℕ, ◌+◌, Bool, not, List, [], ◌∷◌, ltb, leb, length, Option, Some, None, Result, Ok, Err}
 use Rattle.laws.specs.Choice.{pick, both}
 use Rattle.laws.specs.Text.{bytes}
+use Rattle.answers.specs.declared.Refusal.{Refusal}
 use Rattle.answers.specs.Answers.{Answer, done, refused, wrong_service, number_twice}
 use Rattle.syntax.specs.Bytes.{plain}
 use Rattle.syntax.specs.Segment.{body_at}
@@ -13,14 +14,7 @@ use Rattle.parts.specs.Places.{bytes_of, part_at, segment_of}
 use Rattle.values.specs.Values.{same_text}
 use Rattle.messages.specs.Tags.{PRD, MSD, POP, UIT}
 use Rattle.services.specs.declared.Service.{Service}
-use Rattle.services.specs.declared.Found.{Found}
-use Rattle.services.specs.declared.Found.TheVariants as found
-use Rattle.services.specs.declared.FoundPeriod.{FoundPeriod}
-use Rattle.services.specs.declared.FoundPeriod.TheVariants as period
-use Rattle.services.specs.declared.Tested.{Tested}
-use Rattle.services.specs.declared.Tested.TheVariants.{Good, Refused}
-use Rattle.services.specs.declared.Counted.{Counted}
-use Rattle.services.specs.declared.Counted.TheVariants as counted
+use Rattle.services.specs.declared.PopRow.{PopRow}
 use Rattle.services.specs.Rows.{offset_at, is_row, row_count, first_from, some_from, list_from}
 
 -- "the groups 2 of its SKDUPD messages are services": each begins with its PRD, and no PRD of a TSDUPD stands in group 2
@@ -62,17 +56,17 @@ service_at s rows n k =
     }
 
 -- the first service from row i on, of n rows
-abbrev pub service_found : List ℕ → List ℕ → ℕ → ℕ → Found
-service_found s rows n k = pick (ltb k n) (found.At (service_at s rows n k)) found.NoMore
+abbrev pub service_found : List ℕ → List ℕ → ℕ → ℕ → Option Service
+service_found s rows n k = pick (ltb k n) (Some (service_at s rows n k)) None
 
-unfoldable pub next_service : List ℕ → List ℕ → ℕ → ℕ → Found
+unfoldable pub next_service : List ℕ → List ℕ → ℕ → ℕ → Option Service
 next_service s rows n i = service_found s rows (row_count rows n) (first_from (is_service rows) i (row_count rows n))
 
 -- the first period from row i on, before row `to`: its row and its offset
-abbrev pub period_at : List ℕ → ℕ → ℕ → FoundPeriod
-period_at rows n k = pick (ltb k n) (period.Pop k (offset_at rows k)) period.NoMore
+abbrev pub period_at : List ℕ → ℕ → ℕ → Option PopRow
+period_at rows n k = pick (ltb k n) (Some (record { row = k; offset = offset_at rows k })) None
 
-unfoldable pub next_period : List ℕ → ℕ → ℕ → FoundPeriod
+unfoldable pub next_period : List ℕ → ℕ → ℕ → Option PopRow
 next_period rows i to = period_at rows (row_count rows to) (first_from (is_period_row rows) i (row_count rows to))
 
 -- the offsets of the periods from row i on, before row `to`: those of a service are from its first row on
@@ -138,10 +132,10 @@ unfoldable pub counted_of : List ℕ → List ℕ → ℕ → Answer ℕ
 counted_of s rows n = count_on s rows (services_of s rows n) 0
 
 -- what each case answers: nothing, or the number of services, where all is good; else the refusal
-abbrev pub tested_answer : Tested → Answer (Unit {0})
-tested_answer Good = done tt
-tested_answer (Refused x) = refused x
+abbrev pub tested_answer : Result (Unit {0}) Refusal → Answer (Unit {0})
+tested_answer (Ok _) = done tt
+tested_answer (Err x) = refused x
 
-abbrev pub counted_answer : Counted → Answer ℕ
-counted_answer (counted.Services k) = done k
-counted_answer (counted.Refused x) = refused x
+abbrev pub counted_answer : Result ℕ Refusal → Answer ℕ
+counted_answer (Ok k) = done k
+counted_answer (Err x) = refused x

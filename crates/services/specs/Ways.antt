@@ -1,10 +1,11 @@
 -- The ways through the code, a law for each; what a call answered has a name of its own.
 -- Assumes nothing.
-use Rattle.std.specs.Prelude.{ℕ, ◌+◌, ◌-◌, ◌/◌, ◌≤◌, ◌<◌, ◌≡◌, refl, Bool, true, false, not, ltb, length}
+use Rattle.std.specs.Prelude.{ℕ, ◌+◌, ◌-◌, ◌/◌, ◌≤◌, ◌<◌, ◌≡◌, refl, Bool, true, false, not, ltb, length, Some, None}
 use Rattle.std.proofs.Math.Path.{sym, ap, subst}
 use Rattle.std.proofs.Common.{◌∙◌, arith}
 use mathlib.Core.List.{List, [], ◌∷◌}
 use borrow.Author.Tests.{lt-ltb, le-ltb, ltb-true, ltb-false}
+use Rattle.std.proofs.lemmas.Option.{none-some, same_Some}
 use Rattle.laws.specs.Choice.{both_parts, choose}
 use Rattle.answers.specs.Answers.{done, refused, wrong_service, number_twice}
 use Rattle.answers.specs.declared.Refusal.{Refusal}
@@ -17,8 +18,7 @@ use Rattle.parts.specs.Segments.{segment_bytes}
 use Rattle.values.specs.Values.{same_text}
 use Rattle.messages.specs.Tags.{MSD, POP, UIT}
 use Rattle.services.specs.declared.Service.{Service}
-use Rattle.services.specs.declared.Found.TheVariants as found
-use Rattle.services.specs.declared.FoundPeriod.TheVariants as period
+use Rattle.services.specs.declared.PopRow.{PopRow}
 use Rattle.services.specs.Rows.{offset_at, is_row, row_count, first_from}
 use Rattle.services.specs.Search.{row_other, first_past, first_here, first_on, first_bounds, first_skips, first_through, some_holds, list_none, list_some, list_skip}
 use Rattle.services.specs.Inner.{key_of, key_other, Passes, passes_first}
@@ -48,11 +48,11 @@ number_says s at number p t x a b e = e ∙ ap (λ (y : List ℕ). same_text (pl
 
 -- the first period
 module _ (rows : List ℕ) (i to n k : ℕ) (a : n ≡ row_count rows to) (b : k ≡ first_from (is_period_row rows) i n) where
-  pub period_none : n ≤ k → period.NoMore ≡ next_period rows i to
+  pub period_none : n ≤ k → None ≡ next_period rows i to
   unfolding next_period
   period_none h = rw (sym a, sym b, le-ltb k n h)
 
-  pub period_some : (o : ℕ) → o ≡ offset_at rows k → k < n → period.Pop k o ≡ next_period rows i to
+  pub period_some : (o : ℕ) → o ≡ offset_at rows k → k < n → Some (record { row = k; offset = o }) ≡ next_period rows i to
   unfolding next_period
   period_some o e h = rw (sym a, sym b, lt-ltb k n h, e)
 
@@ -78,11 +78,11 @@ service_is s rows n k own to prd number removal r d e f =
     rw (f ∙ reach_removes s rows (k + 1) n own to r, e, d, reach_end rows k n own to r)
 
 module _ (s rows : List ℕ) (i m n k : ℕ) (a : n ≡ row_count rows m) (b : k ≡ first_from (is_service rows) i n) where
-  pub next_none : n ≤ k → found.NoMore ≡ next_service s rows m i
+  pub next_none : n ≤ k → None ≡ next_service s rows m i
   unfolding next_service
   next_none h = rw (sym a, sym b, le-ltb k n h)
 
-  pub next_some : (v : Service) → v ≡ service_at s rows n k → k < n → found.At v ≡ next_service s rows m i
+  pub next_some : (v : Service) → v ≡ service_at s rows n k → k < n → Some v ≡ next_service s rows m i
   unfolding next_service
   next_some v e h = rw (sym a, sym b, lt-ltb k n h, e)
 
@@ -146,12 +146,6 @@ module _ (s rows : List ℕ) (v : Service) where
     unfolding tested_of
     tested_good q = rw (p, sym e, q)
 
-none≢at : (v : Service) → found.NoMore ≡ found.At v → ⊥
-none≢at v q = let z : ◌≡◌ {A = ℕ} 0 1 = cc in omega arith
-
-at_is : (u v : Service) → found.At u ≡ found.At v → u ≡ v
-at_is u v q = cc
-
 -- what the next service tells of those that are left
 pub record Next (s rows : List ℕ) (m i : ℕ) (v : Service) : Type 0 where
   pub rest : services_from s rows (row_count rows m) i ≡ v ∷ services_from s rows (row_count rows m) v.to
@@ -204,31 +198,25 @@ module _ (s rows : List ℕ) (m i : ℕ) where
         behind = λ j a b. service_alone rows all place h j a b;
       }
 
-  pub next_found : (v : Service) → next_service s rows m i ≡ found.At v → Next s rows m i v
+  pub next_found : (v : Service) → next_service s rows m i ≡ Some v → Next s rows m i v
   unfolding next_service
   next_found v q =
       choose (ltb place all)
-      (λ l. subst (Next s rows m i) (at_is (service_at s rows all place) v (rw l at q)) (next_there (ltb-true place all l)))
-      (λ l. absurd (none≢at v (rw l at q)))
+      (λ l. subst (Next s rows m i) (same_Some (service_at s rows all place) v (rw l at q)) (next_there (ltb-true place all l)))
+      (λ l. absurd (none-some v (rw l at q)))
 
-  pub next_gone : next_service s rows m i ≡ found.NoMore → services_from s rows all i ≡ []
+  pub next_gone : next_service s rows m i ≡ None → services_from s rows all i ≡ []
   unfolding next_service
   next_gone q =
       choose (ltb place all)
-      (λ l. absurd (none≢at (service_at s rows all place) (sym (rw l at q))))
+      (λ l. absurd (none-some (service_at s rows all place) (sym (rw l at q))))
       (λ l. list_none (is_service rows) (service_at s rows all) i all (ltb-false place all l))
 
 -- and the next period
-more≢pop : (k o : ℕ) → period.NoMore ≡ period.Pop k o → ⊥
-more≢pop k o q = let z : ◌≡◌ {A = ℕ} 0 1 = cc in omega arith
-
-pop_is : (k o j p : ℕ) → period.Pop k o ≡ period.Pop j p → (k ≡ j) × (o ≡ p)
-pop_is k o j p q = (cc, cc)
-
-pub record NextPeriod (rows : List ℕ) (to i k o : ℕ) : Type 0 where
-  pub rest : periods_from rows i to ≡ o ∷ periods_from rows (k + 1) to
-  pub further : i ≤ k
-  pub inside : k < row_count rows to
+pub record NextPeriod (rows : List ℕ) (to i : ℕ) (v : PopRow) : Type 0 where
+  pub rest : periods_from rows i to ≡ v.offset ∷ periods_from rows (v.row + 1) to
+  pub further : i ≤ v.row
+  pub inside : v.row < row_count rows to
 
 module _ (rows : List ℕ) (i to : ℕ) where
   abbrev end : ℕ
@@ -237,24 +225,25 @@ module _ (rows : List ℕ) (i to : ℕ) where
   abbrev pop : ℕ
   pop = first_from (is_period_row rows) i (row_count rows to)
 
-  pub period_found : (k o : ℕ) → next_period rows i to ≡ period.Pop k o → NextPeriod rows to i k o
+  abbrev found : PopRow
+  found = record { row = pop; offset = offset_at rows pop }
+
+  pub period_found : (v : PopRow) → next_period rows i to ≡ Some v → NextPeriod rows to i v
   unfolding next_period
-  period_found k o q =
+  period_found v q =
       choose (ltb pop end)
       (λ l.
       let h = ltb-true pop end l in
       let w = first_bounds (is_period_row rows) (end - i) i in
-      let e = pop_is pop (offset_at rows pop) k o (rw l at q) in
-      subst (λ (x : ℕ). NextPeriod rows to i k x) e.1
-      (subst (λ (x : ℕ). NextPeriod rows to i x (offset_at rows pop)) e.0
-      (record { rest = list_some (is_period_row rows) (offset_at rows) i end h; further = w.0; inside = h })))
-      (λ l. absurd (more≢pop k o (rw l at q)))
+      subst (NextPeriod rows to i) (same_Some found v (rw l at q))
+      (record { rest = list_some (is_period_row rows) (offset_at rows) i end h; further = w.0; inside = h }))
+      (λ l. absurd (none-some v (rw l at q)))
 
-  pub period_gone : next_period rows i to ≡ period.NoMore → periods_from rows i to ≡ []
+  pub period_gone : next_period rows i to ≡ None → periods_from rows i to ≡ []
   unfolding next_period
   period_gone q =
       choose (ltb pop end)
-      (λ l. absurd (more≢pop pop (offset_at rows pop) (sym (rw l at q))))
+      (λ l. absurd (none-some found (sym (rw l at q))))
       (λ l. list_none (is_period_row rows) (offset_at rows) i end (ltb-false pop end l))
 
   -- where there is no period the list is empty

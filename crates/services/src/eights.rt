@@ -20,21 +20,14 @@ fn key_of(rows: &[u32], i: usize, sought: Sought) -> u32
     rows[3 * i + sought.column] ^ sought.turned
 }
 
-// A number that is no more than either of two.
-fn least(a: u32, b: u32) -> u32
-    ensures { (result ≤ a) × (result ≤ b) }
-{
-    if a < b { a } else { b }
-}
-
 // The least key of four rows.
 fn least_of_four(rows: &[u32], i: usize, sought: Sought) -> u32
     requires { (i + 4 ≤ length rows.now / 3) × (sought.column < 3) }
     ensures { Passes (key_of rows.now sought.column sought.turned) result i (i + 4) }
 {
-    let a = least(key_of(rows, i, sought), key_of(rows, i + 1, sought));
-    let b = least(key_of(rows, i + 2, sought), key_of(rows, i + 3, sought));
-    least(a, b)
+    let a = key_of(rows, i, sought).min(key_of(rows, i + 1, sought));
+    let b = key_of(rows, i + 2, sought).min(key_of(rows, i + 3, sought));
+    a.min(b)
 }
 
 // The least key of eight rows.
@@ -44,7 +37,7 @@ fn least_of_eight(rows: &[u32], i: usize, sought: Sought) -> u32
 {
     let a = least_of_four(rows, i, sought);
     let b = least_of_four(rows, i + 4, sought);
-    least(a, b)
+    a.min(b)
 }
 
 // Row i if it is looked for, else a later row, before which none is from the next one on.
@@ -77,14 +70,10 @@ fn first_of_eight(rows: &[u32], i: usize, sought: Sought) -> usize
 fn end_of_eights(rows: &[u32], to: usize) -> usize
     ensures { result ≤ length rows.now / 3 - 7 }
 {
-    let room = rows.len() / 3;
-    if room < 8 {
-        return 0;
-    }
-    if to < room - 7 { to } else { room - 7 }
+    to.min((rows.len() / 3).saturating_sub(7))
 }
 
-// Past rows that are not looked for. It reads on behind row `to`, so that few rows are left for a walk one by one.
+// Past rows that are not looked for. It reads on behind row `to`, so that few rows are left for a walk one by one. The index moves by eight.
 fn past_eights(rows: &[u32], from: usize, to: usize, sought: Sought) -> usize
     requires { sought.column < 3 }
     ensures { Passes (key_of rows.now sought.column sought.turned) sought.bound from result }
@@ -105,6 +94,5 @@ pub(crate) fn past_others(rows: &[u32], from: usize, to: usize, sought: Sought) 
     requires { (from ≤ to) × (sought.column < 3) }
     ensures { Passes (key_of rows.now sought.column sought.turned) sought.bound from result × (result ≤ to) }
 {
-    let r = past_eights(rows, from, to, sought);
-    if to < r { to } else { r }
+    past_eights(rows, from, to, sought).min(to)
 }

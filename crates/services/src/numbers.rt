@@ -1,6 +1,6 @@
 //! The number of a PRD, written as most are: behind `PRD+`, with no release in it and a mark behind it.
 
-ghost use Rattle.std.specs.Prelude.{◌≡◌, true, ◌+◌, ◌≤◌, ◌<◌, length};
+ghost use Rattle.std.specs.Prelude.{◌≡◌, true, ◌+◌, ◌≤◌, ◌<◌, length, IfSome};
 ghost use Rattle.syntax.specs.Bytes.{plain};
 ghost use Rattle.services.specs.Services.{number_fits};
 ghost use Rattle.services.specs.Numbers.{Plain, Closing, number_end, Product};
@@ -60,22 +60,20 @@ fn past_plain(s: &[u8], from: usize) -> usize
     plain_from(s, from, second)
 }
 
-// Where the number that starts at an index ends, if plain bytes stand before a mark there; else the input's length.
-pub(crate) fn plain_end(s: &[u8], from: usize) -> usize
-    ensures { result < length s.now → result ≡ number_end s.now from }
+// Where the number that starts at an index ends, if plain bytes stand before a mark there.
+pub(crate) fn plain_end(s: &[u8], from: usize) -> Option<usize>
+    ensures { IfSome result (λ end. end ≡ number_end s.now from) }
 {
-    let mut i = past_plain(s, from);
-    while i < s.len() {
+    for i in past_plain(s, from)..s.len() {
         let b = s[i];
         if !is_plain(b) {
             if is_closing(b) {
-                return i;
+                return Some(i);
             }
-            return s.len();
+            return None;
         }
-        i += 1;
     }
-    i
+    None
 }
 
 // 0 only for two bytes that are the same.

@@ -1,7 +1,7 @@
 //! Rows in a buffer: three numbers each, offset, group and tag.
 
 ghost use Rattle.std.specs.Prelude.{◌≡◌, ◌+◌, ◌*◌, ◌/◌, ◌≤◌, ◌<◌, length, get_or};
-ghost use Rattle.services.specs.Rows.{offset_at, is_row, row_count, first_from};
+ghost use Rattle.services.specs.Rows.{offset_at, is_row, row_count, found_from};
 ghost use Rattle.services.specs.Services.{is_period_row};
 ghost use Rattle.services.specs.Extents.{ends_service, Reaches};
 
@@ -21,15 +21,7 @@ pub struct Extent {
 pub(crate) fn row_count(rows: &[u32], n: usize) -> usize
     ensures { result ≡ row_count rows.now n }
 {
-    let room = rows.len() / 3;
-    if n < room { n } else { room }
-}
-
-// A number of the buffer as an index.
-fn wide(n: u32) -> usize
-    ensures { result ≡ n }
-{
-    n as usize
+    n.min(rows.len() / 3)
 }
 
 // The offset of row i.
@@ -37,7 +29,7 @@ pub(crate) fn offset_of(rows: &[u32], i: usize) -> usize
     ensures { result ≡ offset_at rows.now i }
 {
     if i < rows.len() / 3 {
-        return wide(rows[3 * i]);
+        return rows[3 * i] as usize;
     }
     0
 }
@@ -61,25 +53,23 @@ fn is_row(rows: &[u32], i: usize, group: u32, tag: u32) -> bool
     rows[3 * i + 1] == group
 }
 
-// The first row from an index on that has a group and a tag; where none has before row `to`, `to` or the index itself.
-pub(crate) fn first_row(rows: &[u32], from: usize, to: usize, group: u32, tag: u32) -> usize
+// The first row from an index on and before row `to` that has a group and a tag.
+pub(crate) fn first_row(rows: &[u32], from: usize, to: usize, group: u32, tag: u32) -> Option<usize>
     requires { to ≤ length rows.now / 3 }
-    ensures { result ≡ first_from (is_row rows.now group tag) from to }
+    ensures { result ≡ found_from (is_row rows.now group tag) from to }
 {
-    let mut i = from;
-    while i < to {
+    for i in from..to {
         if is_row(rows, i, group, tag) {
-            return i;
+            return Some(i);
         }
-        i += 1;
     }
-    i
+    None
 }
 
-// The first POP of group 4 from a row on; where there is none before row `to`, `to` or the row itself.
-pub(crate) fn period_row(rows: &[u32], from: usize, to: usize) -> usize
+// The first POP of group 4 from a row on and before row `to`. The index moves by the rows that are passed, not by one.
+pub(crate) fn period_row(rows: &[u32], from: usize, to: usize) -> Option<usize>
     requires { to ≤ length rows.now / 3 }
-    ensures { result ≡ first_from (is_period_row rows.now) from to }
+    ensures { result ≡ found_from (is_period_row rows.now) from to }
 {
     // The tag of a POP with the same bits turned over is 0.
     let sought = Sought {
@@ -91,14 +81,14 @@ pub(crate) fn period_row(rows: &[u32], from: usize, to: usize) -> usize
     while i < to {
         i = past_others(rows, i, to, sought);
         if to <= i {
-            return i;
+            return None;
         }
         if is_row(rows, i, 4, POP) {
-            return i;
+            return Some(i);
         }
         i += 1;
     }
-    i
+    None
 }
 
 // Whether the rows of a service before row i end there.
@@ -112,7 +102,7 @@ fn is_end(rows: &[u32], i: usize) -> bool
     is_row(rows, i, 0, UIT)
 }
 
-// How far the rows of a service go, from the one after its PRD's on, of n rows: one pass.
+// How far the rows of a service go, from the one after its PRD's on, of n rows: one pass. The index moves by the rows that are passed.
 pub(crate) fn reach_of(rows: &[u32], from: usize, n: usize) -> Extent
     requires { n ≤ length rows.now / 3 }
     ensures { Reaches rows.now from n result.own result.to }

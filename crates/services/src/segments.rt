@@ -12,8 +12,7 @@ pub(crate) fn number_at(s: &[u8], at: usize) -> Part
 {
     if is_product(s, at) {
         let from = at + 4;
-        let to = plain_end(s, from);
-        if to < s.len() {
+        if let Some(to) = plain_end(s, from) {
             return Part { from, to };
         }
     }

@@ -1,6 +1,6 @@
 -- The laws of the lines for the code.
 -- Assumes nothing.
-use Rattle.std.specs.Prelude.{◌≡◌, refl, List, [], ◌∷◌, ◌++◌, ℕ, ◌+◌, ◌*◌, ◌/◌, ◌≤◌, ◌<◌, eqb, length, get_or, take, drop}
+use Rattle.std.specs.Prelude.{◌≡◌, refl, List, [], ◌∷◌, ◌++◌, ℕ, ◌+◌, ◌*◌, ◌/◌, ◌≤◌, ◌<◌, eqb, length, get_or, take, drop, Ok, Err}
 use Rattle.std.proofs.Math.Path.{sym, ap}
 use Rattle.std.proofs.Common.{◌∙◌, append_assoc, arith, add-zero, lit≤, length-append, length-take, length-drop, take-take, length-take-le}
 use Rattle.std.proofs.Math.Option.{none, some}
@@ -14,7 +14,7 @@ use Rattle.calendar.specs.Written.{day_characters}
 use Rattle.calendar.specs.Steps.{length_characters}
 use Rattle.contents.specs.Written.{up_to_zero, live_in, pending_in, record_in}
 use Rattle.contents.specs.Calls.{live_line, pending_line, record_text, shown_answer, shown_bytes}
-use Rattle.shown.specs.declared.Lines.TheVariants.{Bytes, NoRecord, TooShort}
+use Rattle.shown.specs.declared.LinesError.TheVariants.{NoRecord, TooShort}
 use Rattle.shown.specs.Shown.{record_of, lines_answer}
 
 -- ---- for `before_zero`, at an index
@@ -144,14 +144,14 @@ module _ (slot number o : List ℕ) (live pending : ℕ) (n : number ≡ up_to_z
   text_size = ap length text_is ∙ length-append (live_line number (live_in slot)) (pending_line number (pending_in slot)) ∙ omega arith
 
   pub shown_short : length o < live + pending
-      → (lines_answer TooShort ≡ shown_answer o (some (record_in slot))) × (o ≡ shown_bytes o (some (record_in slot)))
+      → (lines_answer (Err TooShort) ≡ shown_answer o (some (record_in slot))) × (o ≡ shown_bytes o (some (record_in slot)))
   unfolding lines_answer
   shown_short h =
       let t = text_size in
       (rw (lt-leb (length (record_text (record_in slot))) (length o) (omega arith)), sym (put_no_room o 0 (record_text (record_in slot)) (omega arith)))
 
   pub shown_fits : live + pending ≤ length o
-      → (lines_answer (Bytes (live + pending)) ≡ shown_answer o (some (record_in slot)))
+      → (lines_answer (Ok (live + pending)) ≡ shown_answer o (some (record_in slot)))
       × (put_at (put_at o 0 (live_line number (live_in slot))) live (pending_line number (pending_in slot)) ≡ shown_bytes o (some (record_in slot)))
   unfolding lines_answer
   shown_fits h =
@@ -164,15 +164,15 @@ module _ (slot number o : List ℕ) (live pending : ℕ) (n : number ≡ up_to_z
 -- ---- for `show_record`
 
 module _ (s o : List ℕ) (k : ℕ) where
-  none_shown : record_of s k ≡ none → (lines_answer NoRecord ≡ shown_answer o (record_of s k)) × (o ≡ shown_bytes o (record_of s k))
+  none_shown : record_of s k ≡ none → (lines_answer (Err NoRecord) ≡ shown_answer o (record_of s k)) × (o ≡ shown_bytes o (record_of s k))
   unfolding lines_answer
   none_shown q = (rw q, rw q)
 
-  pub past_shown : length s / 140 ≤ k → (lines_answer NoRecord ≡ shown_answer o (record_of s k)) × (o ≡ shown_bytes o (record_of s k))
+  pub past_shown : length s / 140 ≤ k → (lines_answer (Err NoRecord) ≡ shown_answer o (record_of s k)) × (o ≡ shown_bytes o (record_of s k))
   unfolding record_of
   past_shown h = none_shown (rw (le-ltb k (length s / 140) h))
 
-  pub unused_shown : k < length s / 140 → get_or s (k * 140) 0 ≡ 0 → (lines_answer NoRecord ≡ shown_answer o (record_of s k)) × (o ≡ shown_bytes o (record_of s k))
+  pub unused_shown : k < length s / 140 → get_or s (k * 140) 0 ≡ 0 → (lines_answer (Err NoRecord) ≡ shown_answer o (record_of s k)) × (o ≡ shown_bytes o (record_of s k))
   unfolding record_of
   unused_shown h q = none_shown (rw (lt-ltb k (length s / 140) h, eq-eqb (get_or s (k * 140) 0) 0 q))
 

@@ -17,14 +17,12 @@ const NUMBER: usize = 10;
 // The window's days, a character for each.
 const DAYS: usize = 512;
 
-/// What came of showing a record.
-#[derive(Clone, Copy)]
-pub enum Lines {
-    /// How many bytes were written.
-    Bytes(usize),
-    /// There is no such record; nothing was written.
+/// Why no record is shown; nothing was written.
+#[derive(Clone, Copy, PartialEq, Eq, Debug)]
+pub enum LinesError {
+    /// There is no such record.
     NoRecord,
-    /// The output is too short; nothing was written.
+    /// The output is too short.
     TooShort,
 }
 
@@ -32,14 +30,12 @@ pub enum Lines {
 fn before_zero(text: &[u8]) -> usize
     ensures { result ≡ length (up_to_zero text.now) }
 {
-    let mut i = 0;
-    while i < text.len() {
+    for i in 0..text.len() {
         if text[i] == 0 {
             return i;
         }
-        i += 1;
     }
-    i
+    text.len()
 }
 
 // One line at an offset: number, mark, the first n days, newline.
@@ -104,7 +100,7 @@ fn put_pending(slot: &[u8], number: &[u8], out: &mut [u8], at: usize)
 }
 
 // The lines of a slot's record: what is live first.
-fn show_slot(slot: &[u8], number: &[u8], out: &mut [u8]) -> Lines
+fn show_slot(slot: &[u8], number: &[u8], out: &mut [u8]) -> Result<usize, LinesError>
     requires { (length slot.now ≡ 140) × (number.now ≡ up_to_zero (take 10 slot.now)) }
     ensures told { lines_answer result ≡ shown_answer out.old (some (record_in slot.now)) }
     ensures left { out.new ≡ shown_bytes out.old (some (record_in slot.now)) }
@@ -112,24 +108,24 @@ fn show_slot(slot: &[u8], number: &[u8], out: &mut [u8]) -> Lines
     let live = live_length(slot, number);
     let pending = pending_length(slot, number);
     if out.len() < live + pending {
-        return Lines::TooShort;
+        return Err(LinesError::TooShort);
     }
     put_live(slot, number, out);
     put_pending(slot, number, out, live);
-    Lines::Bytes(live + pending)
+    Ok(live + pending)
 }
 
-/// Writes the lines of the k-th slot's record, from 0, to the front of an output.
-pub fn show_record(room: &[u8], k: usize, out: &mut [u8]) -> Lines
+/// Writes the lines of the k-th slot's record, from 0, to the front of an output; answers how many bytes they are.
+pub fn show_record(room: &[u8], k: usize, out: &mut [u8]) -> Result<usize, LinesError>
     ensures told { lines_answer result ≡ shown_answer out.old (record_of room.now k) }
     ensures left { out.new ≡ shown_bytes out.old (record_of room.now k) }
 {
     if room.len() / SLOT <= k {
-        return Lines::NoRecord;
+        return Err(LinesError::NoRecord);
     }
     let at = k * SLOT;
     if room[at] == 0 {
-        return Lines::NoRecord;
+        return Err(LinesError::NoRecord);
     }
     let number_end = at + NUMBER;
     let end = at + SLOT;

@@ -6,16 +6,16 @@ use native.Mathlib.Omega.{arith}
 use Rattle.std.proofs.Math.Decide.{dec_lt}
 use borrow.Author.Tests.{eq-eqb, ne_eqb}
 use Rattle.std.proofs.Math.ListN.{drop_of_length-le}
-use Rattle.slots.specs.declared.Order.{Order}
-use Rattle.slots.specs.declared.Order.TheVariants.{Before, Same, After}
+use Rattle.std.specs.declared.cmp.Ordering.{Ordering}
+use Rattle.std.specs.declared.cmp.Ordering.TheVariants.{Less, Equal, Greater}
 use Rattle.laws.specs.Choice.{pick, both}
 use Rattle.slots.specs.Order.{order_of}
 use Rattle.slots.specs.Slots.{slots_of, length_slots, slot_here, first_byte}
 
-abbrev pub is_before : Order → Bool
-is_before Before = true
-is_before Same = false
-is_before After = false
+abbrev pub is_before : Ordering → Bool
+is_before Less = true
+is_before Equal = false
+is_before Greater = false
 
 -- how many slots, from the first on, are used
 unfoldable pub leading : List (List ℕ) → ℕ
@@ -38,7 +38,7 @@ rising (r ∷ rs) = both (before_next r rs) (rising rs)
 
 -- ---- for the loops, at slot k
 
-pub rises_told : (s : List ℕ) (a b n m : ℕ) → n ≡ 10 → m ≡ 10 → (o : Order) → o ≡ order_of (take n (drop a s)) (take m (drop b s))
+pub rises_told : (s : List ℕ) (a b n m : ℕ) → n ≡ 10 → m ≡ 10 → (o : Ordering) → o ≡ order_of (take n (drop a s)) (take m (drop b s))
     → is_before o ≡ rises (take 140 (drop a s)) (take 140 (drop b s))
 unfolding rises
 rises_told s a b n m e g o q = rw (take-take 10 140 (drop a s) (lit≤ tt), take-take 10 140 (drop b s) (lit≤ tt), q, e, g)

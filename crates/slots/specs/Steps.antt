@@ -1,12 +1,11 @@
 -- A step of halving by words: how far a number is behind that of a slot, round the whole of eight bytes.
 -- Assumes nothing.
-use Rattle.std.specs.Prelude.{◌≡◌, ℕ, ◌+◌, ◌-◌, ◌*◌, ◌/◌, ◌%◌, ◌^◌, ◌<◌, ◌≤◌, List, length, take, drop, ◌≢◌, slice_index, slice_index_or, refl}
+use Rattle.std.specs.Prelude.{◌≡◌, ℕ, ◌+◌, ◌-◌, ◌*◌, ◌/◌, ◌%◌, ◌^◌, ◌<◌, ◌≤◌, List, length, take, drop, ◌≢◌, slice_index, slice_index_or, refl, Err}
 use Rattle.std.proofs.Common.{sym, ◌∙◌, length-take, length-drop, get_or-drop}
 use native.Mathlib.Omega.{arith}
 use Rattle.std.proofs.Math.Decide.{dec_lt, ℕ_discrete}
-use Rattle.slots.specs.declared.Order.{Order}
-use Rattle.slots.specs.declared.Order.TheVariants.{Before, Same, After}
-use Rattle.slots.specs.declared.Found.TheVariants.{Gap}
+use Rattle.std.specs.declared.cmp.Ordering.{Ordering}
+use Rattle.std.specs.declared.cmp.Ordering.TheVariants.{Less, Equal, Greater}
 use Rattle.slots.specs.Order.{order_of, order_by, by_less, by_more, by_same, longer, above}
 use Rattle.slots.specs.Slots.{first_of}
 use Rattle.slots.specs.Words.{Bytes, four, high_of, low_of, bytes_take, words_order}
@@ -63,14 +62,14 @@ module _ {s x : List ℕ} {at n high low behind : ℕ} (t : Step s x at n high l
   is_used : 72057594037927936 ≤ high_of number → slice_index s at ≢ 0
   is_used h z = omega (arith, high_within number number_bytes_lem, number_first ∙ z)
 
-  abbrev rest : Order
-  rest = order_by (order_by Same 10 (length x)) (low_of number) low
+  abbrev rest : Ordering
+  rest = order_by (order_by Equal 10 (length x)) (low_of number) low
 
   by_words : (slice_index s at ≢ 0) → order_by rest (high_of number) high ≡ number_order x (take 140 (drop at s))
   by_words u = rw (t.words.first, t.words.second) (sym (words_order number x number_bytes_lem t.bytes number_length) ∙ used_order s x at u n t.ten)
 
   -- the same first word
-  pub level_told : behind ≡ 0 → order_by (order_by Same 10 (length x)) (low_of number) low ≡ number_order x (take 140 (drop at s))
+  pub level_told : behind ≡ 0 → order_by (order_by Equal 10 (length x)) (low_of number) low ≡ number_order x (take 140 (drop at s))
   level_told h =
       let a = high_below number number_bytes_lem in
       let c = high_least x t.bytes t.words in
@@ -78,13 +77,13 @@ module _ {s x : List ℕ} {at n high low behind : ℕ} (t : Step s x at n high l
 
   module _ (apart : behind ≡ 0 → ⊥) where
     -- not farther than from the least number
-    pub before_told : behind ≤ high - 72057594037927936 → Before ≡ number_order x (take 140 (drop at s))
+    pub before_told : behind ≤ high - 72057594037927936 → Less ≡ number_order x (take 140 (drop at s))
     before_told h =
         let a = high_below number number_bytes_lem in
         let c = high_least x t.bytes t.words in
         by_less rest (high_of number) high (omega arith) ∙ by_words (is_used (omega arith))
 
-    pub after_told : high - 72057594037927936 < behind → After ≡ number_order x (take 140 (drop at s))
+    pub after_told : high - 72057594037927936 < behind → Greater ≡ number_order x (take 140 (drop at s))
     after_told h =
         elim (ℕ_discrete (slice_index s at) 0) [
           | yes z ↦ unused_after s x at z
@@ -97,7 +96,7 @@ module _ {s x : List ℕ} {at n high low behind : ℕ} (t : Step s x at n high l
 
 -- no slot has a number that begins with 0, and where one would go is before all
 module _ (s x : List ℕ) (z : slice_index_or x 0 0 ≡ 0) where
-  all_after : (k : ℕ) → k < length s / 140 → After ≡ slot_order s x k
+  all_after : (k : ℕ) → k < length s / 140 → Greater ≡ slot_order s x k
   all_after k h =
       elim (ℕ_discrete (slice_index s (k * 140)) 0) [
         | yes e ↦ unused_after s x (k * 140) e
@@ -105,7 +104,7 @@ module _ (s x : List ℕ) (z : slice_index_or x 0 0 ≡ 0) where
       ]
       ∙ sym (slot_order_lem s x k h)
     where
-      behind_all : (slice_index s (k * 140) ≢ 0) → After ≡ order_of (take 10 (drop (k * 140) s)) x
+      behind_all : (slice_index s (k * 140) ≢ 0) → Greater ≡ order_of (take 10 (drop (k * 140) s)) x
       behind_all e =
           let a = length-take 10 (drop (k * 140) s) in
           let b = length-drop (k * 140) s in
@@ -115,6 +114,6 @@ module _ (s x : List ℕ) (z : slice_index_or x 0 0 ≡ 0) where
             | no l ↦ longer (take 10 (drop (k * 140) s)) x 0 (omega arith) (omega arith)
           ]
 
-  pub none_found : Gap 0 ≡ find_of s x
+  pub none_found : Err 0 ≡ find_of s x
   unfolding find_of
   none_found = halve_after (slot_order s x) (length s / 140) all_after (length s / 140) 0 (length s / 140) (omega arith)

@@ -8,8 +8,8 @@ use Rattle.std.proofs.Math.Decide.{dec_lt}
 use borrow.Author.Tests.{lt-ltb, le-ltb, eq-eqb, ne_eqb}
 use Rattle.std.proofs.Math.ListN.{get_or-eq_default}
 use Rattle.laws.specs.Choice.{pick, choose}
-use Rattle.slots.specs.declared.Order.{Order}
-use Rattle.slots.specs.declared.Order.TheVariants.{Same, After}
+use Rattle.std.specs.declared.cmp.Ordering.{Ordering}
+use Rattle.std.specs.declared.cmp.Ordering.TheVariants.{Equal, Greater}
 use Rattle.slots.specs.Order.{order_of, order_by, by_less, by_more, by_same, by_moved, ended, shorter, longer, below, above, level}
 use Rattle.slots.specs.Rising.{is_before}
 
@@ -74,16 +74,16 @@ module _ (h l k m : ℕ) where
   unfolding rises_to
   rises_level q = rw (eq-eqb h k q)
 
-first_rises : (a b : ℕ) → is_before (order_by Same a b) ≡ nat_lt a b
+first_rises : (a b : ℕ) → is_before (order_by Equal a b) ≡ nat_lt a b
 first_rises a b = choose (nat_lt a b) (λ p. rw p) (λ p. rw p (choose (nat_lt b a) (λ q. rw q) (λ q. rw q)))
 
-two_rise : (h l k m : ℕ) → rises_to h l k m ≡ is_before (order_by (order_by Same l m) h k)
+two_rise : (h l k m : ℕ) → rises_to h l k m ≡ is_before (order_by (order_by Equal l m) h k)
 two_rise h l k m =
     elim (dec_lt h k) [
-      | yes q ↦ sym (rises_below h l k m q) ∙ ap is_before (by_less (order_by Same l m) h k q)
+      | yes q ↦ sym (rises_below h l k m q) ∙ ap is_before (by_less (order_by Equal l m) h k q)
       | no q ↦ elim (dec_lt k h) [
-        | yes r ↦ sym (rises_above h l k m r) ∙ ap is_before (by_more (order_by Same l m) h k r)
-        | no r ↦ sym (rises_level h l k m (omega arith)) ∙ sym (first_rises l m) ∙ ap is_before (by_same (order_by Same l m) h k (omega arith) (omega arith))
+        | yes r ↦ sym (rises_above h l k m r) ∙ ap is_before (by_more (order_by Equal l m) h k r)
+        | no r ↦ sym (rises_level h l k m (omega arith)) ∙ sym (first_rises l m) ∙ ap is_before (by_same (order_by Equal l m) h k (omega arith) (omega arith))
       ]
     ]
 
@@ -109,7 +109,7 @@ module _ (x y : List ℕ) (f : Bytes x) where
       ends n (p * 256 + slice_index x i) (q * 256 + slice_index y i) (i + 1) (omega arith) (omega arith)
 
 -- two words in one
-two_words : (t : Order) (h l k m : ℕ) → l < 65536 → m < 65536 → order_by t (h * 65536 + l) (k * 65536 + m) ≡ order_by (order_by t l m) h k
+two_words : (t : Ordering) (h l k m : ℕ) → l < 65536 → m < 65536 → order_by t (h * 65536 + l) (k * 65536 + m) ≡ order_by (order_by t l m) h k
 two_words t h l k m a b =
     elim (dec_lt h k) [
       | yes q ↦ sym (by_less t (h * 65536 + l) (k * 65536 + m) (omega arith)) ∙ by_less (order_by t l m) h k q
@@ -127,7 +127,7 @@ low_below : (z : List ℕ) → Bytes z → low_of z < 65536
 unfolding low_of
 low_below z h = let a = h 8 in let b = h 9 in omega arith
 
-past_end : (t : Order) (a b : ℕ) → After ≡ t → b ≤ a → After ≡ order_by t a b
+past_end : (t : Ordering) (a b : ℕ) → Greater ≡ t → b ≤ a → Greater ≡ order_by t a b
 past_end t a b e h =
     elim (dec_lt b a) [
       | yes q ↦ by_more t a b q
@@ -136,22 +136,22 @@ past_end t a b e h =
 
 -- where both are the same, the shorter comes first
 module _ (x y : List ℕ) (f : Bytes x) (g : Bytes y) where
-  abbrev lengths : Order
-  lengths = order_by Same (length x) (length y)
+  abbrev lengths : Ordering
+  lengths = order_by Equal (length x) (length y)
 
   order_behind : (n p i : ℕ) → length x ≡ i + n → i ≤ length y → order_of (drop i x) (drop i y) ≡ order_by lengths (behind n p x i) (behind n p y i)
   unfolding behind
   order_behind zero p i h k =
       elim (dec_lt i (length y)) [
-        | yes q ↦ sym (shorter x y i (omega arith) q) ∙ by_less Same (length x) (length y) (omega arith)
-        | no q ↦ sym (ended x y i (omega arith) (omega arith)) ∙ by_same Same (length x) (length y) (omega arith) (omega arith)
+        | yes q ↦ sym (shorter x y i (omega arith) q) ∙ by_less Equal (length x) (length y) (omega arith)
+        | no q ↦ sym (ended x y i (omega arith) (omega arith)) ∙ by_same Equal (length x) (length y) (omega arith) (omega arith)
       ]
       ∙ by_same lengths p p (omega arith) (omega arith)
   order_behind (suc n) p i h k =
       elim (dec_lt i (length y)) [
         | no u ↦
             let e = ends x y f (suc n) p p i (omega arith) (omega arith) in
-            sym (longer x y i (omega arith) (omega arith)) ∙ past_end lengths (behind (suc n) p x i) (behind (suc n) p y i) (by_more Same (length x) (length y) (omega arith)) e
+            sym (longer x y i (omega arith) (omega arith)) ∙ past_end lengths (behind (suc n) p x i) (behind (suc n) p y i) (by_more Equal (length x) (length y) (omega arith)) e
         | yes u ↦ elim (dec_lt (slice_index x i) (slice_index y i)) [
           | yes q ↦ sym (below x y i (omega arith) u q) ∙ by_less lengths _ _ (lower x y f n (p * 256 + slice_index x i) (p * 256 + slice_index y i) (i + 1) (omega arith))
           | no q ↦ elim (dec_lt (slice_index y i) (slice_index x i)) [
@@ -166,13 +166,13 @@ module _ (x y : List ℕ) (f : Bytes x) (g : Bytes y) where
       ]
 
   module _ (h : length x ≡ 10) where
-    pub words_order : order_of x y ≡ order_by (order_by (order_by Same 10 (length y)) (low_of x) (low_of y)) (high_of x) (high_of y)
+    pub words_order : order_of x y ≡ order_by (order_by (order_by Equal 10 (length y)) (low_of x) (low_of y)) (high_of x) (high_of y)
     words_order =
         order_behind 10 0 0 h (omega arith)
-        ∙ rw (ten_bytes x, ten_bytes y, h) (two_words (order_by Same 10 (length y)) (high_of x) (low_of x) (high_of y) (low_of y) (low_below x f) (low_below y g))
+        ∙ rw (ten_bytes x, ten_bytes y, h) (two_words (order_by Equal 10 (length y)) (high_of x) (low_of x) (high_of y) (low_of y) (low_below x f) (low_below y g))
 
     module _ (k : length y ≡ 10) where
       pub words_rise : rises_to (high_of x) (low_of x) (high_of y) (low_of y) ≡ is_before (order_of x y)
       words_rise =
           two_rise (high_of x) (low_of x) (high_of y) (low_of y)
-          ∙ sym (ap is_before (words_order ∙ ap (λ (n : ℕ). order_by (order_by (order_by Same 10 n) (low_of x) (low_of y)) (high_of x) (high_of y)) k))
+          ∙ sym (ap is_before (words_order ∙ ap (λ (n : ℕ). order_by (order_by (order_by Equal 10 n) (low_of x) (low_of y)) (high_of x) (high_of y)) k))

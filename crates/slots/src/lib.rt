@@ -6,13 +6,14 @@
 pub mod words;
 
 ghost use Rattle.std.specs.Prelude.{◌≡◌, ◌+◌, ◌≤◌, length, take, drop};
-ghost use Rattle.slots.specs.Order.{order_of, order_by};
+ghost use Rattle.slots.specs.Order.{order_of};
 ghost use Rattle.slots.specs.Find.{number_order, find_of};
 ghost use Rattle.slots.specs.Rising.{rises, rising, leading};
 ghost use Rattle.slots.specs.Slots.{slots_of};
 ghost use Rattle.slots.specs.Steps.{WordsOf};
 
 use raw_bytes::byte_at;
+use std::cmp::Ordering;
 use std::num::wrapping_sub_usize;
 
 const SLOT: usize = 140;
@@ -22,79 +23,33 @@ const NUMBER: usize = 10;
 // The least of eight bytes, the first the highest, whose first byte is not 0.
 const LEAST: usize = 0x0100_0000_0000_0000;
 
-/// How one text stands to another.
-#[derive(Clone, Copy)]
-pub enum Order {
-    Before,
-    Same,
-    After,
-}
-
-/// Where a number is, or where it would go.
-#[derive(Clone, Copy)]
-pub enum Found {
-    At(usize),
-    Gap(usize),
-}
-
 /// Byte by byte; a shorter text comes before its extensions.
-pub fn compare(a: &[u8], b: &[u8]) -> Order
+pub fn compare(a: &[u8], b: &[u8]) -> Ordering
     ensures { result ≡ order_of a.now b.now }
 {
-    let mut i = 0;
-    while i < a.len() {
-        if b.len() <= i {
-            return Order::After;
-        }
-        let x = a[i];
-        let y = b[i];
-        if x < y {
-            return Order::Before;
-        }
-        if y < x {
-            return Order::After;
-        }
-        i += 1;
-    }
-    if i < b.len() {
-        return Order::Before;
-    }
-    Order::Same
-}
-
-// Two numbers; where they are the same, what else decides.
-fn ordered(a: usize, b: usize, same: Order) -> Order
-    ensures { result ≡ order_by same a b }
-{
-    if a < b {
-        return Order::Before;
-    }
-    if b < a {
-        return Order::After;
-    }
-    same
+    a.cmp(b)
 }
 
 // How the slot at an index stands to a number; a slot that is not used comes after every number. How far its first word is below that of
 // the number, round past 0, tells it in one test: not farther than the least number is, it comes before.
-fn number_order(room: &[u8], at: usize, number: &[u8], high: usize, low: usize) -> Order
+fn number_order(room: &[u8], at: usize, number: &[u8], high: usize, low: usize) -> Ordering
     requires { (at + 140 ≤ length room.now) × WordsOf number.now high low }
     ensures { result ≡ number_order number.now (take 140 (drop at room.now)) }
 {
     let end = at + NUMBER;
     let behind = wrapping_sub_usize(high, words::high(&room[at..end]));
     if behind == 0 {
-        let lengths = ordered(NUMBER, number.len(), Order::Same);
-        return ordered(words::low(&room[at..end]), low, lengths);
+        let lengths = NUMBER.cmp(&number.len());
+        return words::low(&room[at..end]).cmp(&low).then(lengths);
     }
     if behind <= high - LEAST {
-        return Order::Before;
+        return Ordering::Less;
     }
-    Order::After
+    Ordering::Greater
 }
 
-// The slot that has a number, or the one before which it would go: of one that does not begin with 0, by its words.
-fn find_words(room: &[u8], number: &[u8], high: usize, low: usize) -> Found
+// The slot that has a number, or as an error the one before which it would go: of one that does not begin with 0, by its words.
+fn find_words(room: &[u8], number: &[u8], high: usize, low: usize) -> Result<usize, usize>
     requires { WordsOf number.now high low }
     ensures { result ≡ find_of room.now number.now }
 {
@@ -103,26 +58,26 @@ fn find_words(room: &[u8], number: &[u8], high: usize, low: usize) -> Found
     while lo < hi {
         let mid = lo + (hi - lo) / 2;
         match number_order(room, mid * SLOT, number, high, low) {
-            Order::Before => {
+            Ordering::Less => {
                 lo = mid + 1;
             }
-            Order::Same => {
-                return Found::At(mid);
+            Ordering::Equal => {
+                return Ok(mid);
             }
-            Order::After => {
+            Ordering::Greater => {
                 hi = mid;
             }
         }
     }
-    Found::Gap(lo)
+    Err(lo)
 }
 
-/// The slot that has a number, or the one before which it would go, by halving.
-pub fn find(room: &[u8], number: &[u8]) -> Found
+/// The slot that has a number, or as an error the one before which it would go, by halving.
+pub fn find(room: &[u8], number: &[u8]) -> Result<usize, usize>
     ensures { result ≡ find_of room.now number.now }
 {
     if byte_at(number, 0) == 0 {
-        return Found::Gap(0);
+        return Err(0);
     }
     // Where the length is known, the bytes are read with no test of each.
     if number.len() == NUMBER {
@@ -154,11 +109,7 @@ fn rises_at(room: &[u8], at: usize) -> bool
     let end = at + NUMBER;
     let next = at + SLOT;
     let next_end = next + NUMBER;
-    match compare(&room[at..end], &room[next..next_end]) {
-        Order::Before => true,
-        Order::Same => false,
-        Order::After => false,
-    }
+    compare(&room[at..end], &room[next..next_end]).is_lt()
 }
 
 /// Whether the numbers of the slots rise strictly.

@@ -1,11 +1,12 @@
 -- What stage leaves of a good account is a good account again.
 -- Assumes nothing.
 use Prim.Native.Nat.{ℕ, zero, suc, ◌+◌, ◌-◌, ◌≤◌}
-use Rattle.std.specs.Prelude.{◌≡◌, refl, Bool, leb, length}
+use Rattle.std.specs.Prelude.{◌≡◌, refl, Bool, leb, length, Some, None}
 use Rattle.std.proofs.Math.Path.{subst}
 use Rattle.std.proofs.Math.Bool.{true, false}
 use mathlib.Core.List.{List, [], ◌∷◌}
 use Rattle.std.proofs.Math.Option.{Option, none, some}
+use Rattle.std.specs.declared.option.Option as found
 use Rattle.std.proofs.Common.{arith, leb-true}
 use Rattle.std.proofs.lemmas.Bool.{not-false}
 use Rattle.laws.specs.Choice.{pick, both, all, choose, both_parts}
@@ -114,9 +115,9 @@ module _ (first : ℕ) (s rows : List ℕ) where
           changed_order (number_in s v) (entry first s rows v) rs g.1 k,
         ))
 
-    entered_inside : good_number (number_in s v) ≡ true → (o : Option ℕ) → enter_inside o (enter_known first s rows v rs) ≡ done new → Sound new
-    entered_inside x none q = entered_known x q
-    entered_inside x (some at) q = absurd (refused≢done q)
+    entered_inside : good_number (number_in s v) ≡ true → (o : found.Option ℕ) → enter_inside o (enter_known first s rows v rs) ≡ done new → Sound new
+    entered_inside x None q = entered_known x q
+    entered_inside x (Some at) q = absurd (refused≢done q)
 
     entered_one : enter first s rows v rs ≡ done new → Sound new
     unfolding enter

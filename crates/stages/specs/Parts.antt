@@ -1,10 +1,10 @@
 -- A refusal of stage has a part beside 10 alone, and there one of the six.
 -- Assumes nothing.
-use Rattle.std.specs.Prelude.{◌≡◌, refl, Bool, ℕ, leb, length}
+use Rattle.std.specs.Prelude.{◌≡◌, refl, Bool, ℕ, leb, length, Some, None}
 use Rattle.std.proofs.Common.{subst}
 use Rattle.std.proofs.Math.Bool.{true}
 use mathlib.Core.List.{List, [], ◌∷◌}
-use Rattle.std.proofs.Math.Option.{Option, none, some}
+use Rattle.std.specs.declared.option.Option as found
 use Rattle.laws.specs.Choice.{both, choose}
 use Rattle.answers.specs.declared.Refusal.{Refusal}
 use Rattle.answers.specs.Answers.{Answer, done, refused}
@@ -23,9 +23,9 @@ module _ (first : ℕ) (s rows : List ℕ) where
   unfolding enter_known
   known_parted v rs = choose (both v.removal (is_unknown (lookup (number_in s v) rs))) (λ p. rw p refl) (λ p. rw p tt)
 
-  inside_parted : (o : Option ℕ) (next : Answer (List Record)) → Parted next → Parted (enter_inside o next)
-  inside_parted none next p = p
-  inside_parted (some at) next p = refl
+  inside_parted : (o : found.Option ℕ) (next : Answer (List Record)) → Parted next → Parted (enter_inside o next)
+  inside_parted None next p = p
+  inside_parted (Some at) next p = refl
 
   one_parted : (v : Service) (rs : List Record) → Parted (enter first s rows v rs)
   unfolding enter

@@ -1,7 +1,7 @@
 -- What an accepted reading says of a service: its number has permitted characters only, and its days are a calendar.
 -- Assumes nothing.
 use Prim.Native.Nat.{ℕ, zero, suc, ◌+◌, ◌*◌, ◌/◌, ◌<◌}
-use Rattle.std.specs.Prelude.{◌≡◌, Bool, true, false, List, [], ◌∷◌, map, ltb, length, get_or, replicate}
+use Rattle.std.specs.Prelude.{◌≡◌, Bool, true, false, List, [], ◌∷◌, map, ltb, length, get_or, replicate, Result, Ok, Err}
 use Rattle.std.proofs.Math.Path.{refl}
 use Rattle.std.proofs.Common.{sym, ap, ◌∙◌, subst, arith, lit≤, lt-ltb, eq-eqb}
 use Rattle.std.proofs.lemmas.List.{length-replicate}
@@ -9,8 +9,8 @@ use Rattle.laws.specs.Choice.{all, choose, both_parts}
 use Rattle.syntax.specs.Bytes.{permitted_of, stands, releases, plain_on}
 use Rattle.syntax.specs.Pieces.{first_piece, later_pieces, join_piece, pieces, nth, part_of}
 use Rattle.syntax.specs.Segment.{body_at, scan_of, segment_at}
-use Rattle.syntax.specs.declared.segment.Scanned.{Scanned}
-use Rattle.syntax.specs.declared.segment.Scanned.TheVariants.{End, NotPermitted, Unended, Malformed}
+use Rattle.syntax.specs.declared.segment.ScanError.{ScanError}
+use Rattle.syntax.specs.declared.segment.ScanError.TheVariants.{NotPermitted, Unended, Malformed}
 use Rattle.answers.specs.Answers.{Answer, done, refused}
 use Rattle.placing.specs.Tables.{tables}
 use Rattle.steps.specs.declared.state.State.{State}
@@ -129,10 +129,10 @@ abbrev Read : List ℕ → List Row → Type 0
 Read s [] = Unit {0}
 Read s (r ∷ rows) = Permitted (body_at s r.offset) × Read s rows
 
-end≢not : {i e : ℕ} → NotPermitted i ≡ End e → ⊥
+end≢not : {i e : ℕ} → Err (NotPermitted i) ≡ Ok e → ⊥
 end≢not q = let z : ◌≡◌ {A = ℕ} 0 1 = cc in omega arith
 
-end_permitted : (s : List ℕ) (at e : ℕ) → segment_at s at ≡ End e → Permitted (body_at s at)
+end_permitted : (s : List ℕ) (at e : ℕ) → segment_at s at ≡ Ok e → Permitted (body_at s at)
 unfolding scan_of
 end_permitted s at e q = choose (all permitted_of (body_at s at)) (λ p. p) (λ p. absurd (end≢not (rw p at q)))
 
@@ -141,17 +141,15 @@ module _ (s : List ℕ) where
     abbrev step : Answer Taken
     step = segment_step tables from at (body_at s at) (dialogue_of s from) (headed_reference s from)
 
-    stepped : (e : ℕ) → segment_at s at ≡ End e → (y : Answer Taken) → step ≡ y → Read s (after_turn (read_on f s) (turn_step (e + 1) y)).rows
+    stepped : (e : ℕ) → segment_at s at ≡ Ok e → (y : Answer Taken) → step ≡ y → Read s (after_turn (read_on f s) (turn_step (e + 1) y)).rows
     stepped e h (done (taken st r)) q =
-        let o = (turn_on tables s from at st r (e + 1) (sym (turn_is tables s from at (End e) h) ∙ ap (turn_step (e + 1)) q)).0 in
+        let o = (turn_on tables s from at st r (e + 1) (sym (turn_is tables s from at (Ok e) h) ∙ ap (turn_step (e + 1)) q)).0 in
         (subst (λ (k : ℕ). Permitted (body_at s k)) (sym o) (end_permitted s at e h), ih st (e + 1))
     stepped e h (refused refusal) q = tt
 
-    scanned : (x : Scanned) → segment_at s at ≡ x → Read s (after_turn (read_on f s) (turn_scan tables s from at x)).rows
-    scanned (End e) h = stepped e h step refl
-    scanned (NotPermitted i) h = tt
-    scanned Unended h = tt
-    scanned Malformed h = tt
+    scanned : (x : Result ℕ ScanError) → segment_at s at ≡ x → Read s (after_turn (read_on f s) (turn_scan tables s from at x)).rows
+    scanned (Ok e) h = stepped e h step refl
+    scanned (Err error) h = tt
 
     turned : Read s (after_turn (read_on f s) (turn_at tables s from at)).rows
     unfolding turn_at

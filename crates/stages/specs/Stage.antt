@@ -1,36 +1,37 @@
 -- Stage (account, interchange, wish): "the groups 2 of its SKDUPD messages are services. .. All services enter, or none. Returns their number."
 -- Document 01, "The register", "What each number means". On the account's own view: nothing else of a register is an argument.
 -- Assumes nothing.
-use Rattle.std.specs.Prelude.{ℕ, Bool, true, false, not, List, [], ◌∷◌, map, leb, length, replicate}
+use Rattle.std.specs.Prelude.{ℕ, Bool, true, false, not, List, [], ◌∷◌, map, leb, length, replicate, Some, None, Result, Ok, Err}
 use Rattle.std.proofs.Math.Option.{Option, none, some}
+use Rattle.std.specs.declared.option.Option as found
 use Rattle.laws.specs.Choice.{pick, both}
 use Rattle.answers.specs.Answers.{Answer, done, refused, wrong_service, number_twice, outside_window, unknown_service, over_quota}
 use Rattle.syntax.specs.Bytes.{plain}
 use Rattle.syntax.specs.Segment.{body_at}
 use Rattle.parts.specs.Places.{bytes_of}
 use Rattle.period.specs.Period.{period_of}
-use Rattle.period.specs.declared.Period.{Period}
-use Rattle.period.specs.declared.Period.TheVariants.{Good, Wrong}
 use Rattle.joining.specs.Joined.{in_window, join_all}
 use Rattle.interchange.specs.Reader.{Verdict, reading_of, numbers}
 use Rattle.services.specs.declared.Service.{Service}
 use Rattle.services.specs.Services.{periods_of, is_wrong, is_twice, services_of}
 use Rattle.contents.specs.Contents.{Pending, nothing, put, removal, Record}
 use Rattle.contents.specs.Calls.{View, Called, refused_call, lookup, changed}
+use Rattle.period.specs.declared.Period.{Period}
+use Rattle.period.specs.declared.Fault.{Fault}
 
 -- "The number, 1 to 10 characters after release"
 abbrev pub number_in : List ℕ → Service → List ℕ
 number_in s v = plain (bytes_of s v.number)
 
 -- 13, "period not wholly in the window": by its dates, whatever days are selected
-abbrev pub outside_by : ℕ → Period → Bool
-outside_by first (Good f n form) = not (in_window 512 first f n)
-outside_by first (Wrong x) = false
+abbrev pub outside_by : ℕ → Result Period Fault → Bool
+outside_by first (Ok v) = not (in_window 512 first v.days.first v.days.count)
+outside_by first (Err x) = false
 
 -- the offset of the first of some POPs that is outside
-unfoldable pub first_outside : Bool → ℕ → List ℕ → List ℕ → Option ℕ
-first_outside wish first s [] = none
-first_outside wish first s (at ∷ l) = pick (outside_by first (period_of wish (body_at s at))) (some at) (first_outside wish first s l)
+unfoldable pub first_outside : Bool → ℕ → List ℕ → List ℕ → found.Option ℕ
+first_outside wish first s [] = None
+first_outside wish first s (at ∷ l) = pick (outside_by first (period_of wish (body_at s at))) (Some at) (first_outside wish first s l)
 
 -- "A service's days are those selected by at least one of its periods", over the window
 unfoldable pub days_of : Bool → ℕ → List ℕ → List ℕ → List ℕ
@@ -71,9 +72,9 @@ enter_known first s rows v rs =
     pick (both v.removal (is_unknown (lookup (number_in s v) rs))) (unknown_service v.prd)
     (done (changed (number_in s v) (entry first s rows v) rs))
 
-abbrev pub enter_inside : Option ℕ → Answer (List Record) → Answer (List Record)
-enter_inside none next = next
-enter_inside (some at) next = outside_window at
+abbrev pub enter_inside : found.Option ℕ → Answer (List Record) → Answer (List Record)
+enter_inside None next = next
+enter_inside (Some at) next = outside_window at
 
 -- one service: 11, 12, 13, 14
 unfoldable pub enter : ℕ → List ℕ → List ℕ → Service → List Record → Answer (List Record)

@@ -1,6 +1,6 @@
 -- The ways through the code that stages in a room, and through the code that lends it.
 -- Assumes nothing.
-use Rattle.std.specs.Prelude.{ℕ, ◌+◌, ◌-◌, ◌/◌, ◌≤◌, ◌<◌, min, ◌≡◌, Bool, true, false, leb, length}
+use Rattle.std.specs.Prelude.{ℕ, ◌+◌, ◌-◌, ◌/◌, ◌≤◌, ◌<◌, min, ◌≡◌, Bool, true, false, leb, length, Option}
 use Rattle.std.proofs.Math.Path.{refl, ap}
 use Rattle.std.proofs.Common.{sym, ◌∙◌, le-leb, leb-true, leb-false}
 use mathlib.Core.List.{List, [], ◌∷◌}
@@ -55,7 +55,7 @@ module _ (room : List ℕ) (u : Totals) where
 -- ---- in a room
 
 -- where the services that passed have no removal among them, nothing is removed
-module _ (first : ℕ) (s rows : List ℕ) (look : List ℕ → Known) where
+module _ (first : ℕ) (s rows : List ℕ) (look : List ℕ → Option Known) where
   removals_grow : (vs : List Service) (t u : Totals) → test_all first s rows look vs t ≡ done u → t.removals ≤ u.removals
   unfolding test_all
   removals_grow [] t u e =

@@ -1,7 +1,7 @@
 -- A reading has few rows, since each segment takes four bytes: 45,000 numbers hold the rows of any interchange, and 17 cannot come.
 -- Assumes nothing.
 use Prim.Native.Nat.{ℕ, zero, suc, ◌+◌, ◌*◌, ◌≤◌}
-use Rattle.std.specs.Prelude.{◌≡◌, List, Bool, eqb, ltb, length, take}
+use Rattle.std.specs.Prelude.{◌≡◌, List, Bool, eqb, ltb, length, take, Result, Ok, Err}
 use Rattle.std.proofs.Math.Path.{refl}
 use Rattle.std.proofs.Common.{sym, ap, ◌∙◌}
 use Rattle.answers.specs.declared.Refusal.{Refusal}
@@ -11,8 +11,8 @@ use Rattle.laws.specs.Choice.{choose, either_parts}
 use Rattle.laws.specs.Put.{put_at, take_put}
 use Rattle.answers.specs.Answers.{Answer, done, refused}
 use Rattle.answers.specs.Laws.{refused≢done, done≢refused, done_is}
-use Rattle.syntax.specs.declared.segment.Scanned.{Scanned}
-use Rattle.syntax.specs.declared.segment.Scanned.TheVariants.{End, NotPermitted, Unended, Malformed}
+use Rattle.syntax.specs.declared.segment.ScanError.{ScanError}
+use Rattle.syntax.specs.declared.segment.ScanError.TheVariants.{NotPermitted, Unended, Malformed}
 use Rattle.syntax.specs.Segment.{body_at, segment_at}
 use Rattle.placing.specs.Tables.{tables}
 use Rattle.steps.specs.declared.state.State.{State}
@@ -34,19 +34,17 @@ module _ (s : List ℕ) where
     abbrev step : Answer Taken
     step = segment_step tables from at (body_at s at) (dialogue_of s from) (headed_reference s from)
 
-    stepped : (e : ℕ) → segment_at s at ≡ End e → (y : Answer Taken) → step ≡ y → Few at (after_turn (read_on f s) (turn_step (e + 1) y))
+    stepped : (e : ℕ) → segment_at s at ≡ Ok e → (y : Answer Taken) → step ≡ y → Few at (after_turn (read_on f s) (turn_step (e + 1) y))
     stepped e k (done (taken st r)) q =
-        let w = turn_on tables s from at st r (e + 1) (sym (turn_is tables s from at (End e) k) ∙ ap (turn_step (e + 1)) q) in
+        let w = turn_on tables s from at st r (e + 1) (sym (turn_is tables s from at (Ok e) k) ∙ ap (turn_step (e + 1)) q) in
         let m = ih st (e + 1) w.2 in
         let n = w.1 in
         omega arith
     stepped e k (refused refusal) q = omega arith
 
-    scanned : (x : Scanned) → segment_at s at ≡ x → Few at (after_turn (read_on f s) (turn_scan tables s from at x))
-    scanned (End e) k = stepped e k step refl
-    scanned (NotPermitted i) k = omega arith
-    scanned Unended k = omega arith
-    scanned Malformed k = omega arith
+    scanned : (x : Result ℕ ScanError) → segment_at s at ≡ x → Few at (after_turn (read_on f s) (turn_scan tables s from at x))
+    scanned (Ok e) k = stepped e k step refl
+    scanned (Err error) k = omega arith
 
     turned : Few at (after_turn (read_on f s) (turn_at tables s from at))
     unfolding turn_at

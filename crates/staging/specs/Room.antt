@@ -1,6 +1,6 @@
 -- Staging in a room, on any bytes: the tests, 15, then all removals and all puts.
 -- Assumes nothing.
-use Rattle.std.specs.Prelude.{ℕ, ◌+◌, ◌/◌, Bool, List, leb, length}
+use Rattle.std.specs.Prelude.{ℕ, ◌+◌, ◌/◌, Bool, List, leb, length, Result, Ok, Err}
 use Rattle.laws.specs.Choice.{pick}
 use Rattle.answers.specs.Answers.{Answer, done, refused, not_register, bad_account, over_quota}
 use Rattle.slots.specs.Slots.{slots_of}
@@ -9,15 +9,15 @@ use Rattle.services.specs.Services.{services_of}
 use Rattle.service_entries.specs.Room.{look_at, removes_in, puts_in}
 use Rattle.service_tests.specs.declared.Totals.{Totals}
 use Rattle.service_tests.specs.Tests.{test_all, no_totals}
-use Rattle.staging.specs.declared.Staged.{Staged}
-use Rattle.staging.specs.declared.Staged.TheVariants as staged
+use Rattle.staging.specs.declared.StageError.{StageError}
+use Rattle.staging.specs.declared.StageError.TheVariants.{NotRegister, NoAccount, Refused}
 
 -- "What each number means"
-abbrev pub staged_answer : Staged → Answer ℕ
-staged_answer (staged.Done n) = done n
-staged_answer staged.NotRegister = not_register
-staged_answer staged.NoAccount = bad_account
-staged_answer (staged.Refused x) = refused x
+abbrev pub staged_answer : Result ℕ StageError → Answer ℕ
+staged_answer (Ok n) = done n
+staged_answer (Err NotRegister) = not_register
+staged_answer (Err NoAccount) = bad_account
+staged_answer (Err (Refused x)) = refused x
 
 abbrev pub room_tests : List ℕ → ℕ → List ℕ → List ℕ → ℕ → Answer Totals
 room_tests room first s rows n = test_all first s rows (look_at room) (services_of s rows n) no_totals

@@ -1,6 +1,6 @@
 -- Staging on a room of good records is staging on the records, and what it leaves is good.
 -- Assumes nothing.
-use Rattle.std.specs.Prelude.{ℕ, ◌+◌, ◌/◌, ◌≤◌, ◌≡◌, false, leb}
+use Rattle.std.specs.Prelude.{ℕ, ◌+◌, ◌/◌, ◌≤◌, ◌≡◌, false, leb, Option}
 use Rattle.std.proofs.Math.Path.{refl, ap}
 use Rattle.std.proofs.Common.{◌∙◌, leb-true}
 use Rattle.std.proofs.Math.Bool.{true}
@@ -54,7 +54,7 @@ module _ (quota : ℕ) (start : List Record) (g : good_account quota start ≡ t
 
 -- ---- all removals, all puts
 
-module _ (quota first : ℕ) (s rows : List ℕ) (look : List ℕ → Known) where
+module _ (quota first : ℕ) (s rows : List ℕ) (look : List ℕ → Option Known) where
   removes_room : (vs : List Service) (rs : List Record) (t u : Totals) → Named s rows vs → test_all first s rows look vs t ≡ done u → good_account quota rs ≡ true
       → (removes_in s vs (room_bytes quota rs) ≡ room_bytes quota (remove_all s vs rs)) × (good_account quota (remove_all s vs rs) ≡ true)
   unfolding removes_in remove_all

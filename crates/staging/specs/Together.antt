@@ -2,11 +2,12 @@
 -- are tests of the start, and removals may all come before puts.
 -- Assumes nothing.
 use Prim.Native.Nat.{ℕ, zero, suc, ◌+◌, ◌/◌, ◌≤◌, ◌<◌}
-use Rattle.std.specs.Prelude.{◌≡◌, false, List, length}
+use Rattle.std.specs.Prelude.{◌≡◌, false, List, length, Some, None}
 use Rattle.std.proofs.Math.Path.{refl}
 use Rattle.std.proofs.Common.{◌∙◌, arith}
 use Rattle.std.proofs.Math.Bool.{true}
 use Rattle.std.proofs.Math.Option.{Option, none, some}
+use Rattle.std.specs.declared.option.Option as found
 use Rattle.laws.specs.Choice.{both, choose}
 use Rattle.answers.specs.Answers.{Answer, done, refused}
 use Rattle.syntax.specs.Bytes.{plain}
@@ -35,9 +36,9 @@ abbrev pub finish : Answer Totals → List Record → Answer (List Record)
 finish (done t) rs = done rs
 finish (refused refusal) rs = refused refusal
 
-window_same : (o : Option ℕ) (x : Answer (List Record)) (y : Answer Totals) (z : List Record) → x ≡ finish y z → enter_inside o x ≡ finish (test_inside o y) z
-window_same none x y z e = e
-window_same (some at) x y z e = refl
+window_same : (o : found.Option ℕ) (x : Answer (List Record)) (y : Answer Totals) (z : List Record) → x ≡ finish y z → enter_inside o x ≡ finish (test_inside o y) z
+window_same None x y z e = e
+window_same (Some at) x y z e = refl
 
 then_same : (x : Answer Totals) (enters : List Record → Answer (List Record)) (tests : Totals → Answer Totals) (ends : List Record → List Record) (rs : List Record)
     → ((t : Totals) → enters rs ≡ finish (tests t) (ends rs)) → and_then enters (finish x rs) ≡ finish (then_test tests x) (ends rs)

@@ -5,35 +5,42 @@
 ghost use Rattle.std.specs.Prelude.{◌≡◌, Bool, true, ◌*◌, ◌≤◌, length};
 ghost use Rattle.contents.specs.Written.{is_register};
 ghost use Rattle.contents.specs.Calls.{is_account, answer_on, bytes_after};
-ghost use Rattle.services.specs.Services.{services_of};
+ghost use Rattle.services.specs.Services.{services_of, counted_answer};
 ghost use Rattle.stages.specs.Stage.{stage_of};
 ghost use Rattle.service_entries.specs.Room.{removes_in};
+ghost use Rattle.staging.specs.declared.StageError.TheVariants.{Refused};
 ghost use Rattle.staging.specs.Few.{Rows};
 ghost use Rattle.staging.specs.Room.{staged_answer, room_tests, room_fits, room_answer, room_after};
 
-use answers::Refusal;
+use answers::{Reason, Refusal};
 use checking::is_register;
-use interchange::reader::{Reading, read};
+use interchange::reader::read;
 use rooms::{first_day, room_end, room_start};
 use service_entries::{put_all, put_orders, remove_all};
-use service_tests::{Tested, Totals, test_all};
+use service_tests::{Totals, test_all};
 
 const SLOT: usize = 140;
 
 // How many orders are kept: as many as a register has slots, so that none is missing where the services fit.
 const ORDERS: usize = 256;
 
-/// What came of staging an interchange.
-#[derive(Clone, Copy)]
-pub enum Staged {
-    /// All services entered; how many there are.
-    Done(usize),
+/// Why no service of an interchange entered.
+#[derive(Clone, Copy, PartialEq, Eq, Debug)]
+pub enum StageError {
     /// The buffer is not a register.
     NotRegister,
     /// The account is not 1 to 8.
     NoAccount,
     /// What the reader or a service's test refuses, or the quota.
     Refused(Refusal),
+}
+
+impl From<Refusal> for StageError {
+    ghost from_gives = { λ refusal error. error ≡ Refused refusal };
+
+    fn from(refusal: Refusal) -> StageError {
+        StageError::Refused(refusal)
+    }
 }
 
 // 15: whether a room holds the records that the services leave in the end.
@@ -62,36 +69,40 @@ fn remove_any(room: &mut [u8], s: &[u8], rows: &[u32], n: usize, removals: usize
 
 // Stages the services of n rows in an account's room: all tests first, then all removals, then all puts, so that the room never holds
 // more than it does in the end.
-fn stage_room(room: &mut [u8], first: usize, s: &[u8], rows: &[u32], n: usize) -> Staged
-    ensures told { staged_answer result ≡ room_answer room.old s.now (room_tests room.old first s.now rows.now n) }
+fn stage_room(
+    room: &mut [u8],
+    first: usize,
+    s: &[u8],
+    rows: &[u32],
+    n: usize,
+) -> Result<usize, Refusal>
+    ensures told { counted_answer result ≡ room_answer room.old s.now (room_tests room.old first s.now rows.now n) }
     ensures left { room.new ≡ room_after room.old first s.now rows.now n (room_tests room.old first s.now rows.now n) }
 {
     let mut orders = [0u8; 19200];
-    match test_all(&mut orders, room, first, s, rows, n) {
-        Tested::Refused(refusal) => Staged::Refused(refusal),
-        Tested::Passed(totals) => {
-            if !fits(room, totals) {
-                return Staged::Refused(Refusal {
-                    number: 15,
-                    position: s.len(),
-                    part: 0,
-                });
-            }
-            remove_any(room, s, rows, n, totals.removals);
-            if ORDERS < totals.services {
-                put_all(room, first, s, rows, n);
-                return Staged::Done(totals.services);
-            }
-            put_orders(room, &orders, totals.services);
-            Staged::Done(totals.services)
-        }
+    let totals = test_all(&mut orders, room, first, s, rows, n)?;
+    if !fits(room, totals) {
+        return Err(Reason::OverQuota.at(s.len()));
     }
+    remove_any(room, s, rows, n, totals.removals);
+    if ORDERS < totals.services {
+        put_all(room, first, s, rows, n);
+    } else {
+        put_orders(room, &orders, totals.services);
+    }
+    Ok(totals.services)
 }
 
 // The same in a register, where the buffer begins with the n rows of an interchange that is accepted, whatever the wish.
-fn stage_rows(b: &mut [u8], account: usize, s: &[u8], rows: &[u32], n: usize) -> Staged
+fn stage_rows(
+    b: &mut [u8],
+    account: usize,
+    s: &[u8],
+    rows: &[u32],
+    n: usize,
+) -> Result<usize, Refusal>
     requires { (is_register b.old ≡ true) × (is_account account ≡ true) × (length rows.now ≡ 45000) × (3 * n ≤ 45000) }
-    ensures told { (wish : Bool) → Rows wish s.now n rows.now → staged_answer result ≡ answer_on b.old account (λ v. (stage_of wish s.now v).answer) }
+    ensures told { (wish : Bool) → Rows wish s.now n rows.now → counted_answer result ≡ answer_on b.old account (λ v. (stage_of wish s.now v).answer) }
     ensures left { (wish : Bool) → Rows wish s.now n rows.now → b.new ≡ bytes_after b.old account (λ v. (stage_of wish s.now v).records) }
 {
     let first = first_day(b);
@@ -102,32 +113,35 @@ fn stage_rows(b: &mut [u8], account: usize, s: &[u8], rows: &[u32], n: usize) ->
 }
 
 // Reads the interchange, then stages it. 45,000 numbers hold the rows of 60,000 bytes, since a segment takes four.
-fn stage_read(b: &mut [u8], account: usize, s: &[u8], wish: bool) -> Staged
+fn stage_read(b: &mut [u8], account: usize, s: &[u8], wish: bool) -> Result<usize, Refusal>
     requires { (is_register b.old ≡ true) × (is_account account ≡ true) }
-    ensures told { staged_answer result ≡ answer_on b.old account (λ v. (stage_of wish s.now v).answer) }
+    ensures told { counted_answer result ≡ answer_on b.old account (λ v. (stage_of wish s.now v).answer) }
     ensures left { b.new ≡ bytes_after b.old account (λ v. (stage_of wish s.now v).records) }
 {
     let mut rows = [0u32; 45000];
-    match read(s, wish, &mut rows) {
-        Reading::Rows(n) => stage_rows(b, account, s, &rows, n),
-        Reading::Refused(refusal) => Staged::Refused(refusal),
-    }
+    let n = read(s, wish, &mut rows)?;
+    stage_rows(b, account, s, &rows, n)
 }
 
-/// Stages an interchange in an account of a register: all its services enter as pending, or none, and then nothing changes. The wish is whether the
+/// Stages an interchange in an account of a register: all its services enter as pending, and it tells how many they are; or none, and then nothing changes. The wish is whether the
 /// caller asks for the old reading of a POP with neither form.
-pub fn stage(b: &mut [u8], account: usize, interchange: &[u8], wish: bool) -> Staged
+pub fn stage(
+    b: &mut [u8],
+    account: usize,
+    interchange: &[u8],
+    wish: bool,
+) -> Result<usize, StageError>
     ensures told { staged_answer result ≡ answer_on b.old account (λ v. (stage_of wish interchange.now v).answer) }
     ensures left { b.new ≡ bytes_after b.old account (λ v. (stage_of wish interchange.now v).records) }
 {
     if !is_register(b) {
-        return Staged::NotRegister;
+        return Err(StageError::NotRegister);
     }
     if account < 1 {
-        return Staged::NoAccount;
+        return Err(StageError::NoAccount);
     }
     if 8 < account {
-        return Staged::NoAccount;
+        return Err(StageError::NoAccount);
     }
-    stage_read(b, account, interchange, wish)
+    Ok(stage_read(b, account, interchange, wish)?)
 }

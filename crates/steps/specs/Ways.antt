@@ -1,23 +1,22 @@
 -- The ways through one segment's step.
 -- Assumes nothing.
-use Rattle.std.specs.Prelude.{◌≡◌, refl, Bool, true, false, List, ℕ, ◌<◌, eqb, ltb, length}
+use Rattle.std.specs.Prelude.{◌≡◌, refl, Bool, true, false, List, ℕ, ◌<◌, eqb, ltb, length, Some, None, Result, Ok, Err}
 use Rattle.std.proofs.Common.{sym, ap, ◌∙◌, arith}
 use borrow.Author.Tests.{eq-eqb, ne_eqb, lt-ltb, le-ltb}
 use Rattle.laws.specs.Choice.{both, both_false}
 use Rattle.answers.specs.Answers.{Answer, done, refused, wrong_envelope, out_of_place}
 use Rattle.answers.specs.Laws.{one_case}
+use Rattle.answers.specs.declared.Refusal.{Refusal}
 use Rattle.syntax.specs.Segment.{tag_number}
 use Rattle.std.proofs.Math.Seq.{take-length}
 use Rattle.std.proofs.Math.Nat.{sub-zero}
 use Rattle.parts.specs.Places.{bytes_of}
 use Rattle.parts.specs.declared.Part.{Part}
 use Rattle.placing.specs.declared.Place.{Place}
-use Rattle.placing.specs.declared.Stepped.TheVariants.{Placed, OutOfPlace}
 use Rattle.placing.specs.Table.{Table}
 use Rattle.messages.specs.Tags.{UIB, UIH, UIT, UIZ}
 use Rattle.messages.specs.Types.{is_period}
 use Rattle.placing.specs.Rule.{step_of, group_of}
-use Rattle.envelope.specs.declared.Opened.TheVariants.{Dialogue, Wrong}
 use Rattle.envelope.specs.Envelope.{uib_of, uih_of, uit_of, uiz_of}
 use Rattle.period.specs.Period.{period_of}
 use Rattle.steps.specs.declared.state.Phase.{Phase}
@@ -25,7 +24,6 @@ use Rattle.steps.specs.declared.state.Phase.TheVariants.{Inside}
 use Rattle.steps.specs.declared.state.State.{State}
 use Rattle.steps.specs.declared.state.Row.{Row}
 use Rattle.steps.specs.declared.state.Step.{Step}
-use Rattle.steps.specs.declared.state.Step.TheVariants.{Next, Refused}
 use Rattle.steps.specs.State.{one_more, opened_state, closed_state, onward_state, ended_state}
 use Rattle.steps.specs.Step.{Taken, taken, step_answer, row_of, opening, headed, closing, between_messages, trailing, judged, placed, inside_message, step_by, segment_step}
 
@@ -37,11 +35,11 @@ module _ (st : State) (at : ℕ) (g : List ℕ) where
   unfolding opening
   opening_other h = rw (ne_eqb (tag_number g) UIB h)
 
-  pub opening_good : tag_number g ≡ UIB → (p : Part) → uib_of g ≡ Dialogue p → done (taken (opened_state st at p) (row_of at g 0)) ≡ opening st at g
+  pub opening_good : tag_number g ≡ UIB → (p : Part) → uib_of g ≡ Some p → done (taken (opened_state st at p) (row_of at g 0)) ≡ opening st at g
   unfolding opening
   opening_good h p e = rw (eq-eqb (tag_number g) UIB h, e)
 
-  pub opening_wrong : tag_number g ≡ UIB → uib_of g ≡ Wrong → wrong_envelope at ≡ opening st at g
+  pub opening_wrong : tag_number g ≡ UIB → uib_of g ≡ None → wrong_envelope at ≡ opening st at g
   unfolding opening
   opening_wrong h e = rw (eq-eqb (tag_number g) UIB h, e)
 
@@ -92,11 +90,11 @@ module _ (st : State) (at : ℕ) (g : List ℕ) where
     placed_other h e = rw (ne_eqb (tag_number g) UIT h, e)
 
   module _ (t : Table) (reference : List ℕ) where
-    pub inside_placed : (p : Place) → step_of t st.place (tag_number g) ≡ Placed p → placed st at g reference (group_of t p) p ≡ inside_message t st at g reference
+    pub inside_placed : (p : Place) → step_of t st.place (tag_number g) ≡ Some p → placed st at g reference (group_of t p) p ≡ inside_message t st at g reference
     unfolding inside_message
     inside_placed p e = rw e
 
-    pub inside_out : step_of t st.place (tag_number g) ≡ OutOfPlace → out_of_place at ≡ inside_message t st at g reference
+    pub inside_out : step_of t st.place (tag_number g) ≡ None → out_of_place at ≡ inside_message t st at g reference
     unfolding inside_message
     inside_out e = rw e
 
@@ -105,13 +103,13 @@ pub whole : (g : List ℕ) → bytes_of g (record { from = 0; to = length g }) �
 whole g = rw sub-zero (take-length g)
 
 -- what a step answers fixes its case
-abbrev case : Answer Taken → Step
-case (done (taken st r)) = Next st r
-case (refused refusal) = Refused refusal
+abbrev case : Answer Taken → Result Step Refusal
+case (done (taken st r)) = Ok (record { state = st; row = r })
+case (refused refusal) = Err refusal
 
-back : (x : Step) → case (step_answer x) ≡ x
-back (Next st r) = refl
-back (Refused x) = refl
+back : (x : Result Step Refusal) → case (step_answer x) ≡ x
+back (Ok x) = refl
+back (Err x) = refl
 
-pub step_case : (x y : Step) → step_answer x ≡ step_answer y → x ≡ y
+pub step_case : (x y : Result Step Refusal) → step_answer x ≡ step_answer y → x ≡ y
 step_case = one_case step_answer case back

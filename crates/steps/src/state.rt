@@ -3,13 +3,12 @@
 ghost use Rattle.std.specs.Prelude.{◌≡◌};
 ghost use Rattle.steps.specs.State.{one_more, opening_state, opened_state, headed_state, onward_state, ended_state, closed_state, moved_state, with_state};
 
-use answers::Refusal;
 use messages::MessageType;
 use parts::Part;
 use placing::Place;
 
 /// What may come next.
-#[derive(Clone, Copy)]
+#[derive(Clone, Copy, PartialEq, Eq, Debug)]
 pub enum Phase {
     /// The UIB.
     Opening,
@@ -51,11 +50,11 @@ pub struct Row {
     pub tag: u32,
 }
 
-/// What a segment comes to: the next state and the segment's row, or a refusal.
+/// What a good segment comes to: the next state, and the segment's row.
 #[derive(Clone, Copy)]
-pub enum Step {
-    Next(State, Row),
-    Refused(Refusal),
+pub struct Step {
+    pub state: State,
+    pub row: Row,
 }
 
 /// One more, up to 65,535, which no interchange reaches.
@@ -89,20 +88,11 @@ impl State {
     pub(crate) fn opened(self, at: usize, dialogue: Part) -> Self
         ensures { result ≡ opened_state self at dialogue }
     {
-        let message = self.message;
-        let reference = self.reference;
-        let place = self.place;
         State {
             phase: Phase::Between,
-            message,
-            wish: self.wish,
-            messages: self.messages,
-            segments: self.segments,
             opened_at: at,
             dialogue,
-            headed_at: self.headed_at,
-            reference,
-            place,
+            ..self
         }
     }
 
@@ -110,19 +100,14 @@ impl State {
     pub(crate) fn headed(self, at: usize, message: MessageType, reference: Part) -> Self
         ensures { result ≡ headed_state self at message reference }
     {
-        let dialogue = self.dialogue;
-        let start = Place::start();
         State {
             phase: Phase::Inside,
             message,
-            wish: self.wish,
-            messages: self.messages,
             segments: 1,
-            opened_at: self.opened_at,
-            dialogue,
             headed_at: at,
             reference,
-            place: start,
+            place: Place::start(),
+            ..self
         }
     }
 
@@ -130,20 +115,12 @@ impl State {
     fn with(self, phase: Phase, messages: usize, segments: usize, place: Place) -> Self
         ensures { result ≡ with_state self phase messages segments place }
     {
-        let message = self.message;
-        let dialogue = self.dialogue;
-        let reference = self.reference;
         State {
             phase,
-            message,
-            wish: self.wish,
             messages,
             segments,
-            opened_at: self.opened_at,
-            dialogue,
-            headed_at: self.headed_at,
-            reference,
             place,
+            ..self
         }
     }
 

@@ -2,29 +2,26 @@
 
 ghost use Rattle.std.specs.Prelude.{◌≡◌};
 ghost use Rattle.answers.specs.Answers as answers;
+ghost use Rattle.answers.specs.Reasons.{number_of};
 ghost use Rattle.envelope.specs.Envelope.{uih_of};
 ghost use Rattle.period.specs.Period.{period_of};
 ghost use Rattle.placing.specs.Tables.{table_in};
 ghost use Rattle.steps.specs.Step.{step_answer, row_of, opening, headed, closing, between_messages, trailing, judged, placed, inside_message, segment_step};
 
 use crate::state::{Phase, Row, State, Step, one_more};
-use answers::Refusal;
-use envelope::{Headed, Opened, check_uit, check_uiz, read_uib, read_uih};
+use answers::{Reason, Refusal};
+use envelope::{HeadError, check_uit, check_uiz, read_uib, read_uih};
 use messages::{UIB, UIH, UIT, UIZ, is_12b, is_period};
 use parts::Part;
-use period::{Period, read_period};
-use placing::{Place, Stepped};
+use period::read_period;
+use placing::Place;
 use segment_tables::{table_of, tsdupd_12b};
 use syntax::segment::tag_at;
 
-fn refused(number: u8, position: usize) -> Step
-    ensures { step_answer result ≡ answers.refused (answers.naming number position) }
+fn refused(reason: Reason, position: usize) -> Result<Step, Refusal>
+    ensures { step_answer result ≡ answers.refused (answers.naming (number_of reason) position) }
 {
-    Step::Refused(Refusal {
-        number,
-        position,
-        part: 0,
-    })
+    Err(reason.at(position))
 }
 
 fn row(at: usize, segment: &[u8], group: u32) -> Row
@@ -38,47 +35,53 @@ fn row(at: usize, segment: &[u8], group: u32) -> Row
 }
 
 // The UIB is to come.
-fn open_dialogue(st: State, at: usize, segment: &[u8]) -> Step
+fn open_dialogue(st: State, at: usize, segment: &[u8]) -> Result<Step, Refusal>
     ensures { step_answer result ≡ opening st at segment.now }
 {
     if tag_at(segment, 0) != UIB {
-        return refused(7, at);
+        return refused(Reason::WrongEnvelope, at);
     }
     match read_uib(segment) {
-        Opened::Dialogue(dialogue) => Step::Next(st.opened(at, dialogue), row(at, segment, 0)),
-        Opened::Wrong => refused(7, at),
+        Some(dialogue) => Ok(Step {
+            state: st.opened(at, dialogue),
+            row: row(at, segment, 0),
+        }),
+        None => refused(Reason::WrongEnvelope, at),
     }
 }
 
 // A UIH between messages.
-fn head_message(st: State, at: usize, segment: &[u8]) -> Step
+fn head_message(st: State, at: usize, segment: &[u8]) -> Result<Step, Refusal>
     ensures { step_answer result ≡ headed st at segment.now (uih_of segment.now) }
 {
     match read_uih(segment) {
-        Headed::Message(message, reference) => Step::Next(
-            st.headed(at, message, reference),
-            row(at, segment, 0),
-        ),
-        Headed::Missing => refused(7, at),
-        Headed::Unknown => refused(8, at),
+        Ok(head) => Ok(Step {
+            state: st.headed(at, head.message, head.reference),
+            row: row(at, segment, 0),
+        }),
+        Err(HeadError::Missing) => refused(Reason::WrongEnvelope, at),
+        Err(HeadError::Unknown) => refused(Reason::UnknownType, at),
     }
 }
 
 // A UIZ between messages.
-fn close_dialogue(st: State, at: usize, segment: &[u8], dialogue: &[u8]) -> Step
+fn close_dialogue(st: State, at: usize, segment: &[u8], dialogue: &[u8]) -> Result<Step, Refusal>
     ensures { step_answer result ≡ closing st at segment.now dialogue.now }
 {
     if st.messages == 0 {
-        return refused(7, at);
+        return refused(Reason::WrongEnvelope, at);
     }
     if check_uiz(segment, dialogue, st.messages) {
-        return Step::Next(st.closed(), row(at, segment, 0));
+        return Ok(Step {
+            state: st.closed(),
+            row: row(at, segment, 0),
+        });
     }
-    refused(7, at)
+    refused(Reason::WrongEnvelope, at)
 }
 
 // Between messages.
-fn next_message(st: State, at: usize, segment: &[u8], dialogue: &[u8]) -> Step
+fn next_message(st: State, at: usize, segment: &[u8], dialogue: &[u8]) -> Result<Step, Refusal>
     ensures { step_answer result ≡ between_messages st at segment.now dialogue.now }
 {
     let tag = tag_at(segment, 0);
@@ -88,7 +91,7 @@ fn next_message(st: State, at: usize, segment: &[u8], dialogue: &[u8]) -> Step
     if tag == UIZ {
         return close_dialogue(st, at, segment, dialogue);
     }
-    refused(7, at)
+    refused(Reason::WrongEnvelope, at)
 }
 
 // The message's UIT, placed.
@@ -99,17 +102,26 @@ fn end_message(
     reference: &[u8],
     place: Place,
     group: u32,
-) -> Step
+) -> Result<Step, Refusal>
     ensures { step_answer result ≡ trailing st at segment.now reference.now place group }
 {
     if check_uit(segment, reference, one_more(st.segments)) {
-        return Step::Next(st.ended(place), row(at, segment, group));
+        return Ok(Step {
+            state: st.ended(place),
+            row: row(at, segment, group),
+        });
     }
-    refused(7, at)
+    refused(Reason::WrongEnvelope, at)
 }
 
 // A period, placed.
-fn judge_period(st: State, at: usize, segment: &[u8], place: Place, group: u32) -> Step
+fn judge_period(
+    st: State,
+    at: usize,
+    segment: &[u8],
+    place: Place,
+    group: u32,
+) -> Result<Step, Refusal>
     ensures { step_answer result ≡ judged st at segment.now place group (period_of st.wish segment.now) }
 {
     let whole = Part {
@@ -117,11 +129,13 @@ fn judge_period(st: State, at: usize, segment: &[u8], place: Place, group: u32) 
         to: segment.len(),
     };
     match read_period(segment, whole, st.wish) {
-        Period::Good(_, _, _) => Step::Next(st.onward(place), row(at, segment, group)),
-        Period::Wrong(fault) => Step::Refused(Refusal {
-            number: 10,
-            position: at,
+        Ok(_) => Ok(Step {
+            state: st.onward(place),
+            row: row(at, segment, group),
+        }),
+        Err(fault) => Err(Refusal {
             part: fault.number(),
+            ..Reason::WrongPeriod.at(at)
         }),
     }
 }
@@ -134,7 +148,7 @@ fn take_segment(
     reference: &[u8],
     group: u32,
     place: Place,
-) -> Step
+) -> Result<Step, Refusal>
     ensures { step_answer result ≡ placed st at segment.now reference.now group place }
 {
     let tag = tag_at(segment, 0);
@@ -145,22 +159,37 @@ fn take_segment(
     if is_period(message, tag, group) {
         return judge_period(st, at, segment, place, group);
     }
-    Step::Next(st.onward(place), row(at, segment, group))
+    Ok(Step {
+        state: st.onward(place),
+        row: row(at, segment, group),
+    })
 }
 
 // In a message, by its table.
-fn next_segment(st: State, at: usize, segment: &[u8], reference: &[u8], table: &[[u32; 8]]) -> Step
+fn next_segment(
+    st: State,
+    at: usize,
+    segment: &[u8],
+    reference: &[u8],
+    table: &[[u32; 8]],
+) -> Result<Step, Refusal>
     ensures { step_answer result ≡ inside_message table.now st at segment.now reference.now }
 {
     let place = st.place;
     match place.step(table, tag_at(segment, 0)) {
-        Stepped::Placed(p) => take_segment(st, at, segment, reference, p.group(table), p),
-        Stepped::OutOfPlace => refused(9, at),
+        Some(p) => take_segment(st, at, segment, reference, p.group(table), p),
+        None => refused(Reason::OutOfPlace, at),
     }
 }
 
 // Inside a message, by the table of its type; that of D.12B is not among the rows that are lent.
-fn in_message(st: State, at: usize, segment: &[u8], reference: &[u8], tables: &[[u32; 8]]) -> Step
+fn in_message(
+    st: State,
+    at: usize,
+    segment: &[u8],
+    reference: &[u8],
+    tables: &[[u32; 8]],
+) -> Result<Step, Refusal>
     ensures { step_answer result ≡ inside_message (table_in tables.now st.message) st at segment.now reference.now }
 {
     let message = st.message;
@@ -180,7 +209,7 @@ pub fn step_segment(
     dialogue: &[u8],
     reference: &[u8],
     tables: &[[u32; 8]],
-) -> Step
+) -> Result<Step, Refusal>
     ensures { step_answer result ≡ segment_step tables.now st at segment.now dialogue.now reference.now }
 {
     let phase = st.phase;
@@ -188,6 +217,6 @@ pub fn step_segment(
         Phase::Opening => open_dialogue(st, at, segment),
         Phase::Between => next_message(st, at, segment, dialogue),
         Phase::Inside => in_message(st, at, segment, reference, tables),
-        Phase::Closed => refused(7, at),
+        Phase::Closed => refused(Reason::WrongEnvelope, at),
     }
 }

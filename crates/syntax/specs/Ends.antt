@@ -1,12 +1,12 @@
 -- What callers cite of a segment: where its end lies, and that what stands before the end decides the answer.
 -- Assumes nothing.
-use Rattle.std.specs.Prelude.{◌≡◌, refl, Bool, true, false, List, [], ◌∷◌, ◌++◌, ℕ, zero, suc, ◌+◌, ◌-◌, ◌≤◌, ◌<◌, ltb, length, take, drop}
+use Rattle.std.specs.Prelude.{◌≡◌, refl, Bool, true, false, List, [], ◌∷◌, ◌++◌, ℕ, zero, suc, ◌+◌, ◌-◌, ◌≤◌, ◌<◌, ltb, length, take, drop, Result, Ok, Err}
 use Rattle.std.proofs.Common.{sym, ap, ◌∙◌, arith, not-suc-le-zero, ltb-true, lt-ltb, length-take, length-drop, length-append}
 use Rattle.std.proofs.lemmas.List.{drop-append-le}
 use Rattle.laws.specs.Choice.{all, choose, both_parts, false≢true}
 use Rattle.laws.specs.Lists.{drop_take}
-use Rattle.syntax.specs.declared.segment.Scanned.{Scanned}
-use Rattle.syntax.specs.declared.segment.Scanned.TheVariants.{End, NotPermitted, Unended, Malformed}
+use Rattle.syntax.specs.declared.segment.ScanError.{ScanError}
+use Rattle.syntax.specs.declared.segment.ScanError.TheVariants.{NotPermitted, Unended, Malformed}
 use Rattle.syntax.specs.Bytes.{permitted_of, stands, releases}
 use Rattle.syntax.specs.Pieces.{first_piece, tag_text}
 use Rattle.syntax.specs.Firsts.{first_take, first_length}
@@ -19,19 +19,13 @@ pub record Ended (s : List ℕ) (at e : ℕ) : Type 0 where
   pub place : e ≡ at + length (body_at s at)
   pub inside : e < length s
 
-apart : (e j : ℕ) → NotPermitted j ≡ End e → ⊥
-apart e j q = let z : ◌≡◌ {A = ℕ} 0 1 = cc in omega arith
+apart : (x : ScanError) (e : ℕ) → Err x ≡ Ok e → ⊥
+apart x e q = let z : ◌≡◌ {A = ℕ} 0 1 = cc in omega arith
 
-apart₂ : (e : ℕ) → Unended ≡ End e → ⊥
-apart₂ e q = let z : ◌≡◌ {A = ℕ} 0 1 = cc in omega arith
-
-apart₃ : (e : ℕ) → Malformed ≡ End e → ⊥
-apart₃ e q = let z : ◌≡◌ {A = ℕ} 0 1 = cc in omega arith
-
-end_is : (i e : ℕ) → End i ≡ End e → i ≡ e
+end_is : (i e : ℕ) → ◌≡◌ {A = Result ℕ ScanError} (Ok i) (Ok e) → i ≡ e
 end_is i e q = cc
 
-pub ended : (s : List ℕ) (at e : ℕ) → segment_at s at ≡ End e → Ended s at e
+pub ended : (s : List ℕ) (at e : ℕ) → segment_at s at ≡ Ok e → Ended s at e
 unfolding scan_of
 ended s at e q =
     choose (all permitted_of (body_at s at))
@@ -43,12 +37,12 @@ ended s at e q =
     let p = end_is (at + length (body_at s at)) e (rw (f, h, w) at q) in
     let l = ltb-true (at + length (body_at s at)) (length s) h in
     record { fine = f; formed = w; place = sym p; inside = omega arith })
-    (λ w. absurd (apart₃ e (rw (f, h, w) at q))))
-    (λ h. absurd (apart₂ e (rw (f, h) at q))))
-    (λ f. absurd (apart e (at + permitted_run (body_at s at)) (rw f at q)))
+    (λ w. absurd (apart Malformed e (rw (f, h, w) at q))))
+    (λ h. absurd (apart Unended e (rw (f, h) at q))))
+    (λ f. absurd (apart (NotPermitted (at + permitted_run (body_at s at))) e (rw f at q)))
 
 -- the bytes from a segment's start to its end are its body
-pub body_slice : (s : List ℕ) (at e : ℕ) → segment_at s at ≡ End e → take (e - at) (drop at s) ≡ body_at s at
+pub body_slice : (s : List ℕ) (at e : ℕ) → segment_at s at ≡ Ok e → take (e - at) (drop at s) ≡ body_at s at
 body_slice s at e q =
     let w = ended s at e q in
     let d : e - at ≡ length (body_at s at) = omega (arith, w.place) in
@@ -69,7 +63,7 @@ formed_length g q =
     let h = first_length 43 false g in
     omega arith
 
-pub end_within : (s : List ℕ) (at e : ℕ) → segment_at s at ≡ End e → (at + 3 ≤ e) × (e < length s)
+pub end_within : (s : List ℕ) (at e : ℕ) → segment_at s at ≡ Ok e → (at + 3 ≤ e) × (e < length s)
 end_within s at e q =
     let w = ended s at e q in
     let l = formed_length (body_at s at) w.formed in
@@ -85,7 +79,7 @@ number_take (suc (suc (suc n))) (a ∷ []) h = refl
 number_take (suc (suc (suc n))) (a ∷ b ∷ []) h = refl
 number_take (suc (suc (suc n))) (a ∷ b ∷ c ∷ l) h = refl
 
-pub end_tag : (s : List ℕ) (at e : ℕ) → segment_at s at ≡ End e → tag_number (drop at s) ≡ tag_number (body_at s at)
+pub end_tag : (s : List ℕ) (at e : ℕ) → segment_at s at ≡ Ok e → tag_number (drop at s) ≡ tag_number (body_at s at)
 end_tag s at e q =
     let w = ended s at e q in
     let l = formed_length (body_at s at) w.formed in
@@ -137,13 +131,13 @@ bad_decides r (b ∷ l) t q =
     (λ f. rw (p, f) (refl, refl)))
 
 -- what a byte that is not permitted tells
-is_bad : Scanned → Bool
-is_bad (End e) = false
-is_bad (NotPermitted j) = true
-is_bad Unended = false
-is_bad Malformed = false
+is_bad : Result ℕ ScanError → Bool
+is_bad (Ok e) = false
+is_bad (Err (NotPermitted j)) = true
+is_bad (Err Unended) = false
+is_bad (Err Malformed) = false
 
-bad_is : (i j : ℕ) → NotPermitted i ≡ NotPermitted j → i ≡ j
+bad_is : (i j : ℕ) → ◌≡◌ {A = Result ℕ ScanError} (Err (NotPermitted i)) (Err (NotPermitted j)) → i ≡ j
 bad_is i j q = cc
 
 good : (n at : ℕ) (g : List ℕ) → all permitted_of g ≡ true → is_bad (scan_of n at g) ≡ false
@@ -152,7 +146,7 @@ good n at g f =
     rw f
     (choose (ltb (at + length g) n) (λ h. rw h (choose (well_formed g) (λ w. rw w) (λ w. rw w))) (λ h. rw h))
 
-bad : (s : List ℕ) (at j : ℕ) → segment_at s at ≡ NotPermitted j → (all permitted_of (body_at s at) ≡ false) × (j ≡ at + permitted_run (body_at s at))
+bad : (s : List ℕ) (at j : ℕ) → segment_at s at ≡ Err (NotPermitted j) → (all permitted_of (body_at s at) ≡ false) × (j ≡ at + permitted_run (body_at s at))
 unfolding scan_of is_bad
 bad s at j q =
     choose (all permitted_of (body_at s at))
@@ -165,7 +159,7 @@ run_short [] q = absurd (false≢true (sym q))
 run_short (b ∷ g) q =
     choose (permitted_of b) (λ f. rw f (let h = run_short g (rw f at q) in omega arith)) (λ f. rw f (omega arith))
 
-pub bad_within : (s : List ℕ) (at j : ℕ) → segment_at s at ≡ NotPermitted j → (at ≤ j) × (j < length s)
+pub bad_within : (s : List ℕ) (at j : ℕ) → segment_at s at ≡ Err (NotPermitted j) → (at ≤ j) × (j < length s)
 bad_within s at j q =
     let w = bad s at j q in
     let r = run_short (body_at s at) w.0 in
@@ -173,7 +167,7 @@ bad_within s at j q =
     let d = length-drop at s in
     (omega arith, omega arith)
 
-pub bad_stays : (s t : List ℕ) (at j : ℕ) → segment_at s at ≡ NotPermitted j → segment_at (take (j + 1) s ++ t) at ≡ NotPermitted j
+pub bad_stays : (s t : List ℕ) (at j : ℕ) → segment_at s at ≡ Err (NotPermitted j) → segment_at (take (j + 1) s ++ t) at ≡ Err (NotPermitted j)
 unfolding scan_of
 bad_stays s t at j q =
     let h = bad_within s at j q in
@@ -183,4 +177,4 @@ bad_stays s t at j q =
     let d = bad_decides false (drop at s) t w.0 in
     let b : body_at (take (j + 1) s ++ t) at ≡ first_piece 39 false (take (suc m) (drop at s) ++ t) =
     ap (λ (n : ℕ). first_piece 39 false (drop at (take n s ++ t))) e ∙ ap (first_piece 39 false) (front s t at (suc m) (omega arith)) in
-    rw (b, d.1, d.0) (ap NotPermitted (sym w.1))
+    rw (b, d.1, d.0) (ap (λ (k : ℕ). Err (NotPermitted k)) (sym w.1))

@@ -1,12 +1,12 @@
 -- The end of a segment by a scan that counts no parts.
 -- Assumes nothing.
-use Rattle.std.specs.Prelude.{◌≡◌, refl, Bool, true, ltb, eqb, drop, get_or}
+use Rattle.std.specs.Prelude.{◌≡◌, refl, Bool, true, Option, Some, None, ltb, eqb, drop, get_or}
 use Rattle.std.proofs.Common.{◌∙◌, add-zero, drop-drop}
 use Rattle.std.proofs.Math.Bool.{false}
 use mathlib.Core.List.{List, [], ◌∷◌}
 use Prim.Native.Nat.{ℕ, zero, suc, ◌+◌, ◌≤◌, ◌<◌}
 use native.Mathlib.Omega.{arith}
-use borrow.Author.Tests.{le-ltb, lt-ltb}
+use borrow.Author.Tests.{le-ltb, lt-ltb, ltb-true, ltb-false}
 use Rattle.std.proofs.Math.ListN.{length}
 use Rattle.laws.specs.Choice.{pick, both, all, choose}
 use Rattle.laws.specs.Lists.{drop_here, drop_past}
@@ -122,3 +122,30 @@ end_body s at h =
     choose (both (all permitted_of (first_piece 39 false (drop at s))) (ltb (at + length (first_piece 39 false (drop at s))) (length s)))
     (λ p. rw p)
     (λ p. let g = rw p at h in absurd (omega arith))
+
+-- an index as an end, and none where it is the input's length
+unfoldable pub told_of : ℕ → ℕ → Option ℕ
+told_of n e = pick (ltb e n) (Some e) None
+
+pub told_some : (n e : ℕ) → e < n → Some e ≡ told_of n e
+unfolding told_of
+told_some n e h = rw (lt-ltb e n h)
+
+pub told_none : (n e : ℕ) → n ≤ e → None ≡ told_of n e
+unfolding told_of
+told_none n e h = rw (le-ltb e n h)
+
+-- and back
+pub told_is : (n e f : ℕ) → told_of n e ≡ Some f → (e ≡ f) × (e < n)
+unfolding told_of
+told_is n e f q =
+    choose (ltb e n)
+    (λ p. let g = rw p at q in (cc, ltb-true e n p))
+    (λ p. let g = rw p at q in absurd cc)
+
+pub told_past : (n e : ℕ) → told_of n e ≡ None → n ≤ e
+unfolding told_of
+told_past n e q =
+    choose (ltb e n)
+    (λ p. let g = rw p at q in absurd cc)
+    (λ p. ltb-false e n p)

@@ -9,7 +9,7 @@ use Rattle.laws.specs.Choice.{both, all, choose, both_false}
 use Rattle.laws.specs.Lists.{drop_take}
 use Rattle.syntax.specs.Bytes.{permitted_of, stands, releases}
 use Rattle.syntax.specs.Pieces.{first_piece}
-use Rattle.syntax.specs.Found.{found_end, end_from}
+use Rattle.syntax.specs.Found.{found_end, end_from, told_of}
 
 -- the first piece of a front is the front of the first piece
 first_front : (c : ℕ) (r : Bool) (k : ℕ) (l : List ℕ) → first_piece c r (take k l) ≡ take k (first_piece c r l)
@@ -43,3 +43,17 @@ end_front s m i h =
     ∙ choose (ltb (i + length g) m)
     (λ p. found_within (length s) m i g h (ltb-true (i + length g) m p))
     (λ p. found_past (length s) m i g h (ltb-false (i + length g) m p))
+
+-- and is told so
+pub told_front : (s : List ℕ) (m i : ℕ) → m ≤ length s → told_of m (end_from (take m s) i) ≡ told_of m (end_from s i)
+unfolding told_of
+told_front s m i h =
+    let e = end_front s m i h in
+    choose (ltb (end_from s i) m)
+    (λ p.
+    let l = ltb-true (end_from s i) m p in
+    let f : end_from (take m s) i ≡ end_from s i = omega arith in
+    rw f)
+    (λ p.
+    let l = ltb-false (end_from s i) m p in
+    rw (le-ltb (end_from (take m s) i) m (omega arith), p))

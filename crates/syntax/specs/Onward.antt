@@ -1,6 +1,6 @@
 -- What the rest of a segment leads to, given what stood before it: the work that a scan has left.
 -- Assumes nothing.
-use Rattle.std.specs.Prelude.{◌≡◌, refl, Bool, true, not, List, [], ◌∷◌, leb, ltb, eqb, length}
+use Rattle.std.specs.Prelude.{◌≡◌, refl, Bool, true, not, List, [], ◌∷◌, leb, ltb, eqb, length, Result, Ok, Err}
 use Rattle.std.proofs.Common.{sym, ◌∙◌, add-zero}
 use Rattle.std.proofs.Math.Bool.{false}
 use Prim.Native.Nat.{ℕ, suc, ◌+◌, ◌≤◌, ◌<◌}
@@ -8,21 +8,21 @@ use native.Mathlib.Omega.{arith}
 use borrow.Author.Tests.{le-ltb, lt-ltb, leb-false, ltb-false, not-true}
 use Rattle.laws.specs.Choice.{pick, both, either, all, among, choose, both_parts, either_parts, both_true, both_false}
 use Rattle.syntax.specs.declared.limits.Counts.{Counts}
-use Rattle.syntax.specs.declared.segment.Scanned.{Scanned}
-use Rattle.syntax.specs.declared.segment.Scanned.TheVariants.{End, NotPermitted, Unended, Malformed}
+use Rattle.syntax.specs.declared.segment.ScanError.{ScanError}
+use Rattle.syntax.specs.declared.segment.ScanError.TheVariants.{NotPermitted, Unended, Malformed}
 use Rattle.syntax.specs.Bytes.{permitted_of, plain_text, is_mark}
 use Rattle.syntax.specs.Segment.{permitted_run}
 use Rattle.syntax.specs.Counts.{text_of, element_of, occurrence_of, component_of, passed_of}
 use Rattle.syntax.specs.Limits.{segment_left, left_text, left_released, left_component, left_occurrence, left_element, left_ends, over_elements, over_occurrences, over_components, over_characters}
 
 -- the answer where g is what is left of the segment from index i on, in an input of n bytes; `tag` is whether the segment is tagged
-unfoldable pub onward : ℕ → Bool → ℕ → Counts → List ℕ → Scanned
+unfoldable pub onward : ℕ → Bool → ℕ → Counts → List ℕ → Result ℕ ScanError
 onward n tag i k g =
     pick (all permitted_of g)
     (pick (ltb (i + length g) n)
-    (pick (both tag (both (not k.over) (segment_left k.elements k.occurrences k.components k.characters false g))) (End (i + length g)) Malformed)
-    Unended)
-    (NotPermitted (i + permitted_run g))
+    (pick (both tag (both (not k.over) (segment_left k.elements k.occurrences k.components k.characters false g))) (Ok (i + length g)) (Err Malformed))
+    (Err Unended))
+    (Err (NotPermitted (i + permitted_run g)))
 
 -- the counts with a number of characters, whether or not it is within the limit
 abbrev pub more : Counts → ℕ → Counts
@@ -101,20 +101,20 @@ module _ (n : ℕ) (tag : Bool) (i : ℕ) (k : Counts) where
       simp (fine_question, p, two, left_released)
 
   -- a byte that is not permitted, bare or released
-  pub onward_bad : (b : ℕ) (g : List ℕ) → permitted_of b ≡ false → onward n tag i k (b ∷ g) ≡ NotPermitted i
+  pub onward_bad : (b : ℕ) (g : List ℕ) → permitted_of b ≡ false → onward n tag i k (b ∷ g) ≡ Err (NotPermitted i)
   unfolding onward permitted_run
   onward_bad b g p = simp (p, add-zero)
 
-  pub onward_released_bad : (b : ℕ) (g : List ℕ) → permitted_of b ≡ false → onward n tag i k (63 ∷ b ∷ g) ≡ NotPermitted (i + 1)
+  pub onward_released_bad : (b : ℕ) (g : List ℕ) → permitted_of b ≡ false → onward n tag i k (63 ∷ b ∷ g) ≡ Err (NotPermitted (i + 1))
   unfolding onward permitted_run
   onward_released_bad b g p = simp (fine_question, p)
 
   -- the input's end, and a `?` that is its last byte
-  pub onward_none : n ≤ i → onward n tag i k [] ≡ Unended
+  pub onward_none : n ≤ i → onward n tag i k [] ≡ Err Unended
   unfolding onward
   onward_none h = simp (add-zero, le-ltb i n h)
 
-  pub onward_question : n ≤ i + 1 → onward n tag i k (63 ∷ []) ≡ Unended
+  pub onward_question : n ≤ i + 1 → onward n tag i k (63 ∷ []) ≡ Err Unended
   unfolding onward
   onward_question h = simp (fine_question, le-ltb (i + 1) n h)
 
@@ -170,7 +170,7 @@ module _ (n : ℕ) (tag : Bool) (i : ℕ) (k : Counts) (w : Within k) (g : List 
       (over_components k.elements k.occurrences (k.components + 1) 0 false g (past k.components 31 q)))))
 
   -- at the terminator nothing is left
-  pub onward_end : i < n → onward n tag i k [] ≡ pick (both tag (not k.over)) (End i) Malformed
+  pub onward_end : i < n → onward n tag i k [] ≡ pick (both tag (not k.over)) (Ok i) (Err Malformed)
   unfolding onward
   onward_end h =
       simp (add-zero, lt-ltb i n h, left_ends k.elements k.occurrences k.components k.characters w.elements w.occurrences w.components w.characters, both_true)

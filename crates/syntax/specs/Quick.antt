@@ -1,20 +1,17 @@
 -- The end of a segment that has too few characters and marks to pass a limit, which is found without counting its parts.
 -- Assumes nothing.
-use Rattle.std.specs.Prelude.{◌≡◌, refl, Bool, true, false, List, ℕ, zero, suc, ◌+◌, ◌-◌, ◌*◌, ◌≤◌, ◌<◌, leb, ltb, eqb, length, drop, get_or}
+use Rattle.std.specs.Prelude.{◌≡◌, refl, Bool, true, false, Option, Some, None, List, ℕ, zero, suc, ◌+◌, ◌-◌, ◌*◌, ◌≤◌, ◌<◌, min, leb, ltb, eqb, length, drop, get_or, Ok}
 use Rattle.std.proofs.Common.{sym, ◌∙◌, arith}
 use Rattle.std.proofs.Math.Path.{ap}
-use borrow.Author.Tests.{eqb-true, eqb-false, leb-true, le-leb, lt-leb, lt-ltb, le-ltb, ltb-true}
+use borrow.Author.Tests.{eqb-true, eqb-false, leb-true, leb-false, le-leb, lt-leb, lt-ltb, le-ltb, ltb-true}
 use Rattle.std.specs.Int.Bits.{bit_or, bit_xor, or_add_and, or_zero_l, xor_self}
 use Rattle.std.proofs.lemmas.Nat.{and_le_r}
 use Rattle.laws.specs.Choice.{pick, both, either, choose, false≢true}
 use Rattle.laws.specs.Lists.{between, length_between}
 use Rattle.laws.specs.Words.{xor_zero}
-use Rattle.syntax.specs.declared.segment.Scanned.TheVariants.{End}
-use Rattle.syntax.specs.declared.segment.Quick.{Quick}
-use Rattle.syntax.specs.declared.segment.Quick.TheVariants.{Ends, Unsure}
 use Rattle.syntax.specs.Segment.{capital, segment_at}
 use Rattle.syntax.specs.Tags.{tag_ahead, tag_four}
-use Rattle.syntax.specs.Found.{end_from, end_past}
+use Rattle.syntax.specs.Found.{end_from, end_past, told_of, told_is}
 use Rattle.syntax.specs.Few.{marks_in}
 use Rattle.syntax.specs.Whole.{end_most, end_after_plus, whole_short, whole_small}
 
@@ -26,20 +23,8 @@ is_few s at e = either (leb (e - at) 34) (both (leb (length (between s at e)) 51
 unfoldable pub quick_end : List ℕ → ℕ → ℕ
 quick_end s at = pick (is_few s at (end_from s (at + 4))) (end_from s (at + 4)) (length s)
 
--- an index as an end, and none where it is the input's length
-unfoldable pub told_of : ℕ → ℕ → Quick
-told_of n e = pick (ltb e n) (Ends e) Unsure
-
-pub told_ends : (n e : ℕ) → e < n → Ends e ≡ told_of n e
-unfolding told_of
-told_ends n e h = rw (lt-ltb e n h)
-
-pub told_unsure : (n e : ℕ) → n ≤ e → Unsure ≡ told_of n e
-unfolding told_of
-told_unsure n e h = rw (le-ltb e n h)
-
 -- the same as it is told
-unfoldable pub quick_of : List ℕ → ℕ → Quick
+unfoldable pub quick_of : List ℕ → ℕ → Option ℕ
 quick_of s at = told_of (length s) (quick_end s at)
 
 pub quick_told : (s : List ℕ) (at e : ℕ) → e ≡ quick_end s at → told_of (length s) e ≡ quick_of s at
@@ -64,11 +49,17 @@ close_two b n =
     some zero h = absurd (h refl)
     some (suc k) h = omega arith
 
--- an input that ends before that has none
-pub quick_past : (s : List ℕ) (at : ℕ) → length s < at + 4 → length s ≡ quick_end s at
+pub quick_is : (s : List ℕ) (at e : ℕ) → quick_of s at ≡ Some e → (quick_end s at ≡ e) × (quick_end s at < length s)
+unfolding quick_of
+quick_is s at e q = told_is (length s) (quick_end s at) e q
+
+-- where no end is found there is none, as in an input that ends before that
+pub quick_none : (s : List ℕ) (at : ℕ) → end_from s (at + 4) ≡ length s → length s ≡ quick_end s at
 unfolding quick_end
-quick_past s at h =
-    choose (is_few s at (end_from s (at + 4))) (λ p. rw p (sym (end_past s (at + 4) (omega arith)))) (λ p. rw p)
+quick_none s at e = choose (is_few s at (end_from s (at + 4))) (λ p. rw p (sym e)) (λ p. rw p)
+
+pub quick_past : (s : List ℕ) (at : ℕ) → length s < at + 4 → length s ≡ quick_end s at
+quick_past s at h = quick_none s at (end_past s (at + 4) (omega arith))
 
 -- what a search for the end tells
 module _ (s : List ℕ) (at e : ℕ) (f : e ≡ end_from s (at + 4)) where
@@ -95,46 +86,35 @@ module _ (s : List ℕ) (at e : ℕ) (f : e ≡ end_from s (at + 4)) where
       let l = long in
       rw (lt-leb (e - at) 34 (omega arith), lt-leb (length (between s at e)) 512 (omega arith)) at by_few
 
+-- nor is one found within the input that is near
+pub quick_beyond : (s : List ℕ) (at : ℕ) → min (length s) (at + 513) ≤ end_from s (at + 4) → length s ≡ quick_end s at
+quick_beyond s at h =
+    let m = end_most s (at + 4) in
+    choose (leb (length s) (end_from s (at + 4)))
+    (λ p. let l = leb-true (length s) (end_from s (at + 4)) p in quick_none s at (omega arith))
+    (λ p. let l = leb-false (length s) (end_from s (at + 4)) p in quick_far s at (end_from s (at + 4)) refl (omega arith))
+
 -- three capital letters and `+` are a tag
 pub tag_plus : (s : List ℕ) (at : ℕ) → at + 4 ≤ length s → capital (get_or s at 0) ≡ true → capital (get_or s (at + 1) 0) ≡ true → capital (get_or s (at + 2) 0) ≡ true
     → get_or s (at + 3) 0 ≡ 43 → tag_ahead (drop at s) ≡ true
 tag_plus s at h a b c d = tag_four s at h ∙ rw (a, b, c, d)
 
-end_in : Quick → ℕ
-end_in (Ends e) = e
-end_in Unsure = 0
-
-is_sure : Quick → Bool
-is_sure (Ends e) = true
-is_sure Unsure = false
-
--- what is told is one of the two
-pub ends_same : {e f : ℕ} → Ends e ≡ Ends f → e ≡ f
-unfolding end_in
-ends_same q = ap end_in q
-
-pub ends_sure : {e : ℕ} → Unsure ≡ Ends e → ⊥
-unfolding is_sure
-ends_sure q = false≢true (ap is_sure q)
-
 -- and the segment that they begin is whole where its end is found so
 module _ (s : List ℕ) (at : ℕ) (q : tag_ahead (drop at s) ≡ true) where
-  whole : (e : ℕ) → e ≡ end_from s (at + 3) → e < length s → is_few s at e ≡ true → End e ≡ segment_at s at
+  whole : (e : ℕ) → e ≡ end_from s (at + 3) → e < length s → is_few s at e ≡ true → Ok e ≡ segment_at s at
   unfolding is_few
   whole e f h p =
       choose (leb (e - at) 34) (λ g. whole_short s at q e f h (leb-true (e - at) 34 g))
       (λ g. whole_small s at q e f h (rw g at p))
 
-  pub quick_whole : get_or s (at + 3) 0 ≡ 43 → quick_end s at < length s → segment_at s at ≡ End (quick_end s at)
+  pub quick_whole : get_or s (at + 3) 0 ≡ 43 → quick_end s at < length s → segment_at s at ≡ Ok (quick_end s at)
   unfolding quick_end
   quick_whole d h =
       choose (is_few s at (end_from s (at + 4)))
       (λ p. rw p (sym (whole (end_from s (at + 4)) (end_after_plus s at q d) (rw p at h) p)))
       (λ p. let g = rw p at h in absurd (omega arith))
 
-  pub quick_segment : (e : ℕ) → get_or s (at + 3) 0 ≡ 43 → quick_of s at ≡ Ends e → segment_at s at ≡ End e
-  unfolding quick_of told_of
+  pub quick_segment : (e : ℕ) → get_or s (at + 3) 0 ≡ 43 → quick_of s at ≡ Some e → segment_at s at ≡ Ok e
   quick_segment e d h =
-      choose (ltb (quick_end s at) (length s))
-      (λ p. quick_whole d (ltb-true (quick_end s at) (length s) p) ∙ ap End (ends_same (rw p at h)))
-      (λ p. absurd (ends_sure (rw p at h)))
+      let k = quick_is s at e h in
+      quick_whole d k.1 ∙ ap Ok k.0

@@ -1,6 +1,6 @@
 -- The steps of a scan at an index of the input.
 -- Assumes nothing.
-use Rattle.std.specs.Prelude.{◌≡◌, Bool, true, not, ℕ, suc, ◌+◌, ◌-◌, ◌≤◌, ◌<◌, leb, ltb, eqb, length, drop, get_or}
+use Rattle.std.specs.Prelude.{◌≡◌, Bool, true, not, ℕ, suc, ◌+◌, ◌-◌, ◌≤◌, ◌<◌, leb, ltb, eqb, length, drop, get_or, Result, Ok, Err}
 use Rattle.std.proofs.Math.Path.{sym}
 use Rattle.std.proofs.Common.{ap, ◌∙◌, zero-add, add-zero, not-suc-le-zero, length-drop, drop-drop, get_or-drop}
 use Rattle.std.proofs.Math.Bool.{false}
@@ -9,8 +9,8 @@ use native.Mathlib.Omega.{arith}
 use borrow.Author.Tests.{leb-true, ltb-true, eqb-true}
 use Rattle.laws.specs.Choice.{pick, both, choose, both_parts, false≢true}
 use Rattle.syntax.specs.declared.limits.Counts.{Counts}
-use Rattle.syntax.specs.declared.segment.Scanned.{Scanned}
-use Rattle.syntax.specs.declared.segment.Scanned.TheVariants.{End, NotPermitted, Unended, Malformed}
+use Rattle.syntax.specs.declared.segment.ScanError.{ScanError}
+use Rattle.syntax.specs.declared.segment.ScanError.TheVariants.{NotPermitted, Unended, Malformed}
 use Rattle.syntax.specs.Bytes.{permitted_of, plain_text, plain_on, is_mark}
 use Rattle.syntax.specs.Pieces.{first_piece, later_pieces, tag_text}
 use Rattle.syntax.specs.Segment.{capital, three_capitals, tagged, within_limits, well_formed, body_at, scan_of, segment_at}
@@ -138,15 +138,15 @@ module _ (k : Counts) (w : Within k) where
       (λ p. rw p (choose (eqb b 42) (λ q. rw q within_occurrence) (λ q. rw q within_component)))
 
 module _ (s : List ℕ) (tag : Bool) (j : ℕ) (k : Counts) (h : j < length s) where
-  abbrev here : Scanned
+  abbrev here : Result ℕ ScanError
   here = onward (length s) tag j k (first_piece 39 false (drop j s))
 
-  pub scan_end : Within k → get_or s j 0 ≡ 39 → here ≡ pick (both tag (not k.over)) (End j) Malformed
+  pub scan_end : Within k → get_or s j 0 ≡ 39 → here ≡ pick (both tag (not k.over)) (Ok j) (Err Malformed)
   unfolding first_piece
   scan_end w e = rw (drop_here s j h, e) (onward_end (length s) tag j k w [] h)
 
   pub scan_bad : plain_text (get_or s j 0) ≡ false → eqb (get_or s j 0) 39 ≡ false → eqb (get_or s j 0) 63 ≡ false → is_mark (get_or s j 0) ≡ false
-      → here ≡ NotPermitted j
+      → here ≡ Err (NotPermitted j)
   unfolding first_piece
   scan_bad t p q m =
       rw (drop_here s j h, p) (onward_bad (length s) tag j k (get_or s j 0) (first_piece 39 (eqb (get_or s j 0) 63) (drop (j + 1) s)) (no_text (get_or s j 0) t p q m))
@@ -170,7 +170,7 @@ module _ (s : List ℕ) (tag : Bool) (j : ℕ) (k : Counts) (h : j < length s) w
       (λ p. choose (eqb (get_or s j 0) 42) (λ q. star w (eqb-true (get_or s j 0) 42 q)) (λ q. colon w (eqb-true (get_or s j 0) 58 (rw (p, q) at m))))
 
   -- a `?` at the input's end
-  pub scan_question : get_or s j 0 ≡ 63 → length s ≤ j + 1 → here ≡ Unended
+  pub scan_question : get_or s j 0 ≡ 63 → length s ≤ j + 1 → here ≡ Err Unended
   unfolding first_piece
   scan_question e g = rw (drop_here s j h, e, drop_past s (j + 1) g) (onward_question (length s) tag j k g)
 
@@ -178,7 +178,7 @@ module _ (s : List ℕ) (tag : Bool) (j : ℕ) (k : Counts) (h : j < length s) w
     two : drop j s ≡ 63 ∷ get_or s (j + 1) 0 ∷ drop (j + 1 + 1) s
     two = drop_here s j h ∙ rw (e, drop_here s (j + 1) g)
 
-    pub scan_released_bad : permitted_of (get_or s (j + 1) 0) ≡ false → here ≡ NotPermitted (j + 1)
+    pub scan_released_bad : permitted_of (get_or s (j + 1) 0) ≡ false → here ≡ Err (NotPermitted (j + 1))
     unfolding first_piece
     scan_released_bad p = rw two (onward_released_bad (length s) tag j k (get_or s (j + 1) 0) (first_piece 39 false (drop (j + 1 + 1) s)) p)
 
@@ -190,6 +190,6 @@ module _ (s : List ℕ) (tag : Bool) (j : ℕ) (k : Counts) (h : j < length s) w
         ∙ sym (onward_counted (length s) tag (j + 1 + 1) k 1 (first_piece 39 false (drop (j + 1 + 1) s)))
 
 -- past the input's end
-pub scan_none : (s : List ℕ) (tag : Bool) (j : ℕ) (k : Counts) → length s ≤ j → onward (length s) tag j k (first_piece 39 false (drop j s)) ≡ Unended
+pub scan_none : (s : List ℕ) (tag : Bool) (j : ℕ) (k : Counts) → length s ≤ j → onward (length s) tag j k (first_piece 39 false (drop j s)) ≡ Err Unended
 unfolding first_piece
 scan_none s tag j k h = rw (drop_past s j h) (onward_none (length s) tag j k h)

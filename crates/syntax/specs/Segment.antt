@@ -1,11 +1,11 @@
 -- A segment, its end, its tag and its limits (document 01, "Bytes and segments"; numbers 4, 5 and 6).
 -- Assumes nothing.
-use Rattle.std.specs.Prelude.{ℕ, suc, ◌+◌, ◌*◌, Bool, false, List, [], ◌∷◌, leb, ltb, length, drop}
+use Rattle.std.specs.Prelude.{ℕ, suc, ◌+◌, ◌*◌, Bool, false, List, [], ◌∷◌, leb, ltb, length, drop, Result, Ok, Err}
 use Rattle.laws.specs.Choice.{pick, both, all}
 use Rattle.answers.specs.declared.Refusal.{Refusal}
 use Rattle.answers.specs.Answers.{Answer, done, naming, byte_not_permitted, input_ends, wrong_segment, number, position}
-use Rattle.syntax.specs.declared.segment.Scanned.{Scanned}
-use Rattle.syntax.specs.declared.segment.Scanned.TheVariants.{End, NotPermitted, Unended, Malformed}
+use Rattle.syntax.specs.declared.segment.ScanError.{ScanError}
+use Rattle.syntax.specs.declared.segment.ScanError.TheVariants.{NotPermitted, Unended, Malformed}
 use Rattle.syntax.specs.Bytes.{terminator, permitted_of, plain}
 use Rattle.syntax.specs.Pieces.{first_piece, tag_text, elements, occurrences, components}
 
@@ -49,26 +49,29 @@ permitted_run [] = 0
 permitted_run (b ∷ l) = pick (permitted_of b) (suc (permitted_run l)) 0
 
 -- what the body g of a segment at an offset is, in an input of n bytes: first 4, then 5, then 6
-unfoldable pub scan_of : ℕ → ℕ → List ℕ → Scanned
+unfoldable pub scan_of : ℕ → ℕ → List ℕ → Result ℕ ScanError
 scan_of n at g =
     pick (all permitted_of g)
-    (pick (ltb (at + length g) n) (pick (well_formed g) (End (at + length g)) Malformed) Unended)
-    (NotPermitted (at + permitted_run g))
+    (pick (ltb (at + length g) n) (pick (well_formed g) (Ok (at + length g)) (Err Malformed)) (Err Unended))
+    (Err (NotPermitted (at + permitted_run g)))
 
 -- the segment that starts at an offset of the input s
-abbrev pub segment_at : List ℕ → ℕ → Scanned
+abbrev pub segment_at : List ℕ → ℕ → Result ℕ ScanError
 segment_at s at = scan_of (length s) at (body_at s at)
 
 -- what each case answers of the segment at an offset: the terminator's index, or number and position
-abbrev pub scanned_answer : ℕ → Scanned → Answer ℕ
-scanned_answer at (End e) = done e
-scanned_answer at (NotPermitted i) = byte_not_permitted i
-scanned_answer at Unended = input_ends at
-scanned_answer at Malformed = wrong_segment at
+abbrev pub error_answer : ℕ → ScanError → Answer ℕ
+error_answer at (NotPermitted i) = byte_not_permitted i
+error_answer at Unended = input_ends at
+error_answer at Malformed = wrong_segment at
 
--- and as the reader hands it on; 0 where the segment is whole
-abbrev pub refusal_of : ℕ → Scanned → Refusal
-refusal_of at x = naming (number (scanned_answer at x)) (position (scanned_answer at x))
+abbrev pub scanned_answer : ℕ → Result ℕ ScanError → Answer ℕ
+scanned_answer at (Ok e) = done e
+scanned_answer at (Err error) = error_answer at error
+
+-- and as the reader hands on what is wrong
+abbrev pub refusal_of : ℕ → ScanError → Refusal
+refusal_of at error = naming (number (error_answer at error)) (position (error_answer at error))
 
 -- "in it 4, 5, 6": what is answered of the body g of a segment at an offset, in an input of n bytes
 unfoldable pub body_answer : ℕ → ℕ → List ℕ → Answer ℕ

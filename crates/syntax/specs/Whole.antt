@@ -1,6 +1,6 @@
 -- A tagged segment whose end is found and that is small, is whole.
 -- Assumes nothing.
-use Rattle.std.specs.Prelude.{◌≡◌, true, List, ◌∷◌, ℕ, ◌+◌, ◌-◌, ◌≤◌, ◌<◌, leb, ltb, eqb}
+use Rattle.std.specs.Prelude.{◌≡◌, true, List, ◌∷◌, ℕ, ◌+◌, ◌-◌, ◌≤◌, ◌<◌, leb, ltb, eqb, Ok}
 use Rattle.std.proofs.Math.Path.{refl, sym, ap}
 use Rattle.std.proofs.Common.{◌∙◌}
 use Rattle.std.proofs.Math.Bool.{false}
@@ -11,7 +11,6 @@ use Rattle.laws.specs.Choice.{both, all, choose, both_parts, false≢true}
 use Rattle.laws.specs.Sweep.{agree}
 use Rattle.laws.specs.Lists.{between, drop_here}
 use Rattle.syntax.specs.Passed.{goes}
-use Rattle.syntax.specs.declared.segment.Scanned.TheVariants.{End}
 use Rattle.syntax.specs.Bytes.{permitted_of, is_mark}
 use Rattle.syntax.specs.Pieces.{first_piece}
 use Rattle.syntax.specs.Firsts.{first_take}
@@ -130,21 +129,21 @@ module _ (s : List ℕ) (at : ℕ) (q : tag_ahead (drop at s) ≡ true) where
         let w = body_found s at (omega arith) in
         (w.0, f ∙ sym g ∙ w.1)
 
-    whole : marks_in (body_at s at) ≤ 31 → length (body_at s at) ≤ 512 → End e ≡ segment_at s at
+    whole : marks_in (body_at s at) ≤ 31 → length (body_at s at) ≤ 512 → Ok e ≡ segment_at s at
     unfolding scan_of well_formed
     whole m k =
         let w = found in
         let p = w.1 in
         let d = length-drop at s in
-        rw (w.0, lt-ltb (at + length (body_at s at)) (length s) (omega arith), tag_ahead_lem (drop at s) (omega arith), q, limits_few (body_at s at) m k) (ap End p)
+        rw (w.0, lt-ltb (at + length (body_at s at)) (length s) (omega arith), tag_ahead_lem (drop at s) (omega arith), q, limits_few (body_at s at) m k) (ap Ok p)
 
-    pub whole_short : e - at ≤ 34 → End e ≡ segment_at s at
+    pub whole_short : e - at ≤ 34 → Ok e ≡ segment_at s at
     whole_short k =
         let p = found.1 in
         let m = tag_marks in
         whole (omega arith) (omega arith)
 
-    pub whole_small : both (leb (length (between s at e)) 512) (leb (marks_in (between s at e)) 31) ≡ true → End e ≡ segment_at s at
+    pub whole_small : both (leb (length (between s at e)) 512) (leb (marks_in (between s at e)) 31) ≡ true → Ok e ≡ segment_at s at
     whole_small k =
         let p = found.1 in
         let n : e - at ≡ length (body_at s at) = omega arith in
@@ -157,7 +156,7 @@ module _ (s : List ℕ) (at : ℕ) (q : tag_ahead (drop at s) ≡ true) where
         whole (omega arith) (omega arith)
 
   -- a segment that is its tag alone
-  pub whole_bare : get_or s (at + 3) 0 ≡ 39 → End (at + 3) ≡ segment_at s at
+  pub whole_bare : get_or s (at + 3) 0 ≡ 39 → Ok (at + 3) ≡ segment_at s at
   whole_bare e =
       let h = t.long in
       whole_short (at + 3) (sym (end_quote s (at + 3) (omega arith) e)) (omega arith) (omega arith)

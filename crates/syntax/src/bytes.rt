@@ -49,6 +49,7 @@ pub(crate) fn released_end(s: &[u8], from: usize) -> usize
     }
     let last = s.len() - 2;
     let mut i = from;
+    // The index moves by two, past a release and the byte behind it.
     while i <= last {
         if s[i] != b'?' {
             return i;
@@ -62,19 +63,14 @@ pub(crate) fn released_end(s: &[u8], from: usize) -> usize
 }
 
 /// Whether a byte is `+`, `*` or `:`.
+#[tactic(auto, unfolding(crate::specs::Bytes::is_mark))]
 pub(crate) fn is_mark(b: u8) -> bool
     ensures { result ≡ is_mark b }
 {
-    if b == b'+' {
-        return true;
-    }
-    if b == b'*' {
-        return true;
-    }
-    b == b':'
+    matches!(b, b'+' | b'*' | b':')
 }
 
-/// A byte as a number of 64 bits.
+/// A byte as a number of 64 bits. It stands for a conversion, as its contract bounds the number: sums and products of it then fit.
 pub(crate) fn wide(b: u8) -> u64
     ensures { (result ≡ b) × (result < 256) }
 {

@@ -3,12 +3,12 @@
 ghost use Rattle.std.specs.Prelude.{◌≡◌, ◌+◌, ◌≤◌, ◌<◌, length, get_or};
 ghost use Rattle.laws.specs.Eight.{Word};
 ghost use Rattle.syntax.specs.Passed.{passes_of, stops_of, eight_times};
-ghost use Rattle.syntax.specs.Found.{end_from};
-ghost use Rattle.syntax.specs.Ran.{RunTold};
+ghost use Rattle.syntax.specs.Found.{end_from, told_of};
+ghost use Rattle.syntax.specs.Ran.{RunTold, PastTold};
 
 use crate::bytes::{permitted, released_end, wide};
 
-/// Where a run of bytes that are passed over led.
+/// Where a run of bytes that are passed over led. Both are an index; only the first has a byte, which is then looked at without a test of the index.
 #[derive(Clone, Copy)]
 pub(crate) enum Run {
     /// To a byte that is to be looked at.
@@ -18,6 +18,7 @@ pub(crate) enum Run {
 }
 
 /// The eight bytes from an index on as one number, the first the lowest: a flat row of `|`, of which the compiler makes one load.
+/// Unlike that of `raw_bytes` it tests nothing: the loops that call it have done so.
 pub(crate) fn eight_at(s: &[u8], i: usize) -> u64
     requires { i + 8 ≤ length s.now }
     ensures { Word s.now i result }
@@ -72,6 +73,7 @@ pub(crate) fn run_end(s: &[u8], from: usize) -> Run
     }
     let last = s.len() - 8;
     let mut i = from;
+    // The index moves by the eight bytes that are read at once.
     while i <= last {
         let passes = passes_in(eight_at(s, i));
         if passes != HIGHEST {
@@ -91,6 +93,7 @@ pub(crate) fn common_end(s: &[u8], from: usize) -> usize
     }
     let last = s.len() - 8;
     let mut i = from;
+    // The index moves by the eight bytes that are read at once.
     while i <= last {
         let stops = stops_in(eight_at(s, i));
         if stops != 0 {
@@ -101,41 +104,42 @@ pub(crate) fn common_end(s: &[u8], from: usize) -> usize
     i
 }
 
-// Past a byte that is no terminator: a release with those that follow it at once, or one byte. The input's length where a byte is not permitted.
-fn past_byte(s: &[u8], j: usize) -> usize
+// Past a byte that is no terminator: a release with those that follow it at once, or one byte. None where a byte is not permitted.
+fn past_byte(s: &[u8], j: usize) -> Option<usize>
     requires { (j < length s.now) × (get_or s.now j 0 ≡ 39 → ⊥) }
-    ensures { (j < result) × (end_from s.now result ≡ end_from s.now j) }
+    ensures { PastTold s.now j result }
 {
     if !permitted(s[j]) {
-        return s.len();
+        return None;
     }
     let k = j + 1;
     if s[j] != b'?' {
-        return k;
+        return Some(k);
     }
     if s.len() <= k {
-        return s.len();
+        return None;
     }
     if !permitted(s[k]) {
-        return s.len();
+        return None;
     }
-    released_end(s, k + 1)
+    Some(released_end(s, k + 1))
 }
 
-/// The terminator's index where the segment goes on from `from`, is ended and has no byte that is not permitted; else the input's length.
-pub fn find_end(s: &[u8], from: usize) -> usize
-    ensures { result ≡ end_from s.now from }
+/// The terminator's index where the segment goes on from `from`, is ended and has no byte that is not permitted.
+pub fn find_end(s: &[u8], from: usize) -> Option<usize>
+    ensures { result ≡ told_of (length s.now) (end_from s.now from) }
 {
     let mut i = from;
+    // The index moves by what was read, not by one.
     while i < s.len() {
         let j = common_end(s, i);
         if s.len() <= j {
-            return s.len();
+            return None;
         }
         if s[j] == b'\'' {
-            return j;
+            return Some(j);
         }
-        i = past_byte(s, j);
+        i = past_byte(s, j)?;
     }
-    s.len()
+    None
 }

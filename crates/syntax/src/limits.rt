@@ -39,11 +39,8 @@ impl Counts {
             return self.passed();
         }
         Counts {
-            elements: self.elements,
-            occurrences: self.occurrences,
-            components: self.components,
             characters: self.characters + n,
-            over: self.over,
+            ..self
         }
     }
 
@@ -51,26 +48,18 @@ impl Counts {
     fn passed(self) -> Self
         ensures { result ≡ passed_of self }
     {
-        Counts {
-            elements: self.elements,
-            occurrences: self.occurrences,
-            components: self.components,
-            characters: self.characters,
-            over: true,
-        }
+        Counts { over: true, ..self }
     }
 
     /// After a `+`, a `*`, or else a `:` that is not released.
     pub fn mark(self, b: u8) -> Self
         ensures { result ≡ mark_of self b }
     {
-        if b == b'+' {
-            return self.element();
+        match b {
+            b'+' => self.element(),
+            b'*' => self.occurrence(),
+            _ => self.component(),
         }
-        if b == b'*' {
-            return self.occurrence();
-        }
-        self.component()
     }
 
     fn element(self) -> Self
@@ -82,7 +71,7 @@ impl Counts {
                 occurrences: 0,
                 components: 0,
                 characters: 0,
-                over: self.over,
+                ..self
             };
         }
         self.passed()
@@ -93,11 +82,10 @@ impl Counts {
     {
         if self.occurrences < 98 {
             return Counts {
-                elements: self.elements,
                 occurrences: self.occurrences + 1,
                 components: 0,
                 characters: 0,
-                over: self.over,
+                ..self
             };
         }
         self.passed()
@@ -108,11 +96,9 @@ impl Counts {
     {
         if self.components < 31 {
             return Counts {
-                elements: self.elements,
-                occurrences: self.occurrences,
                 components: self.components + 1,
                 characters: 0,
-                over: self.over,
+                ..self
             };
         }
         self.passed()

@@ -22,10 +22,8 @@ fn marks_in(p: &[u8]) -> u8
     ensures { result ≡ marks_in p.now }
 {
     let mut marks: u8 = 0;
-    let mut i = 0;
-    while i < p.len() {
-        marks += mark_of(p[i]);
-        i += 1;
+    for &b in p {
+        marks += mark_of(b);
     }
     marks
 }
@@ -35,10 +33,7 @@ fn next_end(i: usize, n: usize) -> usize
     requires { i < n }
     ensures { (i < result) × (result ≤ n) × (result - i ≤ 128) }
 {
-    if n - i < 128 {
-        return n;
-    }
-    i + 128
+    i + usize::min(n - i, 128)
 }
 
 // 17, 59, 127 and 128, each eight times.
@@ -91,6 +86,7 @@ fn has_few(p: &[u8]) -> bool
 {
     let mut marks: u16 = 0;
     let mut i = 0;
+    // The index moves by what was counted, not by one.
     while i < p.len() {
         let e = next_end(i, p.len());
         marks += marks_in(&p[i..e]) as u16;

@@ -1,24 +1,22 @@
 //! The segment that starts at an offset: its end, or what is wrong with it; and its tag.
 
-ghost use Rattle.std.specs.Prelude.{◌≡◌, not, ◌+◌, ◌≤◌, ◌<◌, min, eqb, leb, length, drop};
+ghost use Rattle.std.specs.Prelude.{◌≡◌, not, Ok, Err, ◌+◌, ◌≤◌, ◌<◌, min, eqb, leb, length, drop};
 ghost use Rattle.laws.specs.Choice.{pick, both};
 ghost use Rattle.syntax.specs.Segment.{capital, segment_at, scanned_answer, refusal_of, segment_answer, tag_number};
 ghost use Rattle.syntax.specs.Tags.{tag_closes, tag_ahead};
-ghost use Rattle.syntax.specs.Found.{end_from};
-ghost use Rattle.syntax.specs.Quick.{quick_end, told_of, quick_of};
+ghost use Rattle.syntax.specs.Found.{end_from, told_of};
+ghost use Rattle.syntax.specs.Quick.{quick_of};
 
 use crate::bytes::{is_mark, permitted, released_end, wide};
 use crate::ends::{Run, common_end, find_end, run_end};
 use crate::limits::Counts;
 use crate::marks::is_small;
 use crate::texts::text_end;
-use answers::Refusal;
+use answers::{Reason, Refusal};
 
-/// What stands at an offset.
-#[derive(Clone, Copy)]
-pub enum Scanned {
-    /// A whole segment; the terminator's index.
-    End(usize),
+/// Why no whole segment stands at an offset.
+#[derive(Clone, Copy, PartialEq, Eq, Debug)]
+pub enum ScanError {
     /// 4: the index of the first byte that is not permitted.
     NotPermitted(usize),
     /// 5: the input ends inside the segment.
@@ -27,41 +25,15 @@ pub enum Scanned {
     Malformed,
 }
 
-/// What a quick look at a segment tells.
-#[derive(Clone, Copy)]
-pub enum Quick {
-    /// It is whole, and too small to pass a limit; the terminator's index.
-    Ends(usize),
-    /// It is to be read with care.
-    Unsure,
-}
-
-impl Scanned {
-    /// The refusal of what was found at an offset; number 0 is none.
+impl ScanError {
+    /// The refusal of what was found at an offset.
     pub fn refusal(self, at: usize) -> Refusal
         ensures { result ≡ refusal_of at self }
     {
         match self {
-            Scanned::End(_) => Refusal {
-                number: 0,
-                position: 0,
-                part: 0,
-            },
-            Scanned::NotPermitted(i) => Refusal {
-                number: 4,
-                position: i,
-                part: 0,
-            },
-            Scanned::Unended => Refusal {
-                number: 5,
-                position: at,
-                part: 0,
-            },
-            Scanned::Malformed => Refusal {
-                number: 6,
-                position: at,
-                part: 0,
-            },
+            ScanError::NotPermitted(i) => Reason::ByteNotPermitted.at(i),
+            ScanError::Unended => Reason::InputEnds.at(at),
+            ScanError::Malformed => Reason::WrongSegment.at(at),
         }
     }
 }
@@ -69,29 +41,14 @@ impl Scanned {
 fn is_capital(b: u8) -> bool
     ensures { result ≡ capital b }
 {
-    if b < b'A' {
-        return false;
-    }
-    b <= b'Z'
+    matches!(b, b'A'..=b'Z')
 }
 
 // Whether four bytes are three capital letters and `+` or the terminator.
 fn is_tag(a: u8, b: u8, c: u8, d: u8) -> bool
     ensures { result ≡ both (capital a) (both (capital b) (both (capital c) (tag_closes d))) }
 {
-    if !is_capital(a) {
-        return false;
-    }
-    if !is_capital(b) {
-        return false;
-    }
-    if !is_capital(c) {
-        return false;
-    }
-    if d == b'+' {
-        return true;
-    }
-    d == b'\''
+    is_capital(a) && is_capital(b) && is_capital(c) && matches!(d, b'+' | b'\'')
 }
 
 // Whether a segment at an offset begins with a tag.
@@ -112,46 +69,43 @@ fn near(at: usize, n: usize) -> usize
     requires { at ≤ n }
     ensures { result ≡ min n (at + 513) }
 {
-    if n - at < 513 {
-        return n;
-    }
-    at + 513
+    at + usize::min(n - at, 513)
 }
 
 // The same as `find_end`, except that no more than 513 bytes from an offset on are looked at. Most ends are found here, without that call.
-fn near_end(s: &[u8], at: usize, from: usize) -> usize
+fn near_end(s: &[u8], at: usize, from: usize) -> Option<usize>
     requires { at ≤ length s.now }
-    ensures { min result (at + 513) ≡ min (end_from s.now from) (at + 513) }
+    ensures { result ≡ told_of (min (length s.now) (at + 513)) (end_from s.now from) }
 {
     let cut = near(at, s.len());
     let j = common_end(&s[..cut], from);
     if j < cut {
         if s[j] == b'\'' {
-            return j;
+            return Some(j);
         }
     }
     find_end(&s[..cut], j)
 }
 
-// The terminator's index of a segment that is told at once, the input's length for any other, where the end is sought already.
-fn long_end(s: &[u8], at: usize, end: usize) -> usize
-    requires { (at + 34 < end) × (min end (at + 513) ≡ min (end_from s.now (at + 4)) (at + 513)) }
-    ensures { result ≡ quick_end s.now at }
+// The end of a segment that is told at once, where the end is found already.
+fn long_end(s: &[u8], at: usize, end: usize) -> Option<usize>
+    requires { (at + 34 < end) × (end < length s.now) × (end ≡ end_from s.now (at + 4)) }
+    ensures { result ≡ quick_of s.now at }
 {
     if 512 < end - at {
-        return s.len();
+        return None;
     }
     if is_small(&s[at..end]) {
-        return end;
+        return Some(end);
     }
-    s.len()
+    None
 }
 
 // The same from a byte on before which the segment does not end, which may be its end. In a function of its own, so that little is left where the end is
 // found at once and is near.
-fn small_end(s: &[u8], at: usize, from: usize) -> usize
+fn small_end(s: &[u8], at: usize, from: usize) -> Option<usize>
     requires { (at + 4 ≤ length s.now) × (end_from s.now from ≡ end_from s.now (at + 4)) × (at ≤ from) }
-    ensures { result ≡ quick_end s.now at }
+    ensures { result ≡ quick_of s.now at }
 {
     if 34 < from - at {
         if from < s.len() {
@@ -160,9 +114,9 @@ fn small_end(s: &[u8], at: usize, from: usize) -> usize
             }
         }
     }
-    let end = near_end(s, at, from);
+    let end = near_end(s, at, from)?;
     if end - at <= 34 {
-        return end;
+        return Some(end);
     }
     long_end(s, at, end)
 }
@@ -174,65 +128,55 @@ fn closes(b: u8, n: usize) -> bool
     ((b ^ b'\'') as usize * 256) | n <= 34
 }
 
-// An end that is the input's length is none.
-fn told(n: usize, end: usize) -> Quick
-    ensures { result ≡ told_of n end }
-{
-    if end < n {
-        return Quick::Ends(end);
-    }
-    Quick::Unsure
-}
-
 /// The end of a segment that has too few characters and marks to pass a limit, its tag with the `+` behind it at an offset.
-pub fn quick_end(s: &[u8], at: usize) -> Quick
+pub fn quick_end(s: &[u8], at: usize) -> Option<usize>
     ensures { result ≡ quick_of s.now at }
 {
     if s.len() < 4 {
-        return Quick::Unsure;
+        return None;
     }
     if s.len() - 4 < at {
-        return Quick::Unsure;
+        return None;
     }
     match run_end(s, at + 4) {
         Run::Stops(j) => {
             if closes(s[j], j - at) {
-                return Quick::Ends(j);
+                return Some(j);
             }
-            told(s.len(), small_end(s, at, j))
+            small_end(s, at, j)
         }
-        Run::Left(j) => told(s.len(), small_end(s, at, j)),
+        Run::Left(j) => small_end(s, at, j),
     }
 }
 
 /// The segment that starts at an offset. Its end is found first; its parts are counted only where it may pass a limit, or is to be refused.
-pub fn read_segment(s: &[u8], at: usize) -> Scanned
+pub fn read_segment(s: &[u8], at: usize) -> Result<usize, ScanError>
     ensures scan { result ≡ segment_at s.now at }
     ensures said { scanned_answer at result ≡ segment_answer s.now at }
 {
     if is_tagged(s, at) {
         if s[at + 3] == b'\'' {
-            return Scanned::End(at + 3);
+            return Ok(at + 3);
         }
-        let end = small_end(s, at, at + 4);
-        if end < s.len() {
-            return Scanned::End(end);
+        if let Some(end) = small_end(s, at, at + 4) {
+            return Ok(end);
         }
     }
     counted(s, at)
 }
 
 // The same in one pass over its bytes that counts its parts, a run of plain text at a time.
-fn counted(s: &[u8], at: usize) -> Scanned
+fn counted(s: &[u8], at: usize) -> Result<usize, ScanError>
     ensures { result ≡ segment_at s.now at }
 {
     let tagged = is_tagged(s, at);
     let mut i = at;
     let mut counts = Counts::none();
+    // The index moves by what was read, not by one.
     while i < s.len() {
         let j = text_end(s, i);
         if s.len() <= j {
-            return Scanned::Unended;
+            return Err(ScanError::Unended);
         }
         let b = s[j];
         counts = counts.text(j - i);
@@ -242,38 +186,36 @@ fn counted(s: &[u8], at: usize) -> Scanned
         if b == b'?' {
             let k = j + 1;
             if s.len() <= k {
-                return Scanned::Unended;
+                return Err(ScanError::Unended);
             }
             if !permitted(s[k]) {
-                return Scanned::NotPermitted(k);
+                return Err(ScanError::NotPermitted(k));
             }
             i = released_end(s, k + 1);
             counts = counts.text((i - j) / 2);
         } else {
             if !is_mark(b) {
-                return Scanned::NotPermitted(j);
+                return Err(ScanError::NotPermitted(j));
             }
             counts = counts.mark(b);
             i = j + 1;
         }
     }
-    Scanned::Unended
+    Err(ScanError::Unended)
 }
 
 // At the terminator.
-fn ended(tagged: bool, over: bool, end: usize) -> Scanned
-    ensures { result ≡ pick (both tagged (not over)) (Scanned.End end) Scanned.Malformed }
+fn ended(tagged: bool, over: bool, end: usize) -> Result<usize, ScanError>
+    ensures { result ≡ pick (both tagged (not over)) (Ok end) (Err ScanError.Malformed) }
 {
-    if !tagged {
-        return Scanned::Malformed;
+    if tagged && !over {
+        Ok(end)
+    } else {
+        Err(ScanError::Malformed)
     }
-    if over {
-        return Scanned::Malformed;
-    }
-    Scanned::End(end)
 }
 
-/// The three bytes at an offset as one number, 0 where there are fewer.
+/// The three bytes at an offset as one number, 0 where there are fewer: the definition `tag_number`, on which the tables' theorems stand, fixes that.
 pub fn tag_at(s: &[u8], at: usize) -> u32
     ensures { result ≡ tag_number (drop at s.now) }
 {

@@ -18,6 +18,7 @@ fn words_end(s: &[u8], from: usize) -> usize
     }
     let last = s.len() - 8;
     let mut i = from;
+    // The index moves by the eight bytes that are read at once.
     while i <= last {
         let x = eight_at(s, i);
         let stops = stops_in(x) | (texts_in(x) ^ HIGHEST);
@@ -34,6 +35,7 @@ fn few_end(s: &[u8], from: usize) -> usize
     ensures { (from ≤ result) × (result + text_run (drop result s.now) ≡ from + text_run (drop from s.now)) }
 {
     let mut i = from;
+    // The index may begin past the input's end, where no slice does.
     while i < s.len() {
         if 8 <= i - from {
             return i;
@@ -51,6 +53,7 @@ pub(crate) fn text_end(s: &[u8], from: usize) -> usize
     ensures { result ≡ from + text_run (drop from s.now) }
 {
     let mut i = from;
+    // The index moves by what was read, not by one.
     while i < s.len() {
         let j = words_end(s, i);
         if s.len() <= j {

@@ -4,12 +4,10 @@
 
 #![tactic(auto)]
 
-use lines::{
-    decode, field, number, past, piece_at, read_input, say, say_line, say_number, say_refusal,
-};
+use lines::{decode, field, number, piece_at, read_input, say, say_line, say_number, say_refusal};
 use parts::{Part, bytes_of, is_repeated, part_at};
 use std::io;
-use syntax::segment::{Scanned, read_segment};
+use syntax::segment::read_segment;
 use values::{plain_length, same};
 
 #[derive(Clone, Copy)]
@@ -42,14 +40,17 @@ fn answer_segment(rt: &impl Print, t: Text, at: usize) -> io::Result<()> {
     let bytes = t.bytes;
     let to = t.length;
     let s: &[u8] = &bytes;
-    let found = read_segment(bytes_of(s, Part { from: 0, to }), at);
-    if let Scanned::End(end) = found {
-        say(rt, b"end ")?;
-        say_number(rt, end)?;
-        return say(rt, b"\n");
+    match read_segment(bytes_of(s, Part { from: 0, to }), at) {
+        Ok(end) => {
+            say(rt, b"end ")?;
+            say_number(rt, end)?;
+            say(rt, b"\n")
+        }
+        Err(error) => {
+            let refusal = error.refusal(at);
+            say_refusal(rt, refusal.number, refusal.position, refusal.part)
+        }
     }
-    let refusal = found.refusal(at);
-    say_refusal(rt, refusal.number, refusal.position, refusal.part)
 }
 
 fn answer_part(rt: &impl Print, t: Text, e: usize, o: usize, c: usize) -> io::Result<()> {
@@ -118,10 +119,8 @@ fn answer_case(rt: &impl Print, line: &[u8]) -> io::Result<()> {
 }
 
 fn answer_all(rt: &impl Print, text: &[u8]) -> io::Result<()> {
-    let mut at = 0;
-    while at < text.len() {
-        answer_case(rt, piece_at(text, at, b'\n'))?;
-        at = past(text, at, b'\n');
+    for line in text.split(|&b| b == b'\n') {
+        answer_case(rt, line)?;
     }
     Ok(())
 }

@@ -4,22 +4,13 @@
 
 #![tactic(auto)]
 
+ghost use Rattle.std.specs.Prelude.{IfSome, ◌<◌, length};
+
 use lines::{four_digits, letters, number, past, piece_at, read_input, say, say_line, say_number};
 use messages::MessageType;
-use placing::entry;
+use placing::{GROUP, HELD, MANDATORY, NUMBER, POSITION, TAG, entry};
 use segment_tables::{table_of, tsdupd_12b};
 use std::io;
-
-// The columns of a row that are held to a line; column 0 is the position.
-const TAG: usize = 1;
-
-const MANDATORY: usize = 2;
-
-const NUMBER: usize = 3;
-
-const GROUP: usize = 4;
-
-const HELD: usize = 6;
 
 // The three letters of a tag; document 000 has a dashed line where a group stands.
 fn print_tag(rt: &impl Print, tag: u32) -> io::Result<()> {
@@ -29,12 +20,8 @@ fn print_tag(rt: &impl Print, tag: u32) -> io::Result<()> {
     say(rt, &letters(tag))
 }
 
-fn print_status(rt: &impl Print, mandatory: u32) -> io::Result<()> {
-    if mandatory == 0 {
-        say(rt, b"C")
-    } else {
-        say(rt, b"M")
-    }
+fn status_letter(mandatory: u32) -> [u8; 1] {
+    if mandatory == 0 { *b"C" } else { *b"M" }
 }
 
 fn print_count(rt: &impl Print, n: u32) -> io::Result<()> {
@@ -42,11 +29,11 @@ fn print_count(rt: &impl Print, n: u32) -> io::Result<()> {
 }
 
 fn print_row(rt: &impl Print, row: [u32; 8]) -> io::Result<()> {
-    say(rt, &four_digits(row[0]))?;
+    say(rt, &four_digits(row[POSITION]))?;
     say(rt, b"\t")?;
     print_tag(rt, row[TAG])?;
     say(rt, b"\t")?;
-    print_status(rt, row[MANDATORY])?;
+    say(rt, &status_letter(row[MANDATORY]))?;
     say(rt, b"\t")?;
     print_count(rt, row[NUMBER])?;
     say(rt, b"\t")?;
@@ -55,67 +42,37 @@ fn print_row(rt: &impl Print, row: [u32; 8]) -> io::Result<()> {
 }
 
 fn print_table(rt: &impl Print, table: &[[u32; 8]]) -> io::Result<()> {
-    let mut i = 0;
-    while i < table.len() {
-        print_row(rt, table[i])?;
-        i += 1;
+    for row in table {
+        print_row(rt, *row)?;
     }
     Ok(())
 }
 
 fn is_tag(word: &[u8], tag: u32) -> bool {
-    let own = letters(tag);
-    if word.len() != 3 {
-        return false;
-    }
-    if word[0] != own[0] {
-        return false;
-    }
-    if word[1] != own[1] {
-        return false;
-    }
-    word[2] == own[2]
+    word == letters(tag).as_slice()
 }
 
 // A group is `SG` and its number.
 fn is_group(word: &[u8], group: u32) -> bool {
-    if word.len() < 3 {
-        return false;
-    }
-    if word[0] != b'S' {
-        return false;
-    }
-    if word[1] != b'G' {
-        return false;
-    }
-    number(word, 2) == group as usize
+    word.starts_with(b"SG") && number(word, 2) == group as usize
 }
 
 fn is_status(word: &[u8], mandatory: u32) -> bool {
-    if word.len() != 1 {
-        return false;
-    }
-    if mandatory == 0 {
-        return word[0] == b'C';
-    }
-    word[0] == b'M'
+    word == status_letter(mandatory).as_slice()
 }
 
 // Whether a line has the place of a row at an index: its tag or group, its status and its number.
 fn is_place(row: [u32; 8], line: &[u8], at: usize) -> bool {
     let word = piece_at(line, at, b';');
-    if row[TAG] == 0 {
-        if !is_group(word, row[GROUP]) {
-            return false;
-        }
-    } else if !is_tag(word, row[TAG]) {
-        return false;
-    }
+    let is_named = if row[TAG] == 0 {
+        is_group(word, row[GROUP])
+    } else {
+        is_tag(word, row[TAG])
+    };
     let status_at = past(line, at, b';');
-    if !is_status(piece_at(line, status_at, b';'), row[MANDATORY]) {
-        return false;
-    }
-    number(line, past(line, status_at, b';')) == row[NUMBER] as usize
+    is_named
+        && is_status(piece_at(line, status_at, b';'), row[MANDATORY])
+        && number(line, past(line, status_at, b';')) == row[NUMBER] as usize
 }
 
 fn past_place(line: &[u8], at: usize) -> usize {
@@ -138,6 +95,7 @@ fn hold_places(
     to: usize,
     line: &[u8],
 ) -> io::Result<()> {
+    // The row moves past what a group holds, and the index by what was read, not by one.
     let mut row = from;
     let mut at = past(line, past(line, 0, b';'), b';');
     while row < to {
@@ -155,18 +113,13 @@ fn hold_places(
     say_left(rt, line, at)
 }
 
-// The row of a group, or the end.
-fn row_of(table: &[[u32; 8]], group: usize) -> usize {
-    let mut i = 0;
-    while i < table.len() {
-        if entry(table, i, TAG) == 0 {
-            if entry(table, i, GROUP) as usize == group {
-                return i;
-            }
-        }
-        i += 1;
-    }
-    i
+// The row of a group.
+fn row_of(table: &[[u32; 8]], group: usize) -> Option<usize>
+    ensures { IfSome result (λ row. row < length table.now) }
+{
+    table
+        .iter()
+        .position(|row| row[TAG] == 0 && row[GROUP] as usize == group)
 }
 
 // The second field of a line is `SG` and a group's number or, in the line of a whole message, its name, whose third character is no digit.
@@ -179,53 +132,40 @@ fn hold_line(rt: &impl Print, table: &[[u32; 8]], line: &[u8]) -> io::Result<()>
     if group == 0 {
         return hold_places(rt, table, 0, table.len(), line);
     }
-    let row = row_of(table, group);
-    if row < table.len() {
-        hold_places(
+    match row_of(table, group) {
+        Some(row) => hold_places(
             rt,
             table,
             row + 1,
             row + 1 + entry(table, row, HELD) as usize,
             line,
-        )
-    } else {
-        say(rt, b"no such group\n")
+        ),
+        None => say(rt, b"no such group\n"),
     }
 }
 
 // Whether a line is of release 04A, and not of 08A: the third part of its first field.
 fn is_earlier(line: &[u8]) -> bool {
     let release = piece_at(line, past(line, past(line, 0, b':'), b':'), b':');
-    if release.len() != 3 {
-        return false;
-    }
-    release[1] == b'4'
+    matches!(release, [_, b'4', _])
 }
 
 // A line is copied and, where it is no remark, held to its table. The lines of TSDUPD end with D.08A; the table of D.12B is held to those.
 fn run_line(rt: &impl Print, line: &[u8], tables: &[[u32; 8]]) -> io::Result<()> {
     say_line(rt, line)?;
-    if line.len() == 0 {
-        return Ok(());
-    }
-    if line[0] == b'S' {
-        hold_line(rt, table_of(tables, MessageType::Skdupd), line)?;
-    }
-    if line[0] == b'T' {
-        if is_earlier(line) {
-            hold_line(rt, table_of(tables, MessageType::Tsdupd), line)?;
-        } else {
-            hold_line(rt, &tsdupd_12b(), line)?;
+    match line.first() {
+        Some(b'S') => hold_line(rt, table_of(tables, MessageType::Skdupd), line),
+        Some(b'T') if is_earlier(line) => {
+            hold_line(rt, table_of(tables, MessageType::Tsdupd), line)
         }
+        Some(b'T') => hold_line(rt, &tsdupd_12b(), line),
+        _ => Ok(()),
     }
-    Ok(())
 }
 
 fn run_text(rt: &impl Print, text: &[u8], tables: &[[u32; 8]]) -> io::Result<()> {
-    let mut at = 0;
-    while at < text.len() {
-        run_line(rt, piece_at(text, at, b'\n'), tables)?;
-        at = past(text, at, b'\n');
+    for line in text.split_inclusive(|&b| b == b'\n') {
+        run_line(rt, line.strip_suffix(b"\n").unwrap_or(line), tables)?;
     }
     Ok(())
 }

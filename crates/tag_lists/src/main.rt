@@ -5,19 +5,11 @@
 
 #![tactic(auto)]
 
-ghost use Rattle.std.specs.Prelude.{◌≡◌, ◌+◌, ◌*◌};
-
-use lines::{four_digits, letters, number, past, piece_at, read_input, say, say_line, say_number};
+use lines::{four_digits, letters, number, past, read_input, say, say_line, say_number};
 use messages::{MessageType, UIH, UIT};
-use placing::{Place, Stepped};
+use placing::{POSITION, Place};
 use segment_tables::{table_of, tsdupd_12b};
 use std::io;
-
-#[derive(Clone, Copy)]
-enum Run {
-    All(Place),
-    Out(usize),
-}
 
 // A table in which a tag stands at several places, so that the order of the choices shows.
 fn made_up() -> [[u32; 8]; 8] {
@@ -51,43 +43,24 @@ fn times(word: &[u8]) -> usize {
 }
 
 // A tag as the tables have it: its three bytes as one number.
-fn tag(a: u8, b: u8, c: u8) -> u32
-    ensures { result ≡ a * 65536 + b * 256 + c }
-{
-    a as u32 * 65536 + b as u32 * 256 + c as u32
-}
-
 fn tag_of(word: &[u8]) -> u32 {
-    if word.len() < 3 {
-        return 0;
+    match word {
+        [a, b, c, ..] => u32::from_be_bytes([0, *a, *b, *c]),
+        _ => 0,
     }
-    tag(word[0], word[1], word[2])
 }
 
-// So many segments of one tag, up to the first that is out of place.
-fn repeated(place: Place, table: &[[u32; 8]], tag: u32, times: usize) -> Run {
-    let mut p = place;
-    let mut k = 0;
-    while k < times {
-        match p.step(table, tag) {
-            Stepped::Placed(q) => {
-                p = q;
-                k += 1;
-            }
-            Stepped::OutOfPlace => {
-                return Run::Out(k + 1);
-            }
-        }
-    }
-    Run::All(p)
+// So many segments of one tag; which of them is out of place, if one is.
+fn repeated(place: Place, table: &[[u32; 8]], tag: u32, times: usize) -> Result<Place, usize> {
+    (1..=times).try_fold(place, |reached, k| reached.step(table, tag).ok_or(k))
 }
 
 // The position of a row, in the four digits of document 000; document 003 has a zero before them.
 fn print_position(rt: &impl Print, table: &[[u32; 8]], row: usize) -> io::Result<()> {
-    if row < table.len() {
-        say(rt, &four_digits(table[row][0]))?;
+    match table.get(row) {
+        Some(columns) => say(rt, &four_digits(columns[POSITION])),
+        None => Ok(()),
     }
-    Ok(())
 }
 
 fn print_place(rt: &impl Print, place: Place, table: &[[u32; 8]]) -> io::Result<()> {
@@ -104,18 +77,16 @@ fn print_place(rt: &impl Print, place: Place, table: &[[u32; 8]]) -> io::Result<
 
 fn run_tags(rt: &impl Print, line: &[u8], table: &[[u32; 8]]) -> io::Result<()> {
     let mut place = Place::start();
-    let mut at = past(line, 0, b' ');
-    while at < line.len() {
-        let word = piece_at(line, at, b' ');
+    for piece in line.split_inclusive(|&b| b == b' ').skip(1) {
+        let word = piece.strip_suffix(b" ").unwrap_or(piece);
         let tag = tag_of(word);
         say(rt, &letters(tag))?;
         match repeated(place, table, tag, times(word)) {
-            Run::All(q) => {
-                print_place(rt, q, table)?;
-                place = q;
-                at = past(line, at, b' ');
+            Ok(reached) => {
+                print_place(rt, reached, table)?;
+                place = reached;
             }
-            Run::Out(k) => {
+            Err(k) => {
                 say(rt, b" out ")?;
                 say_number(rt, k)?;
                 return say(rt, b"\n");
@@ -132,22 +103,13 @@ fn run_line(
     other: &[[u32; 8]],
 ) -> io::Result<()> {
     say_line(rt, line)?;
-    if line.len() == 0 {
-        return Ok(());
+    match line.first() {
+        Some(b'S') => run_tags(rt, line, table_of(tables, MessageType::Skdupd)),
+        Some(b'T') => run_tags(rt, line, table_of(tables, MessageType::Tsdupd)),
+        Some(b'B') => run_tags(rt, line, &tsdupd_12b()),
+        Some(b'X') => run_tags(rt, line, other),
+        _ => Ok(()),
     }
-    if line[0] == b'S' {
-        run_tags(rt, line, table_of(tables, MessageType::Skdupd))?;
-    }
-    if line[0] == b'T' {
-        run_tags(rt, line, table_of(tables, MessageType::Tsdupd))?;
-    }
-    if line[0] == b'B' {
-        run_tags(rt, line, &tsdupd_12b())?;
-    }
-    if line[0] == b'X' {
-        run_tags(rt, line, other)?;
-    }
-    Ok(())
 }
 
 fn run_text(
@@ -156,10 +118,8 @@ fn run_text(
     tables: &[[u32; 8]],
     other: &[[u32; 8]],
 ) -> io::Result<()> {
-    let mut at = 0;
-    while at < text.len() {
-        run_line(rt, piece_at(text, at, b'\n'), tables, other)?;
-        at = past(text, at, b'\n');
+    for line in text.split_inclusive(|&b| b == b'\n') {
+        run_line(rt, line.strip_suffix(b"\n").unwrap_or(line), tables, other)?;
     }
     Ok(())
 }

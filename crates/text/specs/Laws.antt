@@ -1,6 +1,6 @@
 -- The laws of the text and of its parts, put one behind another.
 -- Assumes nothing.
-use Rattle.std.specs.Prelude.{◌≡◌, true, false, List, [], ◌∷◌, ◌++◌, leb, length, get_or, take, drop}
+use Rattle.std.specs.Prelude.{◌≡◌, true, false, List, [], ◌∷◌, ◌++◌, leb, length, get_or, take, drop, Option, Some, None}
 use Rattle.std.proofs.Math.Path.{refl}
 use Rattle.std.proofs.Common.{sym, ap, ◌∙◌, length-drop, le-leb, leb-true, leb-false}
 use Prim.Native.Nat.{ℕ, zero, suc, ◌+◌, ◌-◌, ◌<◌, ◌≤◌}
@@ -8,16 +8,14 @@ use native.Mathlib.Omega.{arith}
 use Rattle.std.proofs.Math.Decide.{dec_lt}
 use Rattle.std.proofs.Math.ListN.{length-append}
 use Rattle.std.proofs.lemmas.Bool.{lt-leb}
-use Rattle.laws.specs.Lists.{drop_here}
+use Rattle.laws.specs.Lists.{rest_is}
 use Rattle.laws.specs.Put.{put_at, put_no_room, put_none, put_behind, take_put, length_put}
 use Rattle.answers.specs.declared.Refusal.{Refusal}
 use Rattle.answers.specs.Answers.{Answer, done, refused, output_too_short}
 use Rattle.answers.specs.Laws.{one_case}
-use Rattle.text.specs.declared.Written.{Written}
-use Rattle.text.specs.declared.Written.TheVariants.{Bytes, NoRoom}
 use Rattle.laws.specs.Decimal.{decimal_of}
 use Rattle.laws.specs.Digits.{decimal_length}
-use Rattle.text.specs.Text.{pair_text, tail_text, row_text, row_at, rows_text, table_text, heading, refusal_word, refusal_text, written_answer, printed_answer}
+use Rattle.text.specs.Text.{pair_text, tail_text, row_text, rows_text, table_text, heading, refusal_word, refusal_text, written_answer, printed_answer}
 
 pub length_pair : (a b : ℕ) (tail : List ℕ) → length (pair_text a b tail) ≡ length (decimal_of a) + 1 + length (decimal_of b) + length tail
 length_pair a b tail = simp length-append
@@ -37,23 +35,23 @@ pair_put o at a b tail i j h ei ej e₁ e₂ e₃ e₄ =
     let l₃ : length (decimal_of a ++ (9 ∷ []) ++ decimal_of b) ≡ length (decimal_of a) + 1 + length (decimal_of b) = simp length-append in
     ((omega arith, omega arith), put_behind o at (decimal_of a ++ (9 ∷ []) ++ decimal_of b) tail (at + i + 1 + j) g e₄ refl (omega arith) (omega arith))
 
-pub row_put : (o p : List ℕ) (l : List ℕ) (i n : ℕ) {x y : ℕ} → 46 ≤ length o → n ≤ 46 → x ≡ get_or l i 0 → y ≡ get_or l (i + 1) 0
-    → n ≡ length (pair_text x y (tail_text (get_or l (i + 2) 0))) → p ≡ put_at o 0 (pair_text x y (tail_text (get_or l (i + 2) 0)))
-    → ((n ≤ 46) × (n ≡ length (row_at l i))) × (take n p ≡ row_at l i)
+pub row_put : (o p : List ℕ) (a b c n : ℕ) {x y : ℕ} → 46 ≤ length o → n ≤ 46 → x ≡ a → y ≡ b
+    → n ≡ length (pair_text x y (tail_text c)) → p ≡ put_at o 0 (pair_text x y (tail_text c))
+    → ((n ≤ 46) × (n ≡ length (row_text a b c))) × (take n p ≡ row_text a b c)
 unfolding row_text
-row_put o p l i n {x} {y} h k ex ey e q =
-    let w : pair_text x y (tail_text (get_or l (i + 2) 0)) ≡ row_at l i = rw (ex, ey) in
-    let en : n ≡ length (row_at l i) = e ∙ ap length w in
-    ((k, en), take_put o (row_at l i) p n (q ∙ ap (put_at o 0) w) en (omega arith))
+row_put o p a b c n {x} {y} h k ex ey e q =
+    let w : pair_text x y (tail_text c) ≡ row_text a b c = rw (ex, ey) in
+    let en : n ≡ length (row_text a b c) = e ∙ ap length w in
+    ((k, en), take_put o (row_text a b c) p n (q ∙ ap (put_at o 0) w) en (omega arith))
 
--- the rows from an index on: none are left, or one and those behind it
-pub rows_none : (n k : ℕ) (l : List ℕ) (i : ℕ) → n ≤ k → rows_text (n - k) (drop i l) ≡ []
+-- the rows that are left: none, or one and those behind it
+pub rows_none : (n k : ℕ) (rest : List ℕ) → n ≤ k → rows_text (n - k) rest ≡ []
 unfolding rows_text
-rows_none n k l i h =
+rows_none n k rest h =
     let e : n - k ≡ 0 = omega arith in
     rw e
 
-rows_few : (m : ℕ) (l : List ℕ) → length l < 3 → rows_text m l ≡ []
+pub rows_few : (m : ℕ) (l : List ℕ) → length l < 3 → rows_text m l ≡ []
 unfolding rows_text
 rows_few zero l h = refl
 rows_few (suc m) [] h = refl
@@ -61,43 +59,46 @@ rows_few (suc m) (a ∷ []) h = refl
 rows_few (suc m) (a ∷ (b ∷ [])) h = refl
 rows_few (suc m) (a ∷ (b ∷ (c ∷ l))) h = absurd (omega arith)
 
-pub rows_short : (m : ℕ) (l : List ℕ) (i : ℕ) → length l - i < 3 → rows_text m (drop i l) ≡ []
-rows_short m l i h = rows_few m (drop i l) (rw length-drop h)
+-- the three numbers of the first row that is left, and what is behind them
+pub three_first : (rest : List ℕ) → 3 ≤ length rest
+    → rest ≡ get_or rest 0 0 ∷ (get_or rest 1 0 ∷ (get_or rest 2 0 ∷ take (length rest - 3) (drop 3 rest)))
+three_first [] h = absurd (omega arith)
+three_first (a ∷ []) h = absurd (omega arith)
+three_first (a ∷ (b ∷ [])) h = absurd (omega arith)
+three_first (a ∷ (b ∷ (c ∷ l))) h = ap (λ (x : List ℕ). a ∷ (b ∷ (c ∷ x))) (sym (rest_is (a ∷ (b ∷ (c ∷ l))) 3))
 
-module _ (n k : ℕ) (l : List ℕ) (i : ℕ) (hk : k < n) (hi : i + 3 ≤ length l) where
-  rows_step : rows_text (n - k) (drop i l) ≡ row_at l i ++ rows_text (n - (k + 1)) (drop (i + 3) l)
+module _ (n k a b c : ℕ) (rest l : List ℕ) (hk : k < n) (is : rest ≡ a ∷ (b ∷ (c ∷ l))) where
+  rows_step : rows_text (n - k) rest ≡ row_text a b c ++ rows_text (n - (k + 1)) l
   unfolding rows_text
   rows_step =
       let e : n - k ≡ suc (n - (k + 1)) = omega arith in
-      let b : i + 1 + 1 ≡ i + 2 = omega arith in
-      let c : i + 2 + 1 ≡ i + 3 = omega arith in
-      rw (e, drop_here l i (omega arith), drop_here l (i + 1) (omega arith), b, drop_here l (i + 2) (omega arith), c)
+      rw (e, is)
 
-  pub rows_length : length (rows_text (n - k) (drop i l)) ≡ length (row_at l i) + length (rows_text (n - (k + 1)) (drop (i + 3) l))
-  rows_length = ap length rows_step ∙ length-append (row_at l i) (rows_text (n - (k + 1)) (drop (i + 3) l))
+  pub rows_length : length (rows_text (n - k) rest) ≡ length (row_text a b c) + length (rows_text (n - (k + 1)) l)
+  rows_length = ap length rows_step ∙ length-append (row_text a b c) (rows_text (n - (k + 1)) l)
 
   -- there is room for one and for those behind it, or not for the one
-  pub room_step : (m left : ℕ) → m ≡ length (row_at l i) → m ≤ left
-      → leb (length (rows_text (n - (k + 1)) (drop (i + 3) l))) (left - m) ≡ leb (length (rows_text (n - k) (drop i l))) left
+  pub room_step : (m left : ℕ) → m ≡ length (row_text a b c) → m ≤ left
+      → leb (length (rows_text (n - (k + 1)) l)) (left - m) ≡ leb (length (rows_text (n - k) rest)) left
   room_step m left e h =
       let q = rows_length in
-      elim (dec_lt left (length (rows_text (n - k) (drop i l)))) [
-        | yes f ↦ lt-leb (length (rows_text (n - (k + 1)) (drop (i + 3) l))) (left - m) (omega arith) ∙ sym (lt-leb (length (rows_text (n - k) (drop i l))) left f)
-        | no f ↦ le-leb (length (rows_text (n - (k + 1)) (drop (i + 3) l))) (left - m) (omega arith) ∙ sym (le-leb (length (rows_text (n - k) (drop i l))) left (omega arith))
+      elim (dec_lt left (length (rows_text (n - k) rest))) [
+        | yes f ↦ lt-leb (length (rows_text (n - (k + 1)) l)) (left - m) (omega arith) ∙ sym (lt-leb (length (rows_text (n - k) rest)) left f)
+        | no f ↦ le-leb (length (rows_text (n - (k + 1)) l)) (left - m) (omega arith) ∙ sym (le-leb (length (rows_text (n - k) rest)) left (omega arith))
       ]
 
-  pub room_over : (m left : ℕ) → m ≡ length (row_at l i) → left < m → false ≡ leb (length (rows_text (n - k) (drop i l))) left
-  room_over m left e h = let q = rows_length in sym (lt-leb (length (rows_text (n - k) (drop i l))) left (omega arith))
+  pub room_over : (m left : ℕ) → m ≡ length (row_text a b c) → left < m → false ≡ leb (length (rows_text (n - k) rest)) left
+  room_over m left e h = let q = rows_length in sym (lt-leb (length (rows_text (n - k) rest)) left (omega arith))
 
   -- one put, and those behind it still to be put
-  pub one_put : (o p x : List ℕ) (to m : ℕ) → m ≡ length (row_at l i) → x ≡ row_at l i → p ≡ put_at o to x
-      → to + length (rows_text (n - k) (drop i l)) ≤ length o
-      → (to + m + length (rows_text (n - (k + 1)) (drop (i + 3) l)) ≡ to + length (rows_text (n - k) (drop i l)))
-      × (put_at p (to + m) (rows_text (n - (k + 1)) (drop (i + 3) l)) ≡ put_at o to (rows_text (n - k) (drop i l)))
+  pub one_put : (o p x : List ℕ) (to m : ℕ) → m ≡ length (row_text a b c) → x ≡ row_text a b c → p ≡ put_at o to x
+      → to + length (rows_text (n - k) rest) ≤ length o
+      → (to + m + length (rows_text (n - (k + 1)) l) ≡ to + length (rows_text (n - k) rest))
+      × (put_at p (to + m) (rows_text (n - (k + 1)) l) ≡ put_at o to (rows_text (n - k) rest))
   one_put o p x to m e ex ep h =
       let q = rows_length in (
         omega arith,
-        put_behind o to (row_at l i) (rows_text (n - (k + 1)) (drop (i + 3) l)) (to + m) (ep ∙ ap (put_at o to) ex) refl refl (omega arith) (omega arith) ∙ ap (put_at o to) (sym rows_step),
+        put_behind o to (row_text a b c) (rows_text (n - (k + 1)) l) (to + m) (ep ∙ ap (put_at o to) ex) refl refl (omega arith) (omega arith) ∙ ap (put_at o to) (sym rows_step),
       )
 
 pub room_none : (t : List ℕ) (left : ℕ) → t ≡ [] → true ≡ leb (length t) left
@@ -187,13 +188,13 @@ module _ (x : Refusal) (n k : ℕ) (e : n ≡ length (pair_text x.number x.posit
       text_written (refusal_text x) o r (9 + n + k) (omega arith) (omega arith) (er ∙ ap (put_at o 0) t)
 
 -- what a writer answers fixes its case
-abbrev case : Answer ℕ → Written
-case (done n) = Bytes n
-case (refused refusal) = NoRoom
+abbrev case : Answer ℕ → Option ℕ
+case (done n) = Some n
+case (refused refusal) = None
 
-back : (x : Written) → case (written_answer x) ≡ x
-back (Bytes n) = refl
-back NoRoom = refl
+back : (x : Option ℕ) → case (written_answer x) ≡ x
+back (Some n) = refl
+back None = refl
 
-pub written_same : (x y : Written) → written_answer x ≡ written_answer y → x ≡ y
+pub written_same : (x y : Option ℕ) → written_answer x ≡ written_answer y → x ≡ y
 written_same = one_case written_answer case back

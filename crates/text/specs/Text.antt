@@ -1,14 +1,12 @@
 -- The text that the printing program prints. Document 01, "Printed whole": "columns parted by a tab, newline after each line".
 -- The byte of a tab is 9, of a newline 10.
 -- Assumes nothing.
-use Rattle.std.specs.Prelude.{ℕ, zero, suc, ◌+◌, ◌/◌, ◌%◌, List, [], ◌∷◌, ◌++◌, leb, length, get_or}
+use Rattle.std.specs.Prelude.{ℕ, zero, suc, ◌+◌, ◌/◌, ◌%◌, List, [], ◌∷◌, ◌++◌, leb, length, get_or, Option, Some, None}
 use Rattle.laws.specs.Choice.{pick}
 use Rattle.laws.specs.Text.{bytes}
 use Rattle.answers.specs.declared.Refusal.{Refusal}
 use Rattle.answers.specs.Answers.{Answer, done, output_too_short}
 use Rattle.laws.specs.Decimal.{decimal_of}
-use Rattle.text.specs.declared.Written.{Written}
-use Rattle.text.specs.declared.Written.TheVariants.{Bytes, NoRoom}
 
 -- two numbers parted by a tab, and what follows them
 abbrev pub pair_text : ℕ → ℕ → List ℕ → List ℕ
@@ -20,10 +18,6 @@ tail_text tag = 9 ∷ (tag / 65536 % 256) ∷ (tag / 256 % 256) ∷ (tag % 256) 
 
 unfoldable pub row_text : ℕ → ℕ → ℕ → List ℕ
 row_text offset group tag = pair_text offset group (tail_text tag)
-
--- the row whose three numbers stand from index i on
-abbrev pub row_at : List ℕ → ℕ → List ℕ
-row_at l i = row_text (get_or l i 0) (get_or l (i + 1) 0) (get_or l (i + 2) 0)
 
 -- the first n rows of three numbers; numbers that are fewer than three are no row
 unfoldable pub rows_text : ℕ → List ℕ → List ℕ
@@ -48,9 +42,9 @@ unfoldable pub refusal_text : Refusal → List ℕ
 refusal_text x = refusal_word ++ pair_text x.number x.position (bytes "\t") ++ decimal_of x.part ++ bytes "\n"
 
 -- what each case answers: the bytes written, or the refusal
-abbrev pub written_answer : Written → Answer ℕ
-written_answer (Bytes n) = done n
-written_answer NoRoom = output_too_short
+abbrev pub written_answer : Option ℕ → Answer ℕ
+written_answer (Some n) = done n
+written_answer None = output_too_short
 
 -- a text for which there is room is put at the front of the lent bytes (`put_at`); any other is 17 and leaves them as they were
 unfoldable pub printed_answer : List ℕ → List ℕ → Answer ℕ

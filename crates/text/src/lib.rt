@@ -5,19 +5,10 @@
 
 ghost use Rattle.std.specs.Prelude.{◌≡◌, ◌+◌, ◌≤◌, leb, length, take};
 ghost use Rattle.laws.specs.Put.{put_at};
-ghost use Rattle.text.specs.Text.{pair_text, row_at, rows_text, table_text, refusal_text, written_answer, printed_answer};
+ghost use Rattle.text.specs.Text.{pair_text, row_text, rows_text, table_text, refusal_text, written_answer, printed_answer};
 
 use answers::Refusal;
 use raw_bytes::{put_bytes, put_decimal, wide};
-
-/// What came of writing a text.
-#[derive(Clone, Copy)]
-pub enum Written {
-    /// How many bytes it has.
-    Bytes(usize),
-    /// 17: the lent bytes are too few.
-    NoRoom,
-}
 
 // The first n bytes, put at an offset.
 fn put_first(out: &mut [u8], at: usize, bytes: &[u8], n: usize)
@@ -40,13 +31,12 @@ fn put_pair(out: &mut [u8], at: usize, a: usize, b: usize, tail: &[u8]) -> usize
     i + 1 + j + tail.len()
 }
 
-// The text of the row whose numbers stand from index i on, put at the front; how many bytes it has.
-fn put_row(rows: &[u32], i: usize, out: &mut [u8]) -> usize
-    requires { (i + 3 ≤ length rows.now) × (46 ≤ length out.old) }
-    ensures told { (result ≤ 46) × (result ≡ length (row_at rows.now i)) }
-    ensures left { take result out.new ≡ row_at rows.now i }
+// The text of a row, put at the front; how many bytes it has.
+fn put_row(offset: u32, group: u32, tag: u32, out: &mut [u8]) -> usize
+    requires { 46 ≤ length out.old }
+    ensures told { (result ≤ 46) × (result ≡ length (row_text offset group tag)) }
+    ensures left { take result out.new ≡ row_text offset group tag }
 {
-    let tag = rows[i + 2];
     let tail = [
         b'\t',
         (tag / 65536 % 256) as u8,
@@ -54,7 +44,7 @@ fn put_row(rows: &[u32], i: usize, out: &mut [u8]) -> usize
         (tag % 256) as u8,
         b'\n',
     ];
-    put_pair(out, 0, wide(rows[i]), wide(rows[i + 1]), &tail)
+    put_pair(out, 0, wide(offset), wide(group), &tail)
 }
 
 // Whether the text of the first n rows has at most as many bytes as there is room for.
@@ -62,20 +52,18 @@ fn fits(rows: &[u32], n: usize, room: usize) -> bool
     ensures { result ≡ leb (length (rows_text n rows.now)) room }
 {
     let mut left = room;
-    let mut i = 0;
-    let mut k = 0;
-    while k < n {
-        if rows.len() - i < 3 {
+    let mut rest = rows;
+    for k in 0..n {
+        let [offset, group, tag, further @ ..] = rest else {
             return true;
-        }
+        };
         let mut row = [0u8; 46];
-        let m = put_row(rows, i, &mut row);
+        let m = put_row(*offset, *group, *tag, &mut row);
         if left < m {
             return false;
         }
         left -= m;
-        i += 3;
-        k += 1;
+        rest = further;
     }
     true
 }
@@ -87,39 +75,37 @@ fn put_rows(rows: &[u32], n: usize, out: &mut [u8], at: usize) -> usize
     ensures left { out.new ≡ put_at out.old at (rows_text n rows.now) }
 {
     let mut to = at;
-    let mut i = 0;
-    let mut k = 0;
-    while k < n {
-        if rows.len() - i < 3 {
+    let mut rest = rows;
+    for k in 0..n {
+        let [offset, group, tag, further @ ..] = rest else {
             return to;
-        }
+        };
         let mut row = [0u8; 46];
-        let m = put_row(rows, i, &mut row);
+        let m = put_row(*offset, *group, *tag, &mut row);
         put_first(out, to, &row, m);
         to += m;
-        i += 3;
-        k += 1;
+        rest = further;
     }
     to
 }
 
-/// The table of the first n rows, each of three numbers (offset, group, tag).
-pub fn write_table(rows: &[u32], n: usize, out: &mut [u8]) -> Written
+/// The table of the first n rows, each of three numbers (offset, group, tag); how many bytes it has, or that the lent bytes are too few.
+pub fn write_table(rows: &[u32], n: usize, out: &mut [u8]) -> Option<usize>
     ensures told { written_answer result ≡ printed_answer (table_text n rows.now) out.old }
     ensures left { out.new ≡ put_at out.old 0 (table_text n rows.now) }
 {
     if out.len() < 17 {
-        return Written::NoRoom;
+        return None;
     }
     if !fits(rows, n, out.len() - 17) {
-        return Written::NoRoom;
+        return None;
     }
     put_bytes(out, 0, b"offset\tgroup\ttag\n");
-    Written::Bytes(put_rows(rows, n, out, 17))
+    Some(put_rows(rows, n, out, 17))
 }
 
-/// The line of a refusal: its number, its position and its part.
-pub fn write_refusal(refusal: Refusal, out: &mut [u8]) -> Written
+/// The line of a refusal: its number, its position and its part; how many bytes it has, or that the lent bytes are too few.
+pub fn write_refusal(refusal: Refusal, out: &mut [u8]) -> Option<usize>
     ensures told { written_answer result ≡ printed_answer (refusal_text refusal) out.old }
     ensures left { out.new ≡ put_at out.old 0 (refusal_text refusal) }
 {
@@ -135,8 +121,8 @@ pub fn write_refusal(refusal: Refusal, out: &mut [u8]) -> Written
     let k = put_decimal(&mut line, 8 + n, refusal.part as usize);
     put_bytes(&mut line, 8 + n + k, b"\n");
     if out.len() < 9 + n + k {
-        return Written::NoRoom;
+        return None;
     }
     put_first(out, 0, &line, 9 + n + k);
-    Written::Bytes(9 + n + k)
+    Some(9 + n + k)
 }

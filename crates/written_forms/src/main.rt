@@ -4,9 +4,9 @@
 // What it must write was made by another implementation, with Python's datetime.
 ghost use Rattle.std.specs.Prelude.{◌≤◌};
 
-use calendar::Written;
+use calendar::WriteError;
 use dates::Date;
-use lines::{number, past, piece_at, read_input, say, say_line, say_number};
+use lines::{number, read_input, say, say_line, say_number};
 use std::io;
 
 // The date as it is written, whether it is one or not.
@@ -28,10 +28,8 @@ fn mark(days: &mut [u8], k: usize, byte: u8) {
 }
 
 fn mark_all(days: &mut [u8], line: &[u8]) {
-    let mut k = 22;
-    while k < line.len() {
-        mark(days, k - 22, line[k]);
-        k += 1;
+    for (k, byte) in line.iter().skip(22).enumerate() {
+        mark(days, k, *byte);
     }
 }
 
@@ -49,12 +47,12 @@ fn print(rt: &impl Print, out: &[u8], n: usize) -> io::Result<()> {
 }
 
 // What was written, or document 01's number.
-fn show(rt: &impl Print, written: Written, out: &[u8]) -> io::Result<()> {
+fn show(rt: &impl Print, written: Result<usize, WriteError>, out: &[u8]) -> io::Result<()> {
     match written {
-        Written::Bytes(n) => print(rt, out, n),
-        Written::BadCalendar => refused(rt, 19),
-        Written::NoWeekdayForm => refused(rt, 20),
-        Written::NoRoom => refused(rt, 17),
+        Ok(n) => print(rt, out, n),
+        Err(WriteError::BadCalendar) => refused(rt, 19),
+        Err(WriteError::NoWeekdayForm) => refused(rt, 20),
+        Err(WriteError::NoRoom) => refused(rt, 17),
     }
 }
 
@@ -104,10 +102,8 @@ fn handle(rt: &impl Print, line: &[u8]) -> io::Result<()> {
 }
 
 fn all_lines(rt: &impl Print, text: &[u8]) -> io::Result<()> {
-    let mut at = 0;
-    while at < text.len() {
-        handle(rt, piece_at(text, at, b'\n'))?;
-        at = past(text, at, b'\n');
+    for line in text.split_inclusive(|&b| b == b'\n') {
+        handle(rt, line.strip_suffix(b"\n").unwrap_or(line))?;
     }
     Ok(())
 }

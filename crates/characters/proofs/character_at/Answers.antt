@@ -1,43 +1,13 @@
--- `character_at` meets its contract.
--- Assumes nothing.
-use mathlib.Core.Path.{sym, ◌∙◌}
-use mathlib.Core.List.{List}
-use Prim.Native.Nat.{ℕ}
-use native.Mathlib.Omega.{arith}
-use lib.ListN.{drop}
+use Rattle.std.proofs.Common.{ap, sym, ◌∙◌}
+use Rattle.std.specs.Option.{unwrap_or}
+use Rattle.std.proofs.lemmas.Option.{unwrap_or-slice_get}
+use Rattle.std.proofs.lemmas.Iterator.Adapters.{option_map_id}
+use Rattle.std.proofs.lemmas.Iterator.Consumers.{nth_from_yields_List}
 use Rattle.syntax.specs.Bytes.{plain}
-use Rattle.values.specs.Laws.{next_byte, next_done, plain_past, Follows}
-use Rattle.characters.specs.Steps.{character_here, character_goes, character_none}
-use Rattle.characters.proofs.character_at.Goals.{At-loop-i, In-Byte}
+use Rattle.values.proofs.Yields.{characters_yield}
 use Rattle.characters.proofs.character_at.Goals as goal
-
--- a byte was found: it is the first that is left, and the others stand past it
-module _ (t : In-Byte) where
-  found : Follows t.args.part.now t.loop-i.i t.in-Byte.b t.in-Byte.next
-  found =
-      next_byte t.args.part.now t.loop-i.i t.in-Byte.b t.in-Byte.next t.loop-i-test.true (sym t.next_byte.ensures ∙ t.in-Byte.is)
-
-  abbrev rest : List ℕ
-  rest = plain (drop t.in-Byte.next t.args.part.now)
-
-  abbrev ahead : List ℕ
-  ahead = plain (drop t.loop-i.i t.args.part.now)
-
-pub returns-then-left-eq0 : goal.returns-then-left-eq0
-returns-then-left-eq0 c =
-    character_here (ahead (goal.at.returns-then-left-eq0 c).In-Byte) (rest (goal.at.returns-then-left-eq0 c).In-Byte) c.in-Byte.b (found (goal.at.returns-then-left-eq0 c).In-Byte).text c.loop-i.left c.if-left-eq0.true ∙ c.loop-i.invariant
-
-pub loop-i-smaller : goal.loop-i-smaller
-loop-i-smaller c = let f = found (goal.at.loop-i-smaller c).In-Byte in omega arith
-
-pub loop-i-preserved : goal.loop-i-preserved
-loop-i-preserved c =
-    character_goes (ahead (goal.at.loop-i-preserved c).In-Byte) (rest (goal.at.loop-i-preserved c).In-Byte) c.in-Byte.b (found (goal.at.loop-i-preserved c).In-Byte).text c.loop-i.left c.if-left-eq0.false ∙ c.loop-i.invariant
-
-pub returns-in-Done : goal.returns-in-Done
-returns-in-Done c =
-    character_none (plain (drop c.loop-i.i c.args.part.now)) (next_done c.args.part.now c.loop-i.i (sym c.next_byte.ensures ∙ c.in-Done.is)) c.loop-i.left ∙ c.loop-i.invariant
 
 pub returns : goal.returns
 returns c =
-    character_none (plain (drop c.loop-i.i c.args.part.now)) (plain_past c.args.part.now c.loop-i.i c.loop-i-test.false) c.loop-i.left ∙ c.loop-i.invariant
+    let e = nth_from_yields_List c.nth.result c.nth.new.self c.args.k c.nth.ensures.ran (characters_yield c.characters.ensures) in
+    c.unwrap_or.ensures ∙ ap (λ o. unwrap_or o 0) (sym (option_map_id c.nth.result) ∙ e) ∙ unwrap_or-slice_get (plain c.args.part.now) c.args.k 0

@@ -1,7 +1,10 @@
 -- `cuts::find_terminator` looks by eight bytes first, then byte by byte.
 -- Assumes nothing.
+use mathlib.Core.Path.{sym, ◌∙◌}
 use native.Mathlib.Omega.{arith}
-use Rattle.cuts.specs.Laws.{none_told, released_told, end_told, search_told}
+use lib.ListN.{length}
+use Rattle.syntax.specs.Found.{end_from, told_is}
+use Rattle.cuts.specs.Laws.{none_told, released_told, end_told}
 use Rattle.cuts.proofs.find_terminator.Goals as goal
 
 pub returns-then-s-eq0 : goal.returns-then-s-eq0
@@ -12,12 +15,8 @@ returns-then-released c =
     let a = c.args in
     rw c.if-released.true (released_told a.s.now c.search.result.at c.search.result.released (omega arith) c.search.ensures)
 
-pub returns-then-end-s : goal.returns-then-end-s
-returns-then-end-s c =
-    let a = c.args in
-    rw c.if-released.false (end_told a.s.now c.find_end-end.result c.find_end-end.ensures c.if-end-s.true)
-
-pub returns : goal.returns
-returns c =
-    let a = c.args in
-    rw c.if-released.false (search_told a.s.now c.search-2.result.at c.search-2.result.released c.search-2.ensures)
+pub returns-in-Some : goal.returns-in-Some
+returns-in-Some c =
+    let s = c.args.s.now in
+    let e = told_is (length s) (end_from s 0) c.in-Some.end (sym c.find_end.ensures ∙ c.in-Some.is) in
+    rw c.if-released.false (end_told s c.in-Some.end (sym e.0) (omega (arith, e.0, e.1)))

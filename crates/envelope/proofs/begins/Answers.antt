@@ -1,27 +1,26 @@
 -- `envelope::begins` meets its contract.
 -- Assumes nothing.
-use mathlib.Core.Path.{refl, sym, ◌∙◌}
-use native.Mathlib.Omega.{arith}
-use Rattle.envelope.specs.Written.{begins_short, begins_past, begins_not, begins_goes}
+use mathlib.Core.Path.{◌≡◌, refl, sym, ap, ◌∙◌}
+use mathlib.Core.Bool.{Bool, true, false}
+use mathlib.Core.List.{List, [], ◌∷◌}
+use Prim.Native.Nat.{ℕ}
+use lib.Dec.{eqb}
+use lib.ListN.{length, take}
+use borrow.Author.Tests.{eqb-true, eqb-false, eq-eqb, ne_eqb}
+use Rattle.laws.specs.Choice.{both, choose}
+use Rattle.std.specs.List.{starts_with}
+use Rattle.envelope.specs.Written.{begins_with}
 use Rattle.envelope.proofs.begins.Goals as goal
 
-pub returns-then-segment-text : goal.returns-then-segment-text
-returns-then-segment-text c = let a = c.args in sym (begins_short a.segment.now a.text.now c.if-segment-text.true)
-
-pub loop-i-init : goal.loop-i-init
-loop-i-init c = (omega arith, refl)
-
-pub returns-then-segment-i : goal.returns-then-segment-i
-returns-then-segment-i c =
-    let a = c.args in
-    sym (begins_not a.segment.now a.text.now c.loop-i.i (omega arith) (omega arith) c.if-segment-i.true) ∙ c.loop-i.invariant.1
-
-pub loop-i-preserved : goal.loop-i-preserved
-loop-i-preserved c =
-    let a = c.args in
-    (c.loop-i.invariant.0, sym (begins_goes a.segment.now a.text.now c.loop-i.i (omega arith) (omega arith) c.if-segment-i.false) ∙ c.loop-i.invariant.1)
+-- the library's test is ours
+starts_is : (g text : List ℕ) → starts_with eqb g text ≡ begins_with g text
+unfolding begins_with
+starts_is g [] = refl
+starts_is [] (t ∷ text) = refl
+starts_is (b ∷ g) (t ∷ text) =
+    choose (eqb b t)
+    (λ p. let e = eq-eqb t b (sym (eqb-true b t p)) in rw (p, e) (starts_is g text))
+    (λ p. let e = ne_eqb t b (λ q. eqb-false b t p (sym q)) in rw (p, e))
 
 pub returns : goal.returns
-returns c =
-    let a = c.args in
-    sym (begins_past a.segment.now a.text.now c.loop-i.i c.loop-i-test.false) ∙ c.loop-i.invariant.1
+returns c = c.starts_with.ensures.value ∙ starts_is c.args.segment.now c.args.text.now

@@ -1,11 +1,11 @@
 -- `envelope::open_any` meets its contract.
 -- Assumes nothing.
+use Rattle.std.specs.Prelude.{Some}
 use mathlib.Core.Path.{◌≡◌, sym, ap, ◌∙◌}
 use mathlib.Core.List.{List}
 use Prim.Native.Nat.{ℕ}
 use lib.Dec.{leb}
 use Rattle.parts.specs.declared.Part.{Part}
-use Rattle.envelope.specs.declared.Opened.TheVariants.{Dialogue}
 use Rattle.envelope.specs.Envelope.{says, value_of, place_of, UNOB, version4}
 use Rattle.envelope.specs.Laws.{place_absent, place_present}
 use Rattle.envelope.specs.Ways.{uib_level, uib_version, uib_absent, uib_good}
@@ -49,7 +49,7 @@ returns-then-is_absent c =
 pub returns : goal.returns
 returns c =
     let g = c.args.segment.now in
-    ap Dialogue c.place-dialogue.ensures
+    ap Some c.place-dialogue.ensures
     ∙ uib_good g
     (level (goal.at.returns c).After-equals ∙ c.if-not-equals.false)
     (version (goal.at.returns c).After-equals-2 ∙ c.if-not-equals-2.false)

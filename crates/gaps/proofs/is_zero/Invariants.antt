@@ -1,13 +1,9 @@
--- `gaps::is_zero` meets its contract. Invariant: the bits gathered are 0 and the rest is zero exactly when all is.
+-- `gaps::is_zero` meets its contract. Invariant: the bits gathered are 0 and the runs that are left are zero exactly when all runs are.
 -- Assumes nothing.
-use mathlib.Core.Path.{◌≡◌}
-use Prim.Native.Nat.{◌-◌, ◌≤◌}
-use lib.ListN.{length}
-use Rattle.gaps.specs.Zero.{all_zero, zero_on}
+use Rattle.std.proofs.Common.{◌≡◌, eqb, drop}
+use Rattle.laws.specs.Choice.{both}
+use Rattle.gaps.specs.Zero.{zero_runs}
 use Rattle.gaps.proofs.is_zero.Given as goal
 
-abbrev pub invariant-loop-i : goal.invariant-loop-i
-invariant-loop-i l = (l.i ≤ length l.b) × (zero_on l.b l.i l.all ≡ all_zero l.b)
-
-abbrev pub decreases-loop-i : goal.decreases-loop-i
-decreases-loop-i l = length l.b - l.i
+abbrev pub invariant-loop-run : goal.invariant-loop-run
+invariant-loop-run l = both (eqb l.all 0) (zero_runs (drop l.run-index l.runs)) ≡ zero_runs l.runs

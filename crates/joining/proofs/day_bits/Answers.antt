@@ -18,10 +18,10 @@ as_digit : (w : Bool) → bool_byte w ≡ pick w 1 0
 as_digit true = refl
 as_digit false = refl
 
-pub returns-in-Word : goal.returns-in-Word
-returns-in-Word c = λ j h.
+pub returns-in-Some : goal.returns-in-Some
+returns-in-Some c = λ j h.
     let a = c.args in
-    let e = eights_known a.text.now a.from c.eight_at.ensures c.in-Word.is in
+    let e = eights_known a.text.now a.from c.eight_at.ensures c.in-Some.is in
     ap (λ (x : ℕ). has_bit x j) c.eight_bits.ensures ∙ eight_days a.text.now a.from e c.requires.2 j (omega arith)
 
 pub loop-left-init : goal.loop-left-init

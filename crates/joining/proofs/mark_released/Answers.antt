@@ -1,44 +1,41 @@
 -- `mark_released` meets its contract.
 -- Assumes nothing.
-use mathlib.Core.Path.{refl, sym, ap, ◌∙◌}
-use Prim.Native.Nat.{ℕ, ◌+◌, ◌-◌}
-use native.Mathlib.Omega.{arith}
-use lib.Dec.{eqb}
-use lib.ListN.{get_or}
+use Rattle.std.proofs.Common.{◌≡◌, ◌∷◌, Bool, ℕ, List, ◌+◌, ◌-◌, ◌<◌, drop, eqb, get_or, sym, ap, ◌∙◌, arith, inl, inr}
+use Rattle.laws.specs.Choice.{pick}
+use Rattle.calendar.specs.Days.{with_day}
 use Rattle.syntax.specs.Bytes.{plain}
-use Rattle.values.specs.Laws.{next_text, next_done}
-use Rattle.joining.specs.Marks.{length_step, mark_starts, mark_step, mark_ends, mark_none, text_here, text_next, text_gone}
+use Rattle.joining.specs.Joined.{marked}
+use Rattle.joining.specs.Marks.{mark_step, mark_ends, mark_none, text_here, text_next, text_gone}
 use Rattle.joining.proofs.mark_released.Goals as goal
 
-pub loop-k-init : goal.loop-k-init
-loop-k-init c =
-    let a = c.args in
-    (omega arith, refl, refl, mark_starts (λ (x : ℕ). eqb (get_or (plain a.part.now) x 0) 49) a.at a.days.now a.n)
+-- the text from which the days are marked
+module _ (text : List ℕ) where
+  abbrev test : ℕ → Bool
+  test x = eqb (get_or text x 0) 49
+
+  -- one character more: the day i, that is at + k, is marked by it
+  one_more : (c : List ℕ) (at k n i b j : ℕ) {p l last : List ℕ} → k < n → i ≡ at + k → j ≡ k + 1 → drop k text ≡ p → p ≡ b ∷ l → last ≡ pick (eqb b 49) (with_day c i) c
+      → (drop j text ≡ l) × (marked test last at j (n - j) ≡ marked test c at k (n - k))
+  one_more c at k n i b j h e f d q m =
+      rw (f)
+      (text_next text k b d q, mark_step test at c k n h (ap (λ (x : ℕ). eqb x 49) (sym (text_here text k b d q))) (rw e at m))
 
 pub loop-k-preserved : goal.loop-k-preserved
 loop-k-preserved c =
     let a = c.args in
-    let l = c.loop-k in
-    let f = (next_text a.part.now l.i c.in-Byte.b c.in-Byte.next (sym c.next_byte.ensures ∙ c.in-Byte.is)) in (
-      omega arith,
-      length_step (eqb c.in-Byte.b 49) l.days (a.at + l.k) c.set_if.ensures ∙ l.invariant.1,
-      text_next (plain a.part.now) l.k c.in-Byte.b l.invariant.2 f,
-      mark_step (λ (x : ℕ). eqb (get_or (plain a.part.now) x 0) 49) a.at l.days l.k a.n (omega arith) (ap (λ (x : ℕ). eqb x 49) (sym (text_here (plain a.part.now) l.k c.in-Byte.b l.invariant.2 f))) c.set_if.ensures ∙ l.invariant.3,
-    )
-
-pub shape_of-days-in-Done : goal.shape_of-days-in-Done
-shape_of-days-in-Done c = c.loop-k.invariant.1
-
-pub returns-in-Done : goal.returns-in-Done
-returns-in-Done c =
-    let a = c.args in
-    let l = c.loop-k in
-    sym (mark_none (λ (x : ℕ). eqb (get_or (plain a.part.now) x 0) 49) a.at l.days l.k (a.n - l.k) (text_gone (plain a.part.now) l.k l.invariant.2 (next_done a.part.now l.i (sym c.next_byte.ensures ∙ c.in-Done.is)))) ∙ l.invariant.3
-
-pub shape_of-days : goal.shape_of-days
-shape_of-days c = c.loop-k.invariant.1
+    let h = c.in-Some.ensures.steps in
+    let i = c.loop-k.invariant in
+    let k = c.loop-k.k-iterator.a.start - a.at in
+    let more = one_more (plain a.part.now) c.loop-k.days a.at k a.n c.in-Some.k c.in-Some.b (c.next.new.self.a.start - a.at) (omega arith) (omega arith) (omega arith) i.left h.1 c.set_if.ensures in
+    record { low = omega arith; high = omega arith; end = omega arith; left = more.0; marks = more.1 ∙ i.marks }
 
 pub returns : goal.returns
 returns c =
     let a = c.args in
-    sym (mark_ends (λ (x : ℕ). eqb (get_or (plain a.part.now) x 0) 49) a.at c.loop-k.days c.loop-k.k a.n c.loop-k-test.false) ∙ c.loop-k.invariant.3
+    let i = c.loop-k.invariant in
+    let k = c.loop-k.k-iterator.a.start - a.at in
+    let d = c.loop-k.days in
+    elim c.in-None.ensures.steps [
+      | inl x ↦ sym (mark_ends (test (plain a.part.now)) a.at d k a.n (omega (arith, x.1))) ∙ i.marks
+      | inr x ↦ sym (mark_none (test (plain a.part.now)) a.at d k (a.n - k) (text_gone (plain a.part.now) k i.left x.1.0)) ∙ i.marks
+    ]

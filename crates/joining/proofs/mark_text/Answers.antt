@@ -11,7 +11,7 @@ use Rattle.joining.specs.Marks.{mark_ends}
 use Rattle.joining.specs.Eights.{lead_on, byte_on, rest_on}
 use Rattle.joining.specs.Gathered.{eight_days}
 use Rattle.joining.proofs.mark_text.Invariants.{on}
-use Rattle.joining.proofs.mark_text.Goals.{At-loop-word, In-Word, In_default, Start}
+use Rattle.joining.proofs.mark_text.Goals.{At-loop-word, In-Some, In_default, Start}
 use Rattle.joining.proofs.mark_text.Goals as goal
 
 -- where the loop stands: the days fit in the calendar, and those up to the first byte's end are marked
@@ -34,9 +34,9 @@ module _ (o : At-loop-word) where
       (o.mark_bits.ensures ∙ ap (marked (has_bit d.result) a.days.now a.at 0) m)
 
 -- eight characters were found
-module _ (t : In-Word) where
-  found : Eights t.args.text.now t.loop-word.k t.in-Word.word
-  found = eights_known t.args.text.now t.loop-word.k t.eight_at.ensures t.in-Word.is
+module _ (t : In-Some) where
+  found : Eights t.args.text.now t.loop-word.k t.in-Some.word
+  found = eights_known t.args.text.now t.loop-word.k t.eight_at.ensures t.in-Some.is
 
 -- fewer than eight are left
 module _ (e : In_default) where
@@ -87,25 +87,25 @@ returns-in_default c =
     rest_on (on a.text.now) c.loop-word.days a.at (length a.text.now) d.result c.loop-word.k d.ensures c.mark_bits-in_default.ensures ∙ c.loop-word.invariant.2 ∙ led (goal.at.returns-in_default c).At-loop-word
 
 pub overflow_add-i : goal.overflow_add-i
-overflow_add-i c = let f = (found (goal.at.overflow_add-i c).In-Word).inside in omega arith
+overflow_add-i c = let f = (found (goal.at.overflow_add-i c).In-Some).inside in omega arith
 
 pub bounds-days-i : goal.bounds-days-i
 bounds-days-i c =
-    let f = (found (goal.at.bounds-days-i c).In-Word).inside in
+    let f = (found (goal.at.bounds-days-i c).In-Some).inside in
     let r = room (goal.at.bounds-days-i c).At-loop-word in
     omega arith
 
 pub bounds-days-i-in-loop-word : goal.bounds-days-i-in-loop-word
 bounds-days-i-in-loop-word c =
-    let f = (found (goal.at.bounds-days-i-in-loop-word c).In-Word).inside in
+    let f = (found (goal.at.bounds-days-i-in-loop-word c).In-Some).inside in
     let r = room (goal.at.bounds-days-i-in-loop-word c).At-loop-word in
     omega arith
 
 pub overflow_add-k : goal.overflow_add-k
-overflow_add-k c = let f = (found (goal.at.overflow_add-k c).In-Word).inside in omega arith
+overflow_add-k c = let f = (found (goal.at.overflow_add-k c).In-Some).inside in omega arith
 
 pub loop-word-smaller : goal.loop-word-smaller
-loop-word-smaller c = let f = (found (goal.at.loop-word-smaller c).In-Word).inside in omega arith
+loop-word-smaller c = let f = (found (goal.at.loop-word-smaller c).In-Some).inside in omega arith
 
 pub loop-word-preserved : goal.loop-word-preserved
 loop-word-preserved c =
@@ -113,6 +113,6 @@ loop-word-preserved c =
     let l = c.loop-word in (
       omega arith,
       simp length-set l.invariant.1,
-      byte_on (on a.text.now) l.days a.at (length a.text.now) c.eight_bits.result l.k ((a.at + l.k) / 8) (λ i. omega (arith, c.slice_known-in-loop-word-1.given i)) (omega (arith, c.eight_bits.type_inv)) refl l.invariant.0 (found (goal.at.loop-word-preserved c).In-Word).inside (room (goal.at.loop-word-preserved c).At-loop-word)
-          (λ j h. ap (λ (x : ℕ). has_bit x j) c.eight_bits.ensures ∙ eight_days a.text.now l.k (found (goal.at.loop-word-preserved c).In-Word) c.requires.3 j h) ∙ l.invariant.2,
+      byte_on (on a.text.now) l.days a.at (length a.text.now) c.eight_bits.result l.k ((a.at + l.k) / 8) (λ i. omega (arith, c.slice_known-in-loop-word-1.given i)) (omega (arith, c.eight_bits.type_inv)) refl l.invariant.0 (found (goal.at.loop-word-preserved c).In-Some).inside (room (goal.at.loop-word-preserved c).At-loop-word)
+          (λ j h. ap (λ (x : ℕ). has_bit x j) c.eight_bits.ensures ∙ eight_days a.text.now l.k (found (goal.at.loop-word-preserved c).In-Some) c.requires.3 j h) ∙ l.invariant.2,
     )

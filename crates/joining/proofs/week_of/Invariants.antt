@@ -1,14 +1,9 @@
--- `week_of` meets its contract.
+-- The bits so far, with those of the weekdays that are left, are those of all.
 -- Assumes nothing.
-use mathlib.Core.Path.{◌≡◌}
-use Prim.Native.Nat.{◌-◌}
-use lib.ListN.{length, drop}
+use Rattle.std.proofs.Common.{◌≡◌}
 use Rattle.syntax.specs.Bytes.{plain}
 use Rattle.joining.specs.Joined.{week_bits}
 use Rattle.joining.proofs.week_of.Given as goal
 
-abbrev pub invariant-loop-i : goal.invariant-loop-i
-invariant-loop-i l = week_bits l.week (plain (drop l.i l.part)) ≡ week_bits 0 (plain l.part)
-
-abbrev pub decreases-loop-i : goal.decreases-loop-i
-decreases-loop-i l = length l.part - l.i
+abbrev pub invariant-loop-b : goal.invariant-loop-b
+invariant-loop-b l = week_bits l.week (plain l.b-iterator.rest.now) ≡ week_bits 0 (plain l.part)

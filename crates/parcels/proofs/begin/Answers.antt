@@ -6,10 +6,10 @@ use Rattle.parcels.proofs.begin.Goals as goal
 
 pub returns-then-store-ne-STORE : goal.returns-then-store-ne-STORE
 returns-then-store-ne-STORE c =
-    let t = begin_other c.args.wish c.args.store.now (parcel_told c.refused.result) c.if-store-ne-STORE.true c.refused.ensures in
+    let t = begin_other c.args.wish c.args.store.now (parcel_told c.no_room.result) c.if-store-ne-STORE.true c.no_room.ensures in
     record { told = t.0; left = t.1 }
 
 pub returns : goal.returns
 returns c =
-    let t = begun c.args.wish c.args.store.now c.opening-state.result c.save.new.store c.if-store-ne-STORE.false c.opening-state.ensures c.save.ensures in
+    let t = begun c.args.wish c.args.store.now c.opening.result c.save.new.store c.if-store-ne-STORE.false c.opening.ensures c.save.ensures in
     record { told = t.0; left = t.1 }

@@ -6,13 +6,15 @@ use Prim.Native.Nat.{ℕ, ◌+◌}
 use native.Mathlib.Omega.{arith}
 use lib.ListN.{length}
 use Rattle.syntax.specs.Segment.{body_answer}
+use Rattle.answers.specs.declared.Refusal.{Refusal}
 use Rattle.answers.specs.Answers.{refused}
+use Rattle.arrival.specs.Arrived.{given}
 use Rattle.parcels.specs.CallLaws.{length_body, end_none, end_cut, end_closed, end_early}
 use Rattle.parcels.proofs.end_answer.Goals as goal
 
 pub returns-then-kept-eq0 : goal.returns-then-kept-eq0
 returns-then-kept-eq0 c =
-    end_none c.args.kept c.args.store.now c.requires.0 c.requires.1 c.if-kept-eq0.true
+    ap (λ (r : Refusal). given (refused r)) c.at.ensures ∙ end_none c.args.kept c.args.store.now c.requires.0 c.requires.1 c.if-kept-eq0.true
 
 pub cut_answer-requires : goal.cut_answer-requires
 cut_answer-requires c =
@@ -32,4 +34,4 @@ returns-then-is_closed c =
 
 pub returns : goal.returns
 returns c =
-    end_early c.args.kept c.args.store.now c.requires.0 c.requires.1 c.if-kept-eq0.false c.is_closed.result (omega (arith, c.if-kept-gt0.false)) c.is_closed.ensures c.if-is_closed.false
+    ap (λ (r : Refusal). given (refused r)) c.at-2.ensures ∙ end_early c.args.kept c.args.store.now c.requires.0 c.requires.1 c.if-kept-eq0.false c.is_closed.result (omega (arith, c.if-kept-gt0.false)) c.is_closed.ensures c.if-is_closed.false

@@ -1,7 +1,8 @@
 -- `parcels::finish` meets its contract.
 -- Assumes nothing.
-use mathlib.Core.Path.{sym, ◌∙◌}
+use mathlib.Core.Path.{ap, sym, ◌∙◌}
 use native.Mathlib.Omega.{arith}
+use Rattle.answers.specs.Answers.{refused}
 use Rattle.interchange.specs.Reader.{read_answer}
 use Rattle.arrival.specs.Arrived.{awaited_end}
 use Rattle.parcel_store.specs.Store.{stand_of}
@@ -11,7 +12,7 @@ use Rattle.parcels.proofs.finish.Goals as goal
 pub returns-then-store-ne-STORE : goal.returns-then-store-ne-STORE
 returns-then-store-ne-STORE c =
     let t = finish_other c.args.store.now c.if-store-ne-STORE.true in
-    record { told = t.0; left = t.1 }
+    record { told = ap refused c.at.ensures ∙ t.0; left = t.1 }
 
 pub final_reading-requires : goal.final_reading-requires
 final_reading-requires c = sym c.is_awaited.ensures ∙ c.if-not-is_awaited.true

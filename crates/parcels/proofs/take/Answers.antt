@@ -8,7 +8,7 @@ use Rattle.parcels.proofs.take.Goals as goal
 
 pub returns-then-store-ne-STORE : goal.returns-then-store-ne-STORE
 returns-then-store-ne-STORE c =
-    let t = take_other c.args.store.now c.args.parcel.now c.args.rows.now (parcel_told c.refused.result) c.if-store-ne-STORE.true c.refused.ensures in
+    let t = take_other c.args.store.now c.args.parcel.now c.args.rows.now (parcel_told c.no_room.result) c.if-store-ne-STORE.true c.no_room.ensures in
     record { told = t.0; left = t.1.0; out = t.1.1 }
 
 pub returns-then-not-is_awaited : goal.returns-then-not-is_awaited
@@ -26,8 +26,8 @@ has_room-requires c = (
 
 pub returns-then-not-has_room : goal.returns-then-not-has_room
 returns-then-not-has_room c =
-    let t = take_crowded c.args.store.now c.args.parcel.now c.args.rows.now c.load-kept.result (parcel_told c.refused-then-not-has_room.result) c.has_room.result c.if-store-ne-STORE.false c.load-kept.ensures
-    c.has_room.ensures (c.if-not-has_room.true) c.refused-then-not-has_room.ensures in
+    let t = take_crowded c.args.store.now c.args.parcel.now c.args.rows.now c.load-kept.result (parcel_told c.no_room-then-not-has_room.result) c.has_room.result c.if-store-ne-STORE.false c.load-kept.ensures
+    c.has_room.ensures (c.if-not-has_room.true) c.no_room-then-not-has_room.ensures in
     record { told = t.0; left = t.1.0; out = t.1.1 }
 
 pub advance-x-requires : goal.advance-x-requires

@@ -8,9 +8,9 @@ use Rattle.period.proofs.pop_at.Goals as goal
 pub returns-then-suffices : goal.returns-then-suffices
 returns-then-suffices c =
     let a = c.args in
-    wished_pop a.wish a.s.now a.at (pop_known a.s.now a.at c.read_written.ensures c.in-Whole.is) (sym c.suffices.ensures ∙ c.if-suffices.true)
+    wished_pop a.wish a.s.now a.at (pop_known a.s.now a.at c.read_written.ensures c.in-Some.is) (sym c.suffices.ensures ∙ c.if-suffices.true)
 
-pub returns-else-suffices : goal.returns-else-suffices
-returns-else-suffices c =
+pub returns : goal.returns
+returns c =
     let a = c.args in
-    unwished_pop a.wish a.s.now a.at (pop_known a.s.now a.at c.read_written.ensures c.in-Whole.is) (sym c.suffices.ensures ∙ c.if-suffices.false)
+    unwished_pop a.wish a.s.now a.at (pop_known a.s.now a.at c.read_written.ensures c.in-Some.is) (sym c.suffices.ensures ∙ c.if-suffices.false)

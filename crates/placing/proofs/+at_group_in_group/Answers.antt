@@ -1,13 +1,9 @@
--- The cycle of calls of `at_group` and `in_group`: each meets its contract, the depth left falling.
-use Rattle.std.proofs.Common.{◌≡◌, ℕ, ◌+◌, ◌-◌, ◌<◌, ◌∷◌, length, sym, ap, ◌∙◌, arith, rules}
-use Rattle.placing.specs.declared.Fit.TheVariants.{Nowhere}
-use Rattle.placing.specs.declared.Reading.{Reading}
-use Rattle.placing.specs.declared.Reading.TheVariants.{Found, Barred, Past}
+-- The cycle of calls of `at_place`, `at_group` and `in_group`: each meets its contract, the depth left falling.
+use Rattle.std.proofs.Common.{◌≡◌, ℕ, ◌+◌, ◌-◌, ◌<◌, ◌∷◌, length, sym, ap, ◌∙◌, arith}
 use Rattle.placing.specs.Table.{Table, places, after_of}
 use Rattle.placing.specs.Rule.{in_group, fits}
-use Rattle.placing.specs.Reading.{read, read_group}
-use Rattle.placing.proofs.Walks.{found, place_here, place_other, place_group, group_empty, group_found, group_shut, group_open, places_end, places_past, places_step, after_grows, read_none, read_here, read_barred, read_on_lem}
-use Rattle.placing.proofs.+at_group_in_group.Goals.{in_group-then-own-eq0+in_default, in_group-else-own-eq0+else-own-tag, in_group-Joined-own-eq0}
+use Rattle.placing.specs.Reading.{Reading, read, read_group}
+use Rattle.placing.proofs.Walks.{found, group_empty, group_found, group_shut, group_open, places_end, places_past, places_step, after_grows, read_none, read_here, read_barred, read_on_lem}
 use Rattle.placing.proofs.+at_group_in_group.Goals as goal
 
 -- what was found in a group is what the group fits
@@ -22,23 +18,16 @@ onto : (d : ℕ) (table : Table) (tag from end row : ℕ) (x : Reading)
     → read (fits (d - 1) table tag) table (row ∷ places table (after_of table row) end) ≡ x → x ≡ read_group d table tag from end
 onto d table tag from end row x v h k e = sym (ap (read (fits (d - 1) table tag) table) (places_step table row end h k) ∙ e) ∙ v
 
-pub at_group-in_group-requires : goal.at_group-in_group-requires
-at_group-in_group-requires t c = (omega arith, search rules)
+pub at_group-returns-in-Break : goal.at_group-returns-in-Break
+at_group-returns-in-Break t c =
+    went c.args.depth c.args.table.now c.args.tag c.args.row c.after-end.result c.in_group.result _ c.after-end.ensures c.in_group.ensures c.in-Break.is
 
-pub at_group-returns-in-Found : goal.at_group-returns-in-Found
-at_group-returns-in-Found t c =
-    went c.args.depth c.args.table.now c.args.tag c.args.row c.after-end.result c.in_group.result (Found c.in-Found.r c.in-Found.d) c.after-end.ensures c.in_group.ensures c.in-Found.is
+pub at_group-returns-in_default : goal.at_group-returns-in_default
+at_group-returns-in_default t c =
+    went c.args.depth c.args.table.now c.args.tag c.args.row c.after-end.result c.in_group.result _ c.after-end.ensures c.in_group.ensures c.in_default.is
 
-pub at_group-returns-in-Barred : goal.at_group-returns-in-Barred
-at_group-returns-in-Barred t c =
-    went c.args.depth c.args.table.now c.args.tag c.args.row c.after-end.result c.in_group.result Barred c.after-end.ensures c.in_group.ensures c.in-Barred.is
-
-pub at_group-returns-in-Past : goal.at_group-returns-in-Past
-at_group-returns-in-Past t c =
-    went c.args.depth c.args.table.now c.args.tag c.args.row c.after-end.result c.in_group.result Past c.after-end.ensures c.in_group.ensures c.in-Past.is
-
-pub at_group-returns : goal.at_group-returns
-at_group-returns t c =
+pub at_group-returns-else-row-end : goal.at_group-returns-else-row-end
+at_group-returns-else-row-end t c =
     let a = c.args in
     sym (group_empty a.depth a.table.now a.tag a.row (rw c.after-end.ensures at c.if-row-end.false))
 
@@ -56,46 +45,22 @@ in_group-returns-then-table-row t c =
     let f = fits (a.depth - 1) a.table.now a.tag in
     sym (ap (read f a.table.now) (places_past a.table.now c.loop-row.row a.end c.if-table-row.true) ∙ read_none f a.table.now) ∙ c.loop-row.invariant
 
-pub in_group-at_group-h-requires : goal.in_group-at_group-h-requires
-in_group-at_group-h-requires t c = (omega arith, search rules)
-
--- past the two tests the place fits nowhere
-nowhere : (t : ℕ) (j : in_group-Joined-own-eq0 t) → fits (j.args.depth - 1) j.args.table.now j.args.tag j.loop-row.row ≡ Nowhere
-nowhere t j =
-    let e = j.entry-own.ensures in
-    let d = j.args.depth - 1 in
-    elim j.if-own-eq0.branch [
-      | in_group-then-own-eq0+in_default w ↦ place_group d j.args.table.now j.args.tag j.loop-row.row (sym e ∙ w.if-own-eq0.true) ∙ sym w.at_group-h.ensures ∙ w.in_default.is
-      | in_group-else-own-eq0+else-own-tag w ↦ place_other d j.args.table.now j.args.tag j.loop-row.row (λ z. w.if-own-eq0.false (e ∙ z)) (λ z. w.if-own-tag.false (e ∙ z))
-    ]
-
-pub in_group-returns-in-At : goal.in_group-returns-in-At
-in_group-returns-in-At t c =
+pub in_group-returns-then-is_some : goal.in_group-returns-then-is_some
+in_group-returns-then-is_some t c =
     let a = c.args in
-    let d = a.depth - 1 in
     let row = c.loop-row.row in
-    onto a.depth a.table.now a.tag a.from a.end row (Found c.in-At.r c.in-At.d) c.loop-row.invariant c.loop-row-test.true c.if-table-row.false
-    (read_here (fits d a.table.now a.tag) a.table.now (places a.table.now (after_of a.table.now row) a.end) row c.in-At.r c.in-At.d
-    (place_group d a.table.now a.tag row (sym c.entry-own.ensures ∙ c.if-own-eq0.true) ∙ sym c.at_group-h.ensures ∙ c.in-At.is))
-
-pub in_group-returns-then-own-tag : goal.in_group-returns-then-own-tag
-in_group-returns-then-own-tag t c =
-    let a = c.args in
-    let d = a.depth - 1 in
-    let row = c.loop-row.row in
-    let e = c.entry-own.ensures in
-    onto a.depth a.table.now a.tag a.from a.end row (Found row d) c.loop-row.invariant c.loop-row-test.true c.if-table-row.false
-    (read_here (fits d a.table.now a.tag) a.table.now (places a.table.now (after_of a.table.now row) a.end) row row d
-    (place_here d a.table.now a.tag row (λ z. c.if-own-eq0.false (e ∙ z)) (sym e ∙ c.if-own-tag.true)))
+    onto a.depth a.table.now a.tag a.from a.end row _ c.loop-row.invariant c.loop-row-test.true c.if-table-row.false
+    (read_here (fits (a.depth - 1) a.table.now a.tag) a.table.now (places a.table.now (after_of a.table.now row) a.end) row
+    c.at_place-fit.result c.at_place-fit.ensures (sym c.is_some.ensures ∙ c.if-is_some.true))
 
 pub in_group-returns-then-entry-ne0 : goal.in_group-returns-then-entry-ne0
 in_group-returns-then-entry-ne0 t c =
     let a = c.args in
     let row = c.loop-row.row in
     let e = c.entry.ensures in
-    onto a.depth a.table.now a.tag a.from a.end row Barred c.loop-row.invariant c.loop-row-test.true c.if-table-row.false
+    onto a.depth a.table.now a.tag a.from a.end row _ c.loop-row.invariant c.loop-row-test.true c.if-table-row.false
     (read_barred (fits (a.depth - 1) a.table.now a.tag) a.table.now (places a.table.now (after_of a.table.now row) a.end) row
-    (nowhere t (goal.at.in_group-returns-then-entry-ne0 t c).Joined-own-eq0) (λ z. c.if-entry-ne0.true (e ∙ z)))
+    c.at_place-fit.result c.at_place-fit.ensures (sym c.is_some.ensures ∙ c.if-is_some.false) (λ z. c.if-entry-ne0.true (e ∙ z)))
 
 pub in_group-loop-row-smaller : goal.in_group-loop-row-smaller
 in_group-loop-row-smaller t c =
@@ -111,7 +76,7 @@ in_group-loop-row-preserved t c =
     let e = c.entry.ensures in
     rw c.after-row.ensures (onto a.depth a.table.now a.tag a.from a.end row _ c.loop-row.invariant c.loop-row-test.true c.if-table-row.false
     (read_on_lem (fits (a.depth - 1) a.table.now a.tag) a.table.now (places a.table.now (after_of a.table.now row) a.end) row
-    (nowhere t (goal.at.in_group-loop-row-preserved t c).Joined-own-eq0) (sym e ∙ c.if-entry-ne0.false)))
+    c.at_place-fit.result c.at_place-fit.ensures (sym c.is_some.ensures ∙ c.if-is_some.false) (sym e ∙ c.if-entry-ne0.false)))
 
 pub in_group-returns : goal.in_group-returns
 in_group-returns t c =

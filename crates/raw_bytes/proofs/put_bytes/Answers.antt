@@ -1,48 +1,26 @@
--- `put_bytes` meets its contract: after i turns the first i bytes are pasted at the offset.
+-- `put_bytes` meets its contract.
 -- Assumes nothing.
-use mathlib.Core.Path.{◌≡◌, refl, sym, ◌∙◌, ap}
-use mathlib.Core.Bool.{true}
-use Prim.Native.Nat.{◌+◌}
+use mathlib.Core.Path.{◌≡◌, sym}
+use Prim.Native.Nat.{◌+◌, ◌-◌, ◌≤◌}
 use native.Mathlib.Omega.{arith}
-use lib.Dec.{leb}
-use lib.ListN.{length, length-set}
-use lib.Seq.{paste, paste-zero}
+use Rattle.std.proofs.Common.{drop-drop}
+use lib.ListN.{length}
 use borrow.Author.Tests.{le-leb}
-use Rattle.laws.specs.Put.{put_room, put_refused, copied}
+use Rattle.laws.specs.Put.{put_is, put_refused}
+use Rattle.raw_bytes.proofs.put_bytes.Goals.{then-out-bytes-via-then-out-bytes, then-out-bytes-via-else-out-bytes+then-out-bytes-2}
 use Rattle.raw_bytes.proofs.put_bytes.Goals as goal
 
 pub returns-then-out-bytes : goal.returns-then-out-bytes
 returns-then-out-bytes c =
     let a = c.args in
-    put_refused a.at a.out.now a.bytes.now (omega arith)
-
-pub returns-then-out-bytes-2 : goal.returns-then-out-bytes-2
-returns-then-out-bytes-2 c =
-    let a = c.args in
-    put_refused a.at a.out.now a.bytes.now (omega arith)
-
-pub loop-i-init : goal.loop-i-init
-loop-i-init c =
-    let a = c.args in
-    (omega arith, omega arith, refl, paste-zero a.out.now a.at a.bytes.now)
-
-pub loop-i-preserved : goal.loop-i-preserved
-loop-i-preserved c =
-    let l = c.loop-i in
-    let a = c.args in (
-      omega arith,
-      l.invariant.1,
-      simp length-set l.invariant.2,
-      rw l.invariant.3 (copied a.out.now a.at a.bytes.now l.i (omega arith) (omega arith)),
-    )
-
-pub shape_of-out : goal.shape_of-out
-shape_of-out c = c.loop-i.invariant.2
+    elim c.then-out-bytes.branch [
+      | then-out-bytes-via-then-out-bytes w ↦ put_refused a.at a.out.now a.bytes.now (omega (arith, w.if-out-bytes.true))
+      | then-out-bytes-via-else-out-bytes+then-out-bytes-2 w ↦ put_refused a.at a.out.now a.bytes.now (omega (arith, w.if-out-bytes.false, w.if-out-bytes-2.true))
+    ]
 
 pub returns : goal.returns
 returns c =
     let a = c.args in
-    let l = c.loop-i in
-    let e : l.i ≡ length a.bytes.now = omega arith in
-    let t : leb (a.at + length a.bytes.now) (length a.out.now) ≡ true = le-leb _ _ l.invariant.1 in
-    (sym t, l.invariant.3 ∙ ap (paste a.out.now a.at a.bytes.now) e ∙ sym (put_room a.out.now a.at a.bytes.now l.invariant.1))
+    let h : a.at + length a.bytes.now ≤ length a.out.now = omega arith in
+    let e : a.at + (a.at + length a.bytes.now - a.at) ≡ a.at + length a.bytes.now = omega arith in
+    (sym (le-leb _ _ h), rw (c.copy_from_slice.ensures.after, put_is a.out.now a.at a.bytes.now h, drop-drop (a.at + length a.bytes.now - a.at) a.at a.out.now, e))

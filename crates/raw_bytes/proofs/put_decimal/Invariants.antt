@@ -9,6 +9,3 @@ use Rattle.raw_bytes.proofs.put_decimal.Given as goal
 
 abbrev pub invariant-loop-from : goal.invariant-loop-from
 invariant-loop-from l = (l.out ≡ l.initial.out) × (l.from ≤ 20) × (length l.digits ≡ 20) × (decimal_on l.from l.left ++ drop l.from l.digits ≡ decimal_of l.n)
-
-abbrev pub decreases-loop-from : goal.decreases-loop-from
-decreases-loop-from l = l.from

@@ -1,8 +1,7 @@
 -- `read_cases::after` stands past the sign.
 -- Assumes nothing.
-use mathlib.Core.Path.{ap}
+use mathlib.Core.Path.{sym, ◌∙◌}
 use native.Mathlib.Omega.{arith}
-use Rattle.lines.specs.declared.coded.Sign.{Sign}
 use Rattle.lines.specs.Lines.{past_forward}
 use Rattle.lines.specs.Coded.{sign_forward}
 use Rattle.read_cases.proofs.after.Goals as goal
@@ -14,9 +13,5 @@ returns-then-line-i-eq123 c =
     let e = c.past.ensures in
     omega arith
 
-pub returns : goal.returns
-returns c =
-    let a = c.args in
-    let h = sign_forward a.line.now a.i c.requires in
-    let e = ap (λ (x : Sign). x.next) c.sign_at.ensures in
-    omega arith
+pub returns-in-Some : goal.returns-in-Some
+returns-in-Some c = sign_forward c.args.line.now c.args.i c.in-Some.sign (sym c.sign_at.ensures ∙ c.in-Some.is)

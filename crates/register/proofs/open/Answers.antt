@@ -32,25 +32,25 @@ pub returns-then-day : goal.returns-then-day
 unfolding opened_answer
 returns-then-day c =
     let a = c.args in
-    let d = number_known a.first (sym c.day_number.ensures ∙ c.in-Day.is) in
-    let w = open_window a.b.now a.first a.quotas c.if-b-ne-LENGTH.false d.0 c.in-Day.day (sym d.1) (omega arith) in
+    let d = number_known a.first (sym c.day_number.ensures ∙ c.in-Some.is) in
+    let w = open_window a.b.now a.first a.quotas c.if-b-ne-LENGTH.false d.0 c.in-Some.day (sym d.1) (omega arith) in
     record { told = w.0; left = w.1 }
 
 pub returns-then-total_of-gt256 : goal.returns-then-total_of-gt256
 unfolding opened_answer
 returns-then-total_of-gt256 c =
     let a = c.args in
-    let d = number_known a.first (sym c.day_number.ensures ∙ c.in-Day.is) in
+    let d = number_known a.first (sym c.day_number.ensures ∙ c.in-Some.is) in
     let e : length a.quotas ≡ 8 = search rules in
-    let w = open_quotas a.b.now a.first a.quotas c.if-b-ne-LENGTH.false d.0 c.in-Day.day (sym d.1) (omega arith) e c.total_of.result c.total_of.ensures c.if-total_of-gt256.true in
+    let w = open_quotas a.b.now a.first a.quotas c.if-b-ne-LENGTH.false d.0 c.in-Some.day (sym d.1) (omega arith) e c.total_of.result c.total_of.ensures c.if-total_of-gt256.true in
     record { told = w.0; left = w.1 }
 
 pub returns : goal.returns
 unfolding opened_answer
 returns c =
     let a = c.args in
-    let d = number_known a.first (sym c.day_number.ensures ∙ c.in-Day.is) in
-    let n = c.in-Day.day in
+    let d = number_known a.first (sym c.day_number.ensures ∙ c.in-Some.is) in
+    let n = c.in-Some.day in
     let e : length a.quotas ≡ 8 = search rules in
     let w : n ≤ 39665 = omega arith in
     record {

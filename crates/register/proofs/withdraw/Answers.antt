@@ -1,94 +1,53 @@
 -- `register::withdraw` meets its contract.
 -- Assumes nothing.
-use mathlib.Core.Path.{◌≡◌, sym, ◌∙◌}
-use mathlib.Core.Bool.{true}
-use Prim.Native.Nat.{◌≤◌}
-use native.Mathlib.Omega.{arith}
-use lib.ListN.{length}
-use Rattle.contents.specs.Written.{is_register}
-use Rattle.rooms.specs.Views.{room_from, room_within}
-use Rattle.contents.specs.Calls.{is_account, withdraw_of}
+use Rattle.std.proofs.Common.{◌≡◌, Err, rules}
+use Rattle.register.specs.declared.WithdrawError.TheVariants as withdrawal
+use Rattle.contents.specs.Calls.{withdraw_of}
 use Rattle.register.specs.Register.{withdrawn_answer}
-use Rattle.register.specs.Laws.{answer_register, answer_account, bytes_register, bytes_account, withdraw_done, withdraw_none, withdraw_bytes}
-use borrow.Author.Rules.{rules}
-use Rattle.register.proofs.withdraw.Goals.{After-room_end-to}
+use Rattle.register.specs.Laws.{withdraw_done, withdraw_none, withdraw_bytes}
+use Rattle.register.specs.Room.{Room, NoRoom, answer_refused, bytes_refused}
 use Rattle.register.proofs.withdraw.Goals as goal
 
-pub returns-then-not-is_register : goal.returns-then-not-is_register
+pub returns-in_err-from-clause-told : goal.returns-in_err-from-clause-told
 unfolding withdrawn_answer
-returns-then-not-is_register c =
+returns-in_err-from-clause-told c =
     let a = c.args in
-    let q = sym c.is_register.ensures ∙ c.if-not-is_register.true in
-    record {
-      told = answer_register a.b.now a.account (λ v. (withdraw_of a.number.now v).answer) q;
-      left = bytes_register a.b.now a.account (λ v. (withdraw_of a.number.now v).records) q;
-    }
+    let n : NoRoom a.b.now a.account c.in_err-from.field-0.0 = rw c.in_err-from.was at c.room.ensures.err in
+    let r : c.from_residual.result ≡ Err (withdrawal.Account c.in_err-from.field-0.0) = search rules in
+    rw r (answer_refused a.b.now a.account (λ v. (withdraw_of a.number.now v).answer) c.in_err-from.field-0.0 n)
 
-pub returns-then-not-is_account : goal.returns-then-not-is_account
+pub returns-in_err-from-clause-left : goal.returns-in_err-from-clause-left
+returns-in_err-from-clause-left c =
+    let a = c.args in
+    let n : NoRoom a.b.now a.account c.in_err-from.field-0.0 = rw c.in_err-from.was at c.room.ensures.err in
+    bytes_refused a.b.now a.account (λ v. (withdraw_of a.number.now v).records) c.in_err-from.field-0.0 n
+
+pub returns-then-withdraw_number-clause-told : goal.returns-then-withdraw_number-clause-told
 unfolding withdrawn_answer
-returns-then-not-is_account c =
+returns-then-withdraw_number-clause-told c =
     let a = c.args in
-    let q = sym c.is_register.ensures ∙ c.if-not-is_register.false in
-    let h = sym c.is_account.ensures ∙ c.if-not-is_account.true in
-    record {
-      told = answer_account a.b.now a.account (λ v. (withdraw_of a.number.now v).answer) q h;
-      left = bytes_account a.b.now a.account (λ v. (withdraw_of a.number.now v).records) q h;
-    }
+    let o = c.in_ok-from in
+    let r : Room a.b.now a.account o.from o.to = rw c.in_ok-from.was at c.room.ensures.ok in
+    withdraw_done a.b.now r.register a.account r.known o.from o.to r.start r.end a.number.now c.withdraw_number.result c.withdraw_number.ensures.told c.if-withdraw_number.true
 
--- a register, an account, and its room
-module _ (r : After-room_end-to) where
-  is_register_lem : is_register r.args.b.now ≡ true
-  is_register_lem = sym r.is_register.ensures ∙ r.if-not-is_register.false
+pub returns-then-withdraw_number-clause-left : goal.returns-then-withdraw_number-clause-left
+returns-then-withdraw_number-clause-left c =
+    let a = c.args in
+    let o = c.in_ok-from in
+    let r : Room a.b.now a.account o.from o.to = rw c.in_ok-from.was at c.room.ensures.ok in
+    withdraw_bytes a.b.now r.register a.account r.known o.from o.to r.start r.end a.number.now c.withdraw_number.new.room c.withdraw_number.ensures.left
 
-  is_account_lem : is_account r.args.account ≡ true
-  is_account_lem = sym r.is_account.ensures ∙ r.if-not-is_account.false
-
-  order : r.room_start-from.result ≤ r.room_end-to.result
-  order =
-      let h = room_from r.args.b.now is_register_lem r.args.account is_account_lem in
-      let f = r.room_start-from.ensures in
-      let t = r.room_end-to.ensures in
-      omega arith
-
-  inside : r.room_end-to.result ≤ length r.args.b.now
-  inside =
-      let h = room_within r.args.b.now is_register_lem r.args.account is_account_lem in
-      let t = r.room_end-to.ensures in
-      omega arith
-
-pub slice_bounds-withdraw_number-count : goal.slice_bounds-withdraw_number-count
-slice_bounds-withdraw_number-count c = order (goal.at.slice_bounds-withdraw_number-count c).After-room_end-to
-
-pub slice_bounds-withdraw_number-start : goal.slice_bounds-withdraw_number-start
-slice_bounds-withdraw_number-start c =
-    let r = (goal.at.slice_bounds-withdraw_number-start c).After-room_end-to in
-    let h = order r in
-    let k = inside r in
-    search rules
-
-pub slice_bounds-withdraw_number-end : goal.slice_bounds-withdraw_number-end
-slice_bounds-withdraw_number-end c =
-    let r = (goal.at.slice_bounds-withdraw_number-end c).After-room_end-to in
-    let h = order r in
-    let k = inside r in
-    search rules
-
-pub returns-then-withdraw_number : goal.returns-then-withdraw_number
+pub returns-clause-told : goal.returns-clause-told
 unfolding withdrawn_answer
-returns-then-withdraw_number c =
-    let r = (goal.at.returns-then-withdraw_number c).After-room_end-to in
+returns-clause-told c =
     let a = c.args in
-    record {
-      told = withdraw_done c.args.b.now (is_register_lem r) c.args.account (is_account_lem r) c.room_start-from.result c.room_end-to.result c.room_start-from.ensures c.room_end-to.ensures a.number.now c.withdraw_number.result c.withdraw_number.ensures.told c.if-withdraw_number.true;
-      left = withdraw_bytes c.args.b.now (is_register_lem r) c.args.account (is_account_lem r) c.room_start-from.result c.room_end-to.result c.room_start-from.ensures c.room_end-to.ensures a.number.now c.withdraw_number.new.room c.withdraw_number.ensures.left;
-    }
+    let o = c.in_ok-from in
+    let r : Room a.b.now a.account o.from o.to = rw c.in_ok-from.was at c.room.ensures.ok in
+    withdraw_none a.b.now r.register a.account r.known o.from o.to r.start r.end a.number.now c.withdraw_number.result c.withdraw_number.ensures.told c.if-withdraw_number.false
 
-pub returns : goal.returns
-unfolding withdrawn_answer
-returns c =
-    let r = (goal.at.returns c).After-room_end-to in
+pub returns-clause-left : goal.returns-clause-left
+returns-clause-left c =
     let a = c.args in
-    record {
-      told = withdraw_none c.args.b.now (is_register_lem r) c.args.account (is_account_lem r) c.room_start-from.result c.room_end-to.result c.room_start-from.ensures c.room_end-to.ensures a.number.now c.withdraw_number.result c.withdraw_number.ensures.told c.if-withdraw_number.false;
-      left = withdraw_bytes c.args.b.now (is_register_lem r) c.args.account (is_account_lem r) c.room_start-from.result c.room_end-to.result c.room_start-from.ensures c.room_end-to.ensures a.number.now c.withdraw_number.new.room c.withdraw_number.ensures.left;
-    }
+    let o = c.in_ok-from in
+    let r : Room a.b.now a.account o.from o.to = rw c.in_ok-from.was at c.room.ensures.ok in
+    withdraw_bytes a.b.now r.register a.account r.known o.from o.to r.start r.end a.number.now c.withdraw_number.new.room c.withdraw_number.ensures.left

@@ -16,8 +16,8 @@ slice_bounds-insert-end-2 c =
 pub returns : goal.returns
 returns c =
     let l : length c.args.slot ≡ 140 = search rules in record {
-      left = (slot_inserted c.args.room.now c.args.end c.slot_more-top.result c.requires.1 c.args.at c.later.result c.args.slot c.insert.new.b
-          c.requires.0 c.later.ensures c.slot_more-top.ensures l c.insert.auto.b c.insert.ensures).0;
-      zeros = (slot_inserted c.args.room.now c.args.end c.slot_more-top.result c.requires.1 c.args.at c.later.result c.args.slot c.insert.new.b
-          c.requires.0 c.later.ensures c.slot_more-top.ensures l c.insert.auto.b c.insert.ensures).1;
+      left = (slot_inserted c.args.room.now c.args.end c.slot_more-top.result c.requires.1 c.args.at c.max.result c.args.slot c.insert.new.b
+          c.requires.0 c.max.ensures c.slot_more-top.ensures l c.insert.auto.b c.insert.ensures).0;
+      zeros = (slot_inserted c.args.room.now c.args.end c.slot_more-top.result c.requires.1 c.args.at c.max.result c.args.slot c.insert.new.b
+          c.requires.0 c.max.ensures c.slot_more-top.ensures l c.insert.auto.b c.insert.ensures).1;
     }

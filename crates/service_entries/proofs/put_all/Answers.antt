@@ -1,52 +1,25 @@
 -- `put_all` meets its contract.
 -- Assumes nothing.
-use mathlib.Core.Path.{refl, sym, ◌∙◌}
-use mathlib.Core.List.{List}
-use native.Mathlib.Omega.{arith}
-use Rattle.services.specs.declared.Service.{Service}
-use Rattle.services.specs.Rows.{row_count}
-use Rattle.services.specs.Services.{services_from}
-use Rattle.services.specs.Ways.{Next, next_found, next_gone}
+use mathlib.Core.Path.{refl, sym, ap, ◌∙◌}
+use Rattle.services.specs.Walks.{services_left}
 use Rattle.service_entries.specs.Ways.{puts_none, puts_on}
-use Rattle.service_entries.proofs.put_all.Goals.{After-put_one-end, At-loop-service, Start}
 use Rattle.service_entries.proofs.put_all.Goals as goal
 
--- the service that was found
-module _ (t : After-put_one-end) where
-  next : Next t.args.s.now t.args.rows.now t.args.n t.loop-service.i t.in-At.service
-  next =
-      next_found t.args.s.now t.args.rows.now t.args.n t.loop-service.i t.in-At.service
-      (sym t.next_service.ensures ∙ t.in-At.is)
-
-  abbrev left : List Service
-  left = services_from t.args.s.now t.args.rows.now (row_count t.args.rows.now t.args.n) t.loop-service.i
-
-  abbrev rest : List Service
-  rest = services_from t.args.s.now t.args.rows.now (row_count t.args.rows.now t.args.n) t.in-At.service.to
-
 pub loop-service-init : goal.loop-service-init
-loop-service-init c = (refl, refl, c.end_of-end.ensures)
-
-pub loop-service-smaller : goal.loop-service-smaller
-loop-service-smaller c =
-    let w = next (goal.at.loop-service-smaller c).After-put_one-end in
-    omega arith
+loop-service-init c =
+    let e = ap services_left c.into_iter-service-iterator.ensures.into_iter_gives ∙ c.of-service-items.ensures in
+    rw e (refl, refl, c.end_of-end.ensures)
 
 pub loop-service-preserved : goal.loop-service-preserved
 loop-service-preserved c =
     let a = c.args in
     let v = c.loop-service.invariant in (
-      puts_on a.first a.s.now a.rows.now (left (goal.at.loop-service-preserved c).After-put_one-end) c.loop-service.room c.in-At.service (rest (goal.at.loop-service-preserved c).After-put_one-end) (next (goal.at.loop-service-preserved c).After-put_one-end).rest c.put_one-end.new.room c.put_one-end.ensures.left ∙ v.0,
+      puts_on a.first a.s.now a.rows.now (services_left c.loop-service.service-iterator) c.loop-service.room c.in-Some.service (services_left c.next.new.self) c.in-Some.ensures.steps c.put_one-end.new.room c.put_one-end.ensures.left ∙ v.0,
       c.put_one-end.auto.room ∙ v.1,
       c.put_one-end.ensures.zeros,
     )
 
-pub shape_of-room-in-NoMore : goal.shape_of-room-in-NoMore
-shape_of-room-in-NoMore c = c.loop-service.invariant.1
-
-pub returns-in-NoMore : goal.returns-in-NoMore
-returns-in-NoMore c =
-    let a = c.args in
-    sym (puts_none a.first a.s.now a.rows.now (services_from a.s.now a.rows.now (row_count a.rows.now a.n) c.loop-service.i) c.loop-service.room
-    (next_gone a.s.now a.rows.now a.n c.loop-service.i (sym c.next_service.ensures ∙ c.in-NoMore.is)))
+pub returns : goal.returns
+returns c =
+    sym (puts_none c.args.first c.args.s.now c.args.rows.now (services_left c.loop-service.service-iterator) c.loop-service.room c.in-None.ensures.steps.0)
     ∙ c.loop-service.invariant.0

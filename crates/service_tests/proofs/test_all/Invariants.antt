@@ -1,23 +1,19 @@
 -- `test_all` meets its contract.
 -- Assumes nothing.
 use mathlib.Core.Path.{◌≡◌}
-use Prim.Native.Nat.{◌-◌, ◌≤◌}
 use lib.ListN.{length}
 use Rattle.services.specs.Rows.{row_count}
-use Rattle.services.specs.Services.{services_from, services_of}
+use Rattle.services.specs.Services.{services_of}
+use Rattle.services.specs.Walks.{services_left}
 use Rattle.service_entries.specs.Room.{look_at}
 use Rattle.service_tests.specs.Tests.{test_all, no_totals}
-use Rattle.service_tests.specs.Marks.{Marked}
 use Rattle.service_tests.specs.Orders.{orders_all}
+use Rattle.service_tests.specs.Ways.{Walked}
 use Rattle.service_tests.proofs.test_all.Given as goal
 
 abbrev pub invariant-loop-service : goal.invariant-loop-service
 invariant-loop-service l =
-    ((l.totals.services ≤ l.i) × (l.totals.added ≤ l.i) × (l.totals.dropped ≤ l.i) × (l.totals.removals ≤ l.i))
-    × Marked l.marks l.s l.rows l.i
-    × (test_all l.first l.s l.rows (look_at l.room) (services_from l.s l.rows (row_count l.rows l.n) l.i) l.totals ≡ test_all l.first l.s l.rows (look_at l.room) (services_of l.s l.rows l.n) no_totals)
-    × (orders_all l.first l.s l.rows (look_at l.room) (services_from l.s l.rows (row_count l.rows l.n) l.i) l.totals l.orders ≡ orders_all l.first l.s l.rows (look_at l.room) (services_of l.s l.rows l.n) no_totals l.initial.orders)
+    Walked l.marks l.s l.rows (row_count l.rows l.n) (services_left l.service-iterator) l.totals
+    × (test_all l.first l.s l.rows (look_at l.room) (services_left l.service-iterator) l.totals ≡ test_all l.first l.s l.rows (look_at l.room) (services_of l.s l.rows l.n) no_totals)
+    × (orders_all l.first l.s l.rows (look_at l.room) (services_left l.service-iterator) l.totals l.orders ≡ orders_all l.first l.s l.rows (look_at l.room) (services_of l.s l.rows l.n) no_totals l.initial.orders)
     × (length l.orders ≡ length l.initial.orders)
-
-abbrev pub decreases-loop-service : goal.decreases-loop-service
-decreases-loop-service l = row_count l.rows l.n - l.i

@@ -5,6 +5,7 @@ use mathlib.Core.List.{List}
 use Prim.Native.Nat.{ℕ}
 use native.Mathlib.Omega.{arith}
 use lib.ListN.{set}
+use Rattle.answers.specs.Answers.{refused}
 use Rattle.services.specs.Services.{is_wrong}
 use Rattle.stages.specs.Stage.{number_in}
 use Rattle.service_tests.specs.Marks.{ten_mark, mark_of, is_marked, mark_below, new_wrong, new_good}
@@ -51,7 +52,8 @@ pub returns-then-is_wrong : goal.returns-then-is_wrong
 returns-then-is_wrong c =
     let a = c.args in
     record {
-      told = new_wrong a.marks.now a.s.now a.rows.now a.service c.requires.0 c.set_mark.result (was (goal.at.returns-then-is_wrong c).After-set_mark) c.if-set_mark.false c.is_wrong.result (wrong (goal.at.returns-then-is_wrong c).After-is_wrong) c.if-is_wrong.true;
+      told = ap refused c.at.ensures
+          ∙ new_wrong a.marks.now a.s.now a.rows.now a.service c.requires.0 c.set_mark.result (was (goal.at.returns-then-is_wrong c).After-set_mark) c.if-set_mark.false c.is_wrong.result (wrong (goal.at.returns-then-is_wrong c).After-is_wrong) c.if-is_wrong.true;
       left = left (goal.at.returns-then-is_wrong c).After-set_mark;
     }
 

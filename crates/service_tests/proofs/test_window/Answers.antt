@@ -1,45 +1,29 @@
 -- `test_window` meets its contract.
 -- Assumes nothing.
-use mathlib.Core.Path.{sym, ◌∙◌}
-use Prim.Native.Nat.{◌+◌}
-use native.Mathlib.Omega.{arith}
-use Rattle.services.specs.Services.{periods_from}
-use Rattle.services.specs.Ways.{NextPeriod, period_found, period_gone}
+use mathlib.Core.Path.{sym, ap, ◌∙◌}
+use Rattle.services.specs.Walks.{periods_left}
+use Rattle.stages.specs.Stage.{first_outside}
 use Rattle.service_tests.specs.Ways.{outside_none, outside_here, outside_on}
-use Rattle.service_tests.proofs.test_window.Goals.{After-is_outside, At-loop-k, Start}
 use Rattle.service_tests.proofs.test_window.Goals as goal
 
--- the POP that was found
-module _ (t : After-is_outside) where
-  next : NextPeriod t.args.rows.now t.args.to t.loop-k.i t.in-Pop.k t.in-Pop.at
-  next =
-      period_found t.args.rows.now t.loop-k.i t.args.to t.in-Pop.k t.in-Pop.at
-      (sym t.next_period.ensures ∙ t.in-Pop.is)
+pub loop-at-init : goal.loop-at-init
+loop-at-init c =
+    let a = c.args in
+    ap (first_outside a.wish a.first a.s.now) (ap periods_left c.into_iter-at-iterator.ensures.into_iter_gives ∙ c.among-at-items.ensures)
 
 pub returns-then-is_outside : goal.returns-then-is_outside
 returns-then-is_outside c =
     let a = c.args in
-    outside_here a.wish a.first a.s.now (periods_from a.rows.now c.loop-k.i a.to) c.in-Pop.at (periods_from a.rows.now (c.in-Pop.k + 1) a.to) (next (goal.at.returns-then-is_outside c).After-is_outside).rest (sym c.is_outside.ensures ∙ c.if-is_outside.true)
-    ∙ c.loop-k.invariant
+    outside_here a.wish a.first a.s.now (periods_left c.loop-at.at-iterator) c.in-Some.at (periods_left c.next.new.self) c.in-Some.ensures.steps (sym c.is_outside.ensures ∙ c.if-is_outside.true)
+    ∙ c.loop-at.invariant
 
-pub overflow_add-i : goal.overflow_add-i
-overflow_add-i c =
-    let w = (next (goal.at.overflow_add-i c).After-is_outside).inside in
-    omega arith
-
-pub loop-k-smaller : goal.loop-k-smaller
-loop-k-smaller c =
-    let w = next (goal.at.loop-k-smaller c).After-is_outside in
-    omega arith
-
-pub loop-k-preserved : goal.loop-k-preserved
-loop-k-preserved c =
+pub loop-at-preserved : goal.loop-at-preserved
+loop-at-preserved c =
     let a = c.args in
-    outside_on a.wish a.first a.s.now (periods_from a.rows.now c.loop-k.i a.to) c.in-Pop.at (periods_from a.rows.now (c.in-Pop.k + 1) a.to) (next (goal.at.loop-k-preserved c).After-is_outside).rest (sym c.is_outside.ensures ∙ c.if-is_outside.false)
-    ∙ c.loop-k.invariant
+    outside_on a.wish a.first a.s.now (periods_left c.loop-at.at-iterator) c.in-Some.at (periods_left c.next.new.self) c.in-Some.ensures.steps (sym c.is_outside.ensures ∙ c.if-is_outside.false)
+    ∙ c.loop-at.invariant
 
-pub returns-in-NoMore : goal.returns-in-NoMore
-returns-in-NoMore c =
+pub returns : goal.returns
+returns c =
     let a = c.args in
-    outside_none a.wish a.first a.s.now (periods_from a.rows.now c.loop-k.i a.to) (period_gone a.rows.now c.loop-k.i a.to (sym c.next_period.ensures ∙ c.in-NoMore.is))
-    ∙ c.loop-k.invariant
+    outside_none a.wish a.first a.s.now (periods_left c.loop-at.at-iterator) c.in-None.ensures.steps.0 ∙ c.loop-at.invariant

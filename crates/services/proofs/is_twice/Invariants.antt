@@ -6,8 +6,8 @@ use Rattle.services.specs.Rows.{first_from}
 use Rattle.services.specs.Services.{is_same_service}
 use Rattle.services.proofs.is_twice.Given as goal
 
-abbrev pub invariant-loop-before : goal.invariant-loop-before
-invariant-loop-before l = (l.i ≤ l.count) × (first_from (is_same_service l.s l.rows l.number) l.i l.count ≡ first_from (is_same_service l.s l.rows l.number) 0 l.count)
+abbrev pub invariant-loop-k : goal.invariant-loop-k
+invariant-loop-k l = (l.i ≤ l.count) × (first_from (is_same_service l.s l.rows l.number) l.i l.count ≡ first_from (is_same_service l.s l.rows l.number) 0 l.count)
 
-abbrev pub decreases-loop-before : goal.decreases-loop-before
-decreases-loop-before l = l.count - l.i
+abbrev pub decreases-loop-k : goal.decreases-loop-k
+decreases-loop-k l = l.count - l.i

@@ -1,6 +1,7 @@
 -- `shown::before_zero` meets its contract. Invariant: the bytes passed and those before the next zero make up the answer.
 -- Assumes nothing.
-use mathlib.Core.Path.{sym, ◌∙◌}
+use mathlib.Core.Path.{◌≡◌, sym, ◌∙◌}
+use native.Mathlib.Omega.{arith}
 use native.Mathlib.Nat.{zero-add}
 use lib.ListN.{length}
 use Rattle.contents.specs.Written.{up_to_zero}
@@ -17,4 +18,7 @@ pub loop-i-preserved : goal.loop-i-preserved
 loop-i-preserved c = zero_later c.args.text.now c.loop-i.i c.loop-i-test.true c.if-text-i-eq0.false ∙ c.loop-i.invariant
 
 pub returns : goal.returns
-returns c = sym (zero_never c.args.text.now c.loop-i.i c.loop-i-test.false) ∙ c.loop-i.invariant
+returns c =
+    let x = c.args.text.now in
+    let e : length x ≡ c.loop-i.i = omega arith in
+    e ∙ sym (zero_never x c.loop-i.i c.loop-i-test.false) ∙ c.loop-i.invariant

@@ -8,6 +8,3 @@ use Rattle.shown.proofs.before_zero.Given as goal
 
 abbrev pub invariant-loop-i : goal.invariant-loop-i
 invariant-loop-i l = l.i + length (up_to_zero (drop l.i l.text)) ≡ length (up_to_zero l.text)
-
-abbrev pub decreases-loop-i : goal.decreases-loop-i
-decreases-loop-i l = length l.text - l.i

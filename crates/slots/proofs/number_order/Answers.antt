@@ -1,8 +1,10 @@
 -- `slots::number_order` meets its contract.
 -- Assumes nothing.
-use Rattle.std.proofs.Common.{◌≡◌, ℕ, ◌+◌, ◌-◌, ◌%◌, ◌^◌, take, drop, sym, ap, ◌∙◌, ap₂, arith}
-use Rattle.slots.specs.declared.Order.{Order}
-use Rattle.slots.specs.Order.{order_by}
+use Rattle.std.proofs.Common.{◌≡◌, ℕ, ◌+◌, ◌-◌, ◌%◌, ◌^◌, length, take, drop, sym, ap, ◌∙◌, ap₂, arith}
+use Rattle.std.specs.declared.cmp.Ordering.{Ordering}
+use Rattle.std.specs.declared.cmp.Ordering.TheVariants.{Equal}
+use Rattle.std.specs.Ordering.{ordering_then}
+use Rattle.slots.specs.Order.{order_by, by_cmp, cmp_by}
 use Rattle.slots.specs.Words.{Bytes, high_of}
 use Rattle.slots.specs.Steps.{Step, high_least, level_told, before_told, after_told}
 use Rattle.slots.proofs.number_order.Goals.{After-wrapping_sub_usize-behind}
@@ -29,8 +31,11 @@ module _ (b : After-wrapping_sub_usize-behind) where
 
 pub returns-then-behind-eq0 : goal.returns-then-behind-eq0
 returns-then-behind-eq0 c =
-    c.ordered.ensures
-    ∙ ap₂ (λ (t : Order) (m : ℕ). order_by t m c.args.low) c.ordered-lengths.ensures c.low.ensures
+    let lengths : Ordering = order_by Equal 10 (length c.args.number.now) in
+    c.then.ensures
+    ∙ ap₂ ordering_then c.cmp.ensures (c.cmp-lengths.ensures ∙ cmp_by 10 (length c.args.number.now))
+    ∙ by_cmp lengths c.low.result c.args.low
+    ∙ ap (λ (m : ℕ). order_by lengths m c.args.low) c.low.ensures
     ∙ level_told (step (goal.at.returns-then-behind-eq0 c).After-wrapping_sub_usize-behind) c.if-behind-eq0.true
 
 pub overflow_sub-high : goal.overflow_sub-high

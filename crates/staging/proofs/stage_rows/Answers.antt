@@ -10,7 +10,7 @@ use lib.Seq.{length-take-le}
 use Rattle.contents.specs.Calls.{answer_on, bytes_after}
 use Rattle.rooms.specs.Views.{room_from, room_within}
 use Rattle.stages.specs.Stage.{stage_of}
-use Rattle.staging.specs.Room.{staged_answer}
+use Rattle.services.specs.Services.{counted_answer}
 use Rattle.staging.specs.Few.{Rows}
 use Rattle.staging.specs.Closing.{rows_staged}
 use Rattle.staging.proofs.stage_rows.Goals.{After-first_day-first, After-room_end-to, After-room_start-from, After-stage_room, Start}
@@ -50,14 +50,14 @@ slice_bounds-stage_room-end-2 c =
 -- what the room came to
 module _ (p : After-stage_room) where
   staged : (wish : Bool) → Rows wish p.args.s.now p.args.n p.args.rows.now
-      → (staged_answer p.stage_room.result ≡ answer_on p.args.b.now p.args.account (λ v. (stage_of wish p.args.s.now v).answer))
+      → (counted_answer p.stage_room.result ≡ answer_on p.args.b.now p.args.account (λ v. (stage_of wish p.args.s.now v).answer))
       × (put_mid p.room_start-from.result (p.room_end-to.result - p.room_start-from.result) p.args.b.now p.stage_room.new.room
       ≡ bytes_after p.args.b.now p.args.account (λ v. (stage_of wish p.args.s.now v).records))
   staged wish w =
       rows_staged p.args.b.now p.args.account p.requires.0 p.requires.1 wish p.args.s.now w.accepts
       p.first_day-first.result p.room_start-from.result p.room_end-to.result p.first_day-first.ensures p.room_start-from.ensures p.room_end-to.ensures
       (take (3 * p.args.n) p.args.rows.now) p.args.n w.front (sym w.count)
-      (staged_answer p.stage_room.result) p.stage_room.new.room p.stage_room.ensures.told p.stage_room.ensures.left
+      (counted_answer p.stage_room.result) p.stage_room.new.room p.stage_room.ensures.told p.stage_room.ensures.left
 
 pub returns : goal.returns
 returns c =

@@ -8,7 +8,4 @@ use Rattle.text.specs.Text.{rows_text}
 use Rattle.text.proofs.fits.Given as goal
 
 abbrev pub invariant-loop-k : goal.invariant-loop-k
-invariant-loop-k l = (l.i ≤ length l.rows) × (leb (length (rows_text (l.n - l.k) (drop l.i l.rows))) l.left ≡ leb (length (rows_text l.n l.rows)) l.room)
-
-abbrev pub decreases-loop-k : goal.decreases-loop-k
-decreases-loop-k l = l.n - l.k
+invariant-loop-k l = leb (length (rows_text (l.n - l.k) l.rest)) l.left ≡ leb (length (rows_text l.n l.rows)) l.room

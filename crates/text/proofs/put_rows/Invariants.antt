@@ -9,9 +9,6 @@ use Rattle.text.proofs.put_rows.Given as goal
 
 abbrev pub invariant-loop-k : goal.invariant-loop-k
 invariant-loop-k l =
-    (l.i ≤ length l.rows) × (length l.out ≡ length l.initial.out) × (l.to + length (rows_text (l.n - l.k) (drop l.i l.rows)) ≤ length l.out)
-    × (l.to + length (rows_text (l.n - l.k) (drop l.i l.rows)) ≡ l.at + length (rows_text l.n l.rows))
-    × (put_at l.out l.to (rows_text (l.n - l.k) (drop l.i l.rows)) ≡ put_at l.initial.out l.at (rows_text l.n l.rows))
-
-abbrev pub decreases-loop-k : goal.decreases-loop-k
-decreases-loop-k l = l.n - l.k
+    (length l.out ≡ length l.initial.out) × (l.to + length (rows_text (l.n - l.k) l.rest) ≤ length l.out)
+    × (l.to + length (rows_text (l.n - l.k) l.rest) ≡ l.at + length (rows_text l.n l.rows))
+    × (put_at l.out l.to (rows_text (l.n - l.k) l.rest) ≡ put_at l.initial.out l.at (rows_text l.n l.rows))

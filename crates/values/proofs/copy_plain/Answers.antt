@@ -5,7 +5,7 @@ use borrow.Author.Tests.{lt-ltb, le-ltb}
 use lib.Dec.{ltb}
 use lib.ListN.{length}
 use Rattle.laws.specs.Put.{put_no_room}
-use Rattle.values.specs.declared.Copied.TheVariants.{Bytes}
+use Rattle.std.proofs.Common.{Some}
 use Rattle.syntax.specs.Bytes.{plain}
 use Rattle.values.proofs.copy_plain.Goals as goal
 
@@ -25,6 +25,6 @@ returns c =
     let e = c.plain_length-n.ensures in
     let s : ltb (length a.to.now) (length (plain a.part.now)) ≡ false = le-ltb (length a.to.now) (length (plain a.part.now)) (omega arith) in
     record {
-      told = ap Bytes e ∙ rw s;
+      told = ap Some e ∙ rw s;
       left = c.fill.ensures;
     }

@@ -6,6 +6,3 @@ use Rattle.calendar.proofs.day_string.short_count.Given as goal
 
 abbrev pub invariant-loop-k : goal.invariant-loop-k
 invariant-loop-k l = short_count l.days l.k ≡ short_count l.days l.n
-
-abbrev pub decreases-loop-k : goal.decreases-loop-k
-decreases-loop-k l = l.k

@@ -12,4 +12,4 @@ returns-in_default c =
 pub returns : goal.returns
 returns c =
     let a = c.args in
-    day_string_good a.short a.days.now a.first a.last a.out.now (sym c.check.ensures ∙ c.in-Days.is) c.character_count.ensures c.write_characters.ensures
+    day_string_good a.short a.days.now a.first a.last a.out.now (sym c.check.ensures ∙ c.in-Some.is) c.character_count-n.ensures c.write_characters.ensures

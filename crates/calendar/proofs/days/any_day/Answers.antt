@@ -1,23 +1,17 @@
--- `any_day` meets its contract: the days left decide as all the days do.
+-- `any_day` meets its contract.
 -- Assumes nothing.
-use mathlib.Core.Path.{sym, ◌∙◌}
-use Rattle.calendar.specs.Steps.{any_found, any_on, any_end}
+use mathlib.Core.Path.{refl, ◌∙◌}
+use Prim.Native.Nat.{◌-◌}
+use borrow.Author.Rules.{rules}
+use borrow.Author.Tests.{tests}
+use Rattle.std.proofs.lemmas.Iterator.{YieldsList-from_range}
+use Rattle.std.proofs.lemmas.Iterator.Search.{any_from_yields_List}
+use Rattle.calendar.specs.Days.{day}
+use Rattle.calendar.specs.Steps.{any_in_range}
 use Rattle.calendar.proofs.days.any_day.Goals as goal
-
-pub returns-then-test_day : goal.returns-then-test_day
-returns-then-test_day c =
-    let a = c.args in
-    let l = c.loop-k in
-    sym (any_found a.days.now l.k a.to c.loop-k-test.true (sym c.test_day.ensures ∙ c.if-test_day.true)) ∙ l.invariant
-
-pub loop-k-preserved : goal.loop-k-preserved
-loop-k-preserved c =
-    let a = c.args in
-    let l = c.loop-k in
-    sym (any_on a.days.now l.k a.to c.loop-k-test.true (sym c.test_day.ensures ∙ c.if-test_day.false)) ∙ l.invariant
 
 pub returns : goal.returns
 returns c =
     let a = c.args in
-    let l = c.loop-k in
-    sym (any_end a.days.now l.k a.to c.loop-k-test.false) ∙ l.invariant
+    any_from_yields_List (day a.days.now) _ _ _ c.any.ensures.ran (YieldsList-from_range a.from a.to (a.to - a.from) refl refl) (λ x b q k. search (rules, tests))
+    ∙ any_in_range a.days.now a.from (a.to - a.from)

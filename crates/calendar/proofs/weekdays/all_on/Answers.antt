@@ -1,33 +1,17 @@
--- `all_on` meets its contract: the days left decide as all the days do.
+-- `all_on` meets its contract.
 -- Assumes nothing.
-use mathlib.Core.Path.{sym, ◌∙◌}
+use mathlib.Core.Path.{refl, ◌∙◌}
 use native.Mathlib.Omega.{arith}
+use borrow.Author.Rules.{rules}
+use borrow.Author.Tests.{tests}
+use Rattle.std.proofs.lemmas.Iterator.{YieldsList-from_range}
+use Rattle.std.proofs.lemmas.Iterator.Search.{all_from_yields_List}
 use Rattle.calendar.specs.Days.{has_bit}
-use Rattle.calendar.specs.WeekLaws.{on_fails, on_goes, on_ends, on_starts}
+use Rattle.calendar.specs.WeekLaws.{on_here, on_in_range}
 use Rattle.calendar.proofs.weekdays.all_on.Goals as goal
-
-pub loop-k-init : goal.loop-k-init
-loop-k-init c =
-    let a = c.args in
-    on_starts (has_bit a.week) a.days.now a.first a.n
-
-pub overflow_cast-weekday : goal.overflow_cast-weekday
-overflow_cast-weekday c = omega (arith, c.weekday.type_inv)
-
-pub returns-then-not-kept : goal.returns-then-not-kept
-returns-then-not-kept c =
-    let a = c.args in
-    let l = c.loop-k in
-    sym (on_fails a.week a.days.now a.first l.k a.n (omega arith) c.weekday.ensures c.kept.ensures (c.if-not-kept.true)) ∙ l.invariant
-
-pub loop-k-preserved : goal.loop-k-preserved
-loop-k-preserved c =
-    let a = c.args in
-    let l = c.loop-k in
-    sym (on_goes a.week a.days.now a.first l.k a.n (omega arith) c.weekday.ensures c.kept.ensures (c.if-not-kept.false)) ∙ l.invariant
 
 pub returns : goal.returns
 returns c =
     let a = c.args in
-    let l = c.loop-k in
-    sym (on_ends (has_bit a.week) a.days.now a.first l.k a.n c.loop-k-test.false) ∙ l.invariant
+    all_from_yields_List (on_here (has_bit a.week) a.days.now a.first) _ _ _ c.all.ensures.ran (YieldsList-from_range 0 a.n a.n refl (omega arith)) (λ x b q k. search (rules, tests))
+    ∙ on_in_range (has_bit a.week) a.days.now a.first 0 a.n

@@ -9,7 +9,7 @@ use Rattle.calendar.specs.WeekLaws.{one_small, digit_step, digits_end}
 use Rattle.calendar.proofs.weekdays.weekday_digits.Goals as goal
 
 pub loop-weekday-init : goal.loop-weekday-init
-loop-weekday-init c = (omega arith, omega arith, refl, refl)
+loop-weekday-init c = (omega arith, omega arith, refl)
 
 pub overflow_add-count : goal.overflow_add-count
 overflow_add-count c = omega (arith, one_small (has_bit c.args.week (c.loop-weekday.weekday % 8)) c.one_if-count.ensures)
@@ -19,15 +19,14 @@ loop-weekday-preserved c =
     let a = c.args in
     let l = c.loop-weekday in
     let v = l.invariant in
-    let r = one_small (has_bit a.week (c.loop-weekday.weekday % 8)) c.one_if-count.ensures in (
+    let r = one_small (has_bit a.week (l.weekday % 8)) c.one_if-count.ensures in (
       omega arith,
-      omega arith,
-      simp length-set v.2,
-      digit_step (has_bit a.week) l.bytes l.count l.weekday (omega arith) (omega arith) c.one_if-count.ensures ∙ v.3,
+      simp length-set v.1,
+      digit_step (has_bit a.week) l.bytes l.count l.weekday (omega arith) (omega arith) c.one_if-count.ensures ∙ v.2,
     )
 
 pub returns : goal.returns
 returns c =
     let l = c.loop-weekday in
     let v = l.invariant in
-    (omega arith, sym (digits_end (has_bit c.args.week) (take l.count l.bytes) l.weekday c.loop-weekday-test.false) ∙ v.3)
+    sym (digits_end (has_bit c.args.week) (take l.count l.bytes) l.weekday c.loop-weekday-test.false) ∙ v.2

@@ -3,16 +3,15 @@
 use native.Mathlib.Omega.{arith}
 use Rattle.calendar.specs.Parts.{named_refused, named_put}
 use Rattle.calendar.proofs.weekdays.write_named.Goals as goal
+use Rattle.calendar.proofs.weekdays.write_named.Goals.{then-out-lt31-via-then-out-lt31, then-out-lt31-via-else-out-lt31+then-out-n}
 
 pub returns-then-out-lt31 : goal.returns-then-out-lt31
 returns-then-out-lt31 c =
     let a = c.args in
-    named_refused a.first a.last a.weekdays.now a.out.now (omega arith)
-
-pub returns-then-out-n : goal.returns-then-out-n
-returns-then-out-n c =
-    let a = c.args in
-    named_refused a.first a.last a.weekdays.now a.out.now (omega arith)
+    elim c.then-out-lt31.branch [
+      | then-out-lt31-via-then-out-lt31 w ↦ named_refused a.first a.last a.weekdays.now a.out.now (omega arith)
+      | then-out-lt31-via-else-out-lt31+then-out-n w ↦ named_refused a.first a.last a.weekdays.now a.out.now (omega arith)
+    ]
 
 pub returns : goal.returns
 returns c =

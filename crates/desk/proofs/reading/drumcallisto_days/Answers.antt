@@ -38,7 +38,7 @@ returns c =
     let s = a.s.now in
     let p = periods_from a.rows.now a.among.from a.among.to in
     let r = c.write_days.ensures in
-    let q = ap number_of (sym c.date_of.ensures) ∙ sym c.day_number.ensures ∙ c.in-Day.is in
+    let q = ap number_of (sym c.date_of.ensures) ∙ sym c.day_number.ensures ∙ c.in-Some.is in
     let w = from_first a.wish s p (day_date a.first) a.days.now c.if-days-ne64.false _ q in
     record {
       told = r.told ∙ ap reply_of w.0;

@@ -4,9 +4,9 @@ use borrow.Author.Rules.{rules}
 use Rattle.desk.proofs.reading.drumcallisto_next_service.Goals as goal
 
 -- src/reading.rt:28:1
-pub returns-in-At : goal.returns-in-At
-returns-in-At c = ap found_service (sym c.in-At.is ∙ c.next_service.ensures)
+pub returns-in-Some : goal.returns-in-Some
+returns-in-Some c = ap found_service (sym c.in-Some.is ∙ c.next_service.ensures)
 
 -- src/reading.rt:28:1
-pub returns-in-NoMore : goal.returns-in-NoMore
-returns-in-NoMore c = ap found_service (sym c.in-NoMore.is ∙ c.next_service.ensures)
+pub returns-in-None : goal.returns-in-None
+returns-in-None c = ap found_service (sym c.in-None.is ∙ c.next_service.ensures)

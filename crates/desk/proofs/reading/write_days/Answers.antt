@@ -1,7 +1,6 @@
 use mathlib.Core.Path.{sym, ap, ◌∙◌}
-use mathlib.Core.Option.{Option}
+use Rattle.std.specs.Prelude.{Option}
 use Prim.Native.Nat.{ℕ}
-use Rattle.service_tests.specs.Tests.{window_found}
 use Rattle.desk.specs.Desk.{reply_of}
 use Rattle.desk.specs.Days.{inside_answer, days_inside, days_outside}
 use Rattle.services.specs.Services.{periods_from}
@@ -12,9 +11,9 @@ use borrow.Author.Rules.{rules}
 use Rattle.desk.proofs.reading.write_days.Goals as goal
 
 -- src/reading.rt:91:1
-pub returns-in-Inside : goal.returns-in-Inside
-returns-in-Inside c =
-    let e = ap window_found (sym c.in-Inside.is) ∙ c.test_window.ensures in
+pub returns-in-None : goal.returns-in-None
+returns-in-None c =
+    let e = sym c.in-None.is ∙ c.test_window.ensures in
     let a = c.args in
     let d = a.day in
     let s = a.s.now in
@@ -26,9 +25,9 @@ returns-in-Inside c =
     }
 
 -- src/reading.rt:91:1
-pub returns-in-Outside : goal.returns-in-Outside
-returns-in-Outside c =
-    let e = ap window_found (sym c.in-Outside.is) ∙ c.test_window.ensures in
+pub returns-in-Some : goal.returns-in-Some
+returns-in-Some c =
+    let e = sym c.in-Some.is ∙ c.test_window.ensures in
     let a = c.args in
     let d = a.day in
     let s = a.s.now in

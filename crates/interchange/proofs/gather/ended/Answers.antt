@@ -1,3 +1,4 @@
+use Rattle.std.specs.Prelude.{Err}
 use borrow.Author.Rules.{rules}
 use mathlib.Core.Path.{sym, ap, ◌∙◌}
 use mathlib.Core.Bool.{Bool}
@@ -12,4 +13,4 @@ returns-then-is_closed c =
 pub returns : goal.returns
 returns c =
     let a = c.args in
-    sym (ap (λ (b : Bool). ended_at b a.numbers a.size) (sym c.is_closed.ensures ∙ c.if-is_closed.false))
+    ap Err c.at.ensures ∙ sym (ap (λ (b : Bool). ended_at b a.numbers a.size) (sym c.is_closed.ensures ∙ c.if-is_closed.false))

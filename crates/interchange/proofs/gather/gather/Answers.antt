@@ -1,3 +1,6 @@
+use Rattle.std.proofs.lemmas.Result.{err_from_is_err_and}
+use Rattle.answers.specs.declared.Refusal.{Refusal}
+use Rattle.std.specs.Prelude.{Result, Ok, Err}
 use mathlib.Core.Path.{◌≡◌, refl, sym, ap, ◌∙◌}
 use mathlib.Core.Bool.{Bool, false}
 use mathlib.Core.List.{List}
@@ -11,7 +14,6 @@ use Rattle.placing.specs.Tables.{tables as all}
 use Rattle.steps.specs.declared.state.State.{State}
 use Rattle.steps.specs.declared.state.Row.{Row}
 use Rattle.interchange.specs.declared.turn.Turn.{Turn}
-use Rattle.interchange.specs.declared.turn.Turn.TheVariants.{On, Stop}
 use Rattle.interchange.specs.Reader.{is_closed, turn_at}
 use Rattle.interchange.specs.Laws.{length_put_row, put_row}
 use Rattle.interchange.specs.Offsets.{turn_on}
@@ -19,36 +21,13 @@ use Rattle.interchange.specs.Room.{room_size}
 use Rattle.interchange.specs.Moves.{Moved, moved_none, moved_both, moved_turn, moved_as}
 use Rattle.interchange.specs.Passes.{passed_moved}
 use Rattle.interchange.specs.Chunks.{gathered_by, ended_at, chunk_as, chunk_past, chunk_stop, chunk_ended, chunk_full}
-use Rattle.interchange.proofs.gather.gather.Lts as lts
-use Rattle.interchange.proofs.gather.gather.Lts.View as view
-use Rattle.interchange.proofs.gather.gather.Reads as reads
-use Rattle.interchange.proofs.gather.gather.Tie as tie
-use Rattle.interchange.proofs.gather.gather.Goals.{After-led-st, After-put_row, After-run_on-begun, After-take_turn, At-loop-numbers, In-On, Start}
+use Rattle.interchange.proofs.gather.gather.Goals.{After-put_row, After-take_turn, At-loop-numbers, In_ok-turn}
 use Rattle.interchange.proofs.gather.gather.Goals as goal
-
--- the records of earlier places
-
-abbrev earlier_after_led_st : lts.After-led tie.the-claims reads.Pre reads.Post goal.the-invariant-loop-numbers goal.the-decreases-loop-numbers → After-led-st
-earlier_after_led_st = view.up-After-led-st tie.the-claims reads.Pre reads.Post goal.the-invariant-loop-numbers goal.the-decreases-loop-numbers
-
-abbrev earlier_at_loop_numbers : lts.At-loop tie.the-claims reads.Pre reads.Post goal.the-invariant-loop-numbers goal.the-decreases-loop-numbers → At-loop-numbers
-earlier_at_loop_numbers = view.up-At-loop-numbers tie.the-claims reads.Pre reads.Post goal.the-invariant-loop-numbers goal.the-decreases-loop-numbers
-
-abbrev earlier_after_take_turn : lts.After-take_turn tie.the-claims reads.Pre reads.Post goal.the-invariant-loop-numbers goal.the-decreases-loop-numbers → After-take_turn
-earlier_after_take_turn = view.up-After-take_turn tie.the-claims reads.Pre reads.Post goal.the-invariant-loop-numbers goal.the-decreases-loop-numbers
-
-abbrev earlier_in_on : lts.Past-After-known_told tie.the-claims reads.Pre reads.Post goal.the-invariant-loop-numbers goal.the-decreases-loop-numbers → In-On
-earlier_in_on = view.up-In-On tie.the-claims reads.Pre reads.Post goal.the-invariant-loop-numbers goal.the-decreases-loop-numbers
-
--- the first segments that only move the place on
-module _ (l : After-led-st) where
-  began : Moved l.args.s.now l.args.start l.args.from 0 l.args.room.now l.led-st.result l.run_on-begun.result.at l.run_on-begun.result.numbers l.run_on-begun.new.room
-  began = moved_as l.args.s.now l.led-st.ensures refl (passed_moved l.args.s.now l.run_on-begun.ensures)
 
 -- where the loop stands
 module _ (o : At-loop-numbers) where
   so_far : Moved o.args.s.now o.args.start o.args.from 0 o.args.room.now o.loop-numbers.st o.loop-numbers.at o.loop-numbers.numbers o.loop-numbers.room
-  so_far = moved_both o.args.s.now (began (earlier_after_led_st o.before.before)) o.loop-numbers.invariant.0
+  so_far = moved_both o.args.s.now (moved_as o.args.s.now o.led-st.ensures refl (passed_moved o.args.s.now o.run_on-begun.ensures)) o.loop-numbers.invariant.0
 
   size : length o.loop-numbers.room ≡ room_size
   size = so_far.sized ∙ o.requires.3
@@ -58,36 +37,33 @@ module _ (t : After-take_turn) where
   open_still : is_closed t.loop-numbers.st.phase ≡ false
   open_still = sym t.is_closed.ensures ∙ t.if-is_closed.false
 
-  turned : (x : Turn) → t.take_turn.result ≡ x → turn_at all t.args.s.now t.loop-numbers.st t.loop-numbers.at ≡ x
+  turned : (x : Result Turn Refusal) → t.take_turn.result ≡ x → turn_at all t.args.s.now t.loop-numbers.st t.loop-numbers.at ≡ x
   turned x e =
       let p = t.requires in
       ap (λ (u : Table). turn_at u t.args.s.now t.loop-numbers.st t.loop-numbers.at) (sym p.0)
       ∙ sym t.take_turn.ensures ∙ e
 
 -- the row, and where the next segment starts
-module _ (k : In-On) where
-  on : turn_at all k.args.s.now k.loop-numbers.st k.loop-numbers.at ≡ On k.in-On.next k.in-On.row k.in-On.then
-  on = turned (earlier_after_take_turn k.before.before) (On k.in-On.next k.in-On.row k.in-On.then) k.in-On.is
-
-  placed : (k.in-On.row.offset ≡ k.loop-numbers.at) × (k.loop-numbers.at + 4 ≤ k.in-On.then) × (k.in-On.then ≤ length k.args.s.now)
-  placed = turn_on all k.args.s.now k.loop-numbers.st k.loop-numbers.at k.in-On.next k.in-On.row k.in-On.then on
+module _ (k : In_ok-turn) (on : turn_at all k.args.s.now k.loop-numbers.st k.loop-numbers.at ≡ Ok k.in_ok-turn.turn) (size : length k.loop-numbers.room ≡ room_size) where
+  placed : (k.in_ok-turn.turn.row.offset ≡ k.loop-numbers.at) × (k.loop-numbers.at + 4 ≤ k.in_ok-turn.turn.then) × (k.in_ok-turn.turn.then ≤ length k.args.s.now)
+  placed = turn_on all k.args.s.now k.loop-numbers.st k.loop-numbers.at k.in_ok-turn.turn.state k.in_ok-turn.turn.row k.in_ok-turn.turn.then on
 
   fits : k.loop-numbers.numbers + 2 < length k.loop-numbers.room
   fits =
-      let w = size (earlier_at_loop_numbers k.before.before.before.before.before.before.before) in
       let l = k.loop-numbers-test.true in
       omega arith
 
 -- the row is put
-module _ (p : After-put_row) where
+module _ (p : After-put_row) (still : is_closed p.loop-numbers.st.phase ≡ false) (on : turn_at all p.args.s.now p.loop-numbers.st p.loop-numbers.at ≡ Ok p.in_ok-turn.turn) (size : length p.loop-numbers.room ≡ room_size) where
   put_size : length p.put_row.new.to ≡ room_size
-  put_size = ap length p.put_row.ensures ∙ length_put_row p.loop-numbers.room p.loop-numbers.numbers p.in-On.row ∙ size (earlier_at_loop_numbers p.before.before.before.before.before.before.before.before.before)
+  put_size = ap length p.put_row.ensures ∙ length_put_row p.loop-numbers.room p.loop-numbers.numbers p.in_ok-turn.turn.row ∙ size
 
-  put_moved : Moved p.args.s.now p.loop-numbers.st p.loop-numbers.at p.loop-numbers.numbers p.loop-numbers.room p.in-On.next p.in-On.then (p.loop-numbers.numbers + 3) p.put_row.new.to
+  put_moved : Moved p.args.s.now p.loop-numbers.st p.loop-numbers.at p.loop-numbers.numbers p.loop-numbers.room p.in_ok-turn.turn.state p.in_ok-turn.turn.then (p.loop-numbers.numbers + 3) p.put_row.new.to
   put_moved =
+      let l = p.loop-numbers-test.true in
       moved_as p.args.s.now refl p.put_row.ensures
-      (moved_turn p.args.s.now p.loop-numbers.st p.loop-numbers.at p.loop-numbers.numbers p.loop-numbers.room p.in-On.next p.in-On.row p.in-On.then
-      (open_still (earlier_after_take_turn p.before.before.before.before)) p.if-s-at.false (on (earlier_in_on p.before.before.before)) (fits (earlier_in_on p.before.before.before)))
+      (moved_turn p.args.s.now p.loop-numbers.st p.loop-numbers.at p.loop-numbers.numbers p.loop-numbers.room p.in_ok-turn.turn.state p.in_ok-turn.turn.row p.in_ok-turn.turn.then
+      still p.if-s-at.false on (omega arith))
 
 pub run_on-begun-requires : goal.run_on-begun-requires
 run_on-begun-requires c =
@@ -99,7 +75,7 @@ loop-numbers-init c =
     let a = c.args in
     let f = c.run_on-begun.ensures.fits in
     let z = c.requires.3 in
-    (moved_none a.s.now c.led-st.result c.run_on-begun.result.at c.run_on-begun.result.numbers c.run_on-begun.new.room, omega arith, (began (goal.at.loop-numbers-init c).After-led-st).within c.requires.4)
+    (moved_none a.s.now c.led-st.result c.run_on-begun.result.at c.run_on-begun.result.numbers c.run_on-begun.new.room, omega arith, (moved_as a.s.now c.led-st.ensures refl (passed_moved a.s.now c.run_on-begun.ensures)).within c.requires.4)
 
 pub shape_of-room-then-s-at : goal.shape_of-room-then-s-at
 shape_of-room-then-s-at c = (so_far (goal.at.shape_of-room-then-s-at c).At-loop-numbers).sized
@@ -132,20 +108,20 @@ overflow_cast-at c =
     omega arith
 
 pub put_row-requires : goal.put_row-requires
-put_row-requires c = (fits (goal.at.put_row-requires c).In-On, sym (placed (goal.at.put_row-requires c).In-On).0)
+put_row-requires c = (fits (goal.at.put_row-requires c).In_ok-turn (turned (goal.at.put_row-requires c).After-take_turn (Ok c.in_ok-turn.turn) c.in_ok-turn.was) (size (goal.at.put_row-requires c).At-loop-numbers), sym (placed (goal.at.put_row-requires c).In_ok-turn (turned (goal.at.put_row-requires c).After-take_turn (Ok c.in_ok-turn.turn) c.in_ok-turn.was) (size (goal.at.put_row-requires c).At-loop-numbers)).0)
 
 pub overflow_add-after : goal.overflow_add-after
 overflow_add-after c =
-    let l = fits (goal.at.overflow_add-after c).In-On in
+    let l = fits (goal.at.overflow_add-after c).In_ok-turn (turned (goal.at.overflow_add-after c).After-take_turn (Ok c.in_ok-turn.turn) c.in_ok-turn.was) (size (goal.at.overflow_add-after c).At-loop-numbers) in
     let w = size (goal.at.overflow_add-after c).At-loop-numbers in
     omega arith
 
 pub run_on-ran-requires : goal.run_on-ran-requires
 run_on-ran-requires c =
     let q = c.requires in
-    let l = fits (goal.at.run_on-ran-requires c).In-On in
+    let l = fits (goal.at.run_on-ran-requires c).In_ok-turn (turned (goal.at.run_on-ran-requires c).After-take_turn (Ok c.in_ok-turn.turn) c.in_ok-turn.was) (size (goal.at.run_on-ran-requires c).At-loop-numbers) in
     let w = size (goal.at.run_on-ran-requires c).At-loop-numbers in
-    (q.0, q.1, q.2, put_size (goal.at.run_on-ran-requires c).After-put_row, omega arith)
+    (q.0, q.1, q.2, put_size (goal.at.run_on-ran-requires c).After-put_row (open_still (goal.at.run_on-ran-requires c).After-take_turn) (turned (goal.at.run_on-ran-requires c).After-take_turn (Ok c.in_ok-turn.turn) c.in_ok-turn.was) (size (goal.at.run_on-ran-requires c).At-loop-numbers), omega arith)
 
 pub loop-numbers-smaller : goal.loop-numbers-smaller
 loop-numbers-smaller c =
@@ -157,20 +133,21 @@ loop-numbers-smaller c =
 pub loop-numbers-preserved : goal.loop-numbers-preserved
 loop-numbers-preserved c =
     let e = c.run_on-ran.ensures in
-    let m = moved_as c.args.s.now c.led-st-in-On.ensures refl (moved_both c.args.s.now (put_moved (goal.at.loop-numbers-preserved c).After-put_row) (passed_moved c.args.s.now e)) in
+    let m = moved_as c.args.s.now c.led-st-in-loop-numbers.ensures refl (moved_both c.args.s.now (put_moved (goal.at.loop-numbers-preserved c).After-put_row (open_still (goal.at.loop-numbers-preserved c).After-take_turn) (turned (goal.at.loop-numbers-preserved c).After-take_turn (Ok c.in_ok-turn.turn) c.in_ok-turn.was) (size (goal.at.loop-numbers-preserved c).At-loop-numbers)) (passed_moved c.args.s.now e)) in
     let f = e.fits in
-    let z = put_size (goal.at.loop-numbers-preserved c).After-put_row in
+    let z = put_size (goal.at.loop-numbers-preserved c).After-put_row (open_still (goal.at.loop-numbers-preserved c).After-take_turn) (turned (goal.at.loop-numbers-preserved c).After-take_turn (Ok c.in_ok-turn.turn) c.in_ok-turn.was) (size (goal.at.loop-numbers-preserved c).At-loop-numbers) in
     (moved_both c.args.s.now c.loop-numbers.invariant.0 m, omega arith, m.within c.loop-numbers.invariant.2)
 
-pub shape_of-room-in-Stop : goal.shape_of-room-in-Stop
-shape_of-room-in-Stop c = (so_far (goal.at.shape_of-room-in-Stop c).At-loop-numbers).sized
+pub shape_of-room-in_err-turn : goal.shape_of-room-in_err-turn
+shape_of-room-in_err-turn c = (so_far (goal.at.shape_of-room-in_err-turn c).At-loop-numbers).sized
 
-pub returns-in-Stop : goal.returns-in-Stop
-returns-in-Stop c =
+pub returns-in_err-turn : goal.returns-in_err-turn
+returns-in_err-turn c =
     let a = c.args in
+    let q = err_from_is_err_and c.from_residual.result c.from_residual.ensures.1 in
     let l = c.loop-numbers in (
-      chunk_stop c.args.s.now a.start a.from a.room.now l.st l.at l.numbers l.room (so_far (goal.at.returns-in-Stop c).At-loop-numbers) c.if-s-at.false (open_still (goal.at.returns-in-Stop c).After-take_turn) c.in-Stop.refusal (turned (goal.at.returns-in-Stop c).After-take_turn (Stop c.in-Stop.refusal) c.in-Stop.is),
-      size (goal.at.returns-in-Stop c).At-loop-numbers,
+      rw (q.1, q.2) (chunk_stop c.args.s.now a.start a.from a.room.now l.st l.at l.numbers l.room (so_far (goal.at.returns-in_err-turn c).At-loop-numbers) c.if-s-at.false (open_still (goal.at.returns-in_err-turn c).After-take_turn) c.in_err-turn.field-0.0 (turned (goal.at.returns-in_err-turn c).After-take_turn (Err c.in_err-turn.field-0.0) c.in_err-turn.was)),
+      size (goal.at.returns-in_err-turn c).At-loop-numbers,
     )
 
 pub shape_of-room : goal.shape_of-room

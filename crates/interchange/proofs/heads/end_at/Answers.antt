@@ -1,11 +1,12 @@
 -- `end_at` meets its contract.
 -- Assumes nothing.
+use Rattle.std.specs.Prelude.{Ok}
 use mathlib.Core.Path.{refl, sym, ap, ◌∙◌}
 use borrow.Author.Rules.{rules}
 use lib.Dec.{lit≤}
 use Rattle.syntax.specs.Segment.{body_at}
-use Rattle.syntax.specs.Quick.{quick_segment, ends_same, ends_sure}
-use Rattle.syntax.specs.declared.segment.Scanned.TheVariants.{End}
+use Rattle.syntax.specs.Quick.{quick_segment}
+use Rattle.std.proofs.lemmas.Option.{same_Some}
 use Rattle.syntax.specs.Whole.{whole_bare}
 use Rattle.interchange.specs.Heads.{head_told, head_behind, head_ahead}
 use Rattle.interchange.specs.Led.{good_other, good_read}
@@ -29,7 +30,7 @@ returns-then-found-wanted c =
     (quick_segment a.s.now a.at g e (head_behind a.s.now a.at a.head p.1 p.2 a.tag 43 x (lit≤ tt)) (sym c.quick_end.ensures ∙ q), head_told a.s.now a.at a.head p.1 p.2 a.tag 43 x (lit≤ tt), good_other a.wish a.read (body_at a.s.now a.at) c.if-read.false)
 
 pub returns-then-read-2 : goal.returns-then-read-2
-returns-then-read-2 c = λ e q. absurd (ends_sure q)
+returns-then-read-2 c = λ e q. absurd (cc)
 
 pub returns-then-found-wanted-2 : goal.returns-then-found-wanted-2
 returns-then-found-wanted-2 c =
@@ -38,7 +39,7 @@ returns-then-found-wanted-2 c =
     let p = c.requires in
     let x = c.if-found-wanted-2.true in
     let g = head_ahead a.s.now a.at a.head p.1 p.2 a.tag 39 x (lit≤ tt) p.0 p.3 refl in
-    (sym (whole_bare a.s.now a.at g (head_behind a.s.now a.at a.head p.1 p.2 a.tag 39 x (lit≤ tt))) ∙ ap End (ends_same q), head_told a.s.now a.at a.head p.1 p.2 a.tag 39 x (lit≤ tt), good_other a.wish a.read (body_at a.s.now a.at) c.if-read-2.false)
+    (sym (whole_bare a.s.now a.at g (head_behind a.s.now a.at a.head p.1 p.2 a.tag 39 x (lit≤ tt))) ∙ ap Ok (same_Some _ _ q), head_told a.s.now a.at a.head p.1 p.2 a.tag 39 x (lit≤ tt), good_other a.wish a.read (body_at a.s.now a.at) c.if-read-2.false)
 
 pub returns : goal.returns
-returns c = λ e q. absurd (ends_sure q)
+returns c = λ e q. absurd (cc)

@@ -4,7 +4,6 @@ use mathlib.Core.List.{List, []}
 use Prim.Native.Nat.{ℕ, ◌%◌, ◌<◌}
 use native.Mathlib.Omega.{arith}
 use lib.ListN.{get_or}
-use Rattle.laws.specs.Choice.{false≢true}
 use Rattle.placing.specs.Table.{rows}
 use Rattle.hints.specs.Kinds.{row_in}
 use Rattle.hints.proofs.Onward.{onward_row}
@@ -15,21 +14,18 @@ use Rattle.interchange.proofs.packed.next_place.Goals as goal
 -- the hint that is read leads to a row of the table
 module _ (k : After-slot_of) where
   abbrev hint : ℕ
-  hint = get_or (get_or k.args.hints.now k.args.row []) k.slot_of.result 0
+  hint = get_or (get_or k.args.hints.now k.args.place.row []) k.slot_of.result 0
 
-  narrow : k.args.counts < 18446744073709551616
-  narrow = let h = k.ranges.counts.fits in omega (arith, h)
+  narrow : k.args.place.counts < 18446744073709551616
+  narrow = omega arith
 
   inside : row_in hint < rows k.args.table.now
   inside =
       let a = k.args in
-      onward_row a.table.now a.hints.now k.requires.2 a.row a.counts k.slot_of.result k.requires.3 narrow hint refl
+      onward_row a.table.now a.hints.now k.requires.2 a.place.row a.place.counts k.slot_of.result k.requires.3 narrow hint refl
 
 pub overflow_cast-to : goal.overflow_cast-to
 overflow_cast-to c = omega (arith, inside (goal.at.overflow_cast-to c).After-slot_of)
-
-pub returns-then-bound_of-kept : goal.returns-then-bound_of-kept
-returns-then-bound_of-kept c = λ q. absurd (false≢true (sym c.untold.ensures ∙ q))
 
 pub overflow_add-result : goal.overflow_add-result
 overflow_add-result c =
@@ -38,7 +34,6 @@ overflow_add-result c =
 
 pub returns : goal.returns
 returns c =
-    λ _.
     let a = c.args in
-    leads a.table.now a.hints.now c.requires.2 a.row a.counts c.slot_of.result c.requires.3 (narrow (goal.at.returns c).After-slot_of) (hint (goal.at.returns c).After-slot_of) refl
+    leads a.table.now a.hints.now c.requires.2 a.place.row a.place.counts c.slot_of.result c.requires.3 (narrow (goal.at.returns c).After-slot_of) (hint (goal.at.returns c).After-slot_of) refl
     c.kept_mask.result c.bound_of.result c.more_of.result c.kept_mask.ensures c.bound_of.ensures c.more_of.ensures c.if-bound_of-kept.false

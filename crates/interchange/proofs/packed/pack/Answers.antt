@@ -4,7 +4,6 @@ use mathlib.Core.Bool.{true}
 use Prim.Native.Nat.{◌<◌}
 use native.Mathlib.Omega.{arith}
 use borrow.Author.Tests.{not-false}
-use Rattle.laws.specs.Choice.{false≢true}
 use Rattle.interchange.specs.Packs.{narrow, narrow_parts, packs}
 use Rattle.interchange.proofs.packed.pack.Goals.{Else-not-is_narrow, Start}
 use Rattle.interchange.proofs.packed.pack.Goals as goal
@@ -16,15 +15,6 @@ module _ (e : Else-not-is_narrow) where
 
   parts : (e.args.place.c0 < 16384) × (e.args.place.c1 < 16384) × (e.args.place.c2 < 16384) × (e.args.place.c3 < 16384) × (e.args.place.c4 < 256)
   parts = narrow_parts e.args.place fine
-
-pub returns-then-table-row : goal.returns-then-table-row
-returns-then-table-row c = λ q. absurd (false≢true (sym c.untold.ensures ∙ q))
-
-pub returns-then-level-gt4 : goal.returns-then-level-gt4
-returns-then-level-gt4 c = λ q. absurd (false≢true (sym c.untold-then-level-gt4.ensures ∙ q))
-
-pub returns-then-not-is_narrow : goal.returns-then-not-is_narrow
-returns-then-not-is_narrow c = λ q. absurd (false≢true (sym c.untold-then-not-is_narrow.ensures ∙ q))
 
 pub overflow_mul-counts-3 : goal.overflow_mul-counts-3
 overflow_mul-counts-3 c = omega (arith, parts (goal.at.overflow_mul-counts-3 c).Else-not-is_narrow)
@@ -38,11 +28,7 @@ overflow_mul-counts-4 c = omega (arith, parts (goal.at.overflow_mul-counts-4 c).
 pub overflow_add-counts-4 : goal.overflow_add-counts-4
 overflow_add-counts-4 c = omega (arith, parts (goal.at.overflow_add-counts-4 c).Else-not-is_narrow)
 
-pub returns-then-counts-level-eq0 : goal.returns-then-counts-level-eq0
-returns-then-counts-level-eq0 c = λ q. absurd (false≢true (sym c.untold-then-counts-level-eq0.ensures ∙ q))
-
 pub returns : goal.returns
 returns c =
-    λ _.
     let a = c.args in
     packs a.table.now a.place _ refl (fine (goal.at.returns c).Else-not-is_narrow) c.entry-level.result c.entry-level.ensures c.if-level-gt4.false c.if-counts-level-eq0.false c.if-table-row.false

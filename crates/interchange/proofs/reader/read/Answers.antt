@@ -1,3 +1,4 @@
+use Rattle.answers.specs.Answers.{refused}
 use mathlib.Core.Path.{◌≡◌, sym, ap, ◌∙◌}
 use Prim.Native.Nat.{ℕ, ◌+◌}
 use lib.ListN.{length}
@@ -9,11 +10,11 @@ use Rattle.interchange.proofs.reader.read.Goals as goal
 
 pub returns-then-interchange-eq0 : goal.returns-then-interchange-eq0
 returns-then-interchange-eq0 c =
-    let a = c.args in record { told = (none_read a.wish a.interchange.now a.rows.now c.if-interchange-eq0.true).0; left = (none_read a.wish a.interchange.now a.rows.now c.if-interchange-eq0.true).1 }
+    let a = c.args in record { told = ap refused c.at.ensures ∙ (none_read a.wish a.interchange.now a.rows.now c.if-interchange-eq0.true).0; left = (none_read a.wish a.interchange.now a.rows.now c.if-interchange-eq0.true).1 }
 
 pub returns-then-interchange-gt60000 : goal.returns-then-interchange-gt60000
 returns-then-interchange-gt60000 c =
-    let a = c.args in record { told = (long_read a.wish a.interchange.now a.rows.now c.if-interchange-gt60000.true).0; left = (long_read a.wish a.interchange.now a.rows.now c.if-interchange-gt60000.true).1 }
+    let a = c.args in record { told = ap refused c.at-then-interchange-gt60000.ensures ∙ (long_read a.wish a.interchange.now a.rows.now c.if-interchange-gt60000.true).0; left = (long_read a.wish a.interchange.now a.rows.now c.if-interchange-gt60000.true).1 }
 
 pub returns : goal.returns
 returns c =

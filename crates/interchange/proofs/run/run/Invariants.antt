@@ -27,12 +27,12 @@ use Rattle.interchange.proofs.run.run.Given as goal
 
 abbrev pub invariant-loop-numbers : goal.invariant-loop-numbers
 invariant-loop-numbers l =
-    Passed l.s l.st l.initial.at l.initial.numbers l.initial.room (moved_state l.st (place_of l.row l.counts) (counted_of l.st.segments ((l.numbers - l.first) / 3))) l.at l.numbers l.room
+    Passed l.s l.st l.initial.at l.initial.numbers l.initial.room (moved_state l.st (place_of l.place.row l.place.counts) (counted_of l.st.segments ((l.numbers - l.first) / 3))) l.at l.numbers l.room
     × (l.numbers ≤ room_size)
     × (l.first ≤ l.numbers)
-    × (l.row < length l.hints)
-    × Stood l.table (place_of l.row l.counts)
-    × (l.counts < 18446744073709551616)
+    × (l.place.row < length l.hints)
+    × Stood l.table (place_of l.place.row l.place.counts)
+    × (l.place.counts < 18446744073709551616)
     × (l.at ≤ length l.s)
 
 abbrev pub decreases-loop-numbers : goal.decreases-loop-numbers

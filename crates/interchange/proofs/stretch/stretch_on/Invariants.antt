@@ -11,7 +11,6 @@ use Rattle.placing.specs.Tables.{tables as all}
 use Rattle.steps.specs.declared.state.State.{State}
 use Rattle.steps.specs.declared.state.Row.{Row}
 use Rattle.interchange.specs.declared.turn.Turn.{Turn}
-use Rattle.interchange.specs.declared.turn.Turn.TheVariants.{On, Stop}
 use Rattle.interchange.specs.Reader.{turn_with}
 use Rattle.interchange.specs.Laws.{length_put_row}
 use Rattle.interchange.specs.Offsets.{with_on}

@@ -5,8 +5,8 @@ use lib.ListN.{length, drop}
 use Rattle.lines.specs.Coded.{said, Writing}
 use Rattle.lines.proofs.coded.decode.Given as goal
 
-abbrev pub invariant-loop-i : goal.invariant-loop-i
-invariant-loop-i l = Writing l.text l.initial.out l.n l.out (said (drop l.i l.text))
+abbrev pub invariant-loop-sign : goal.invariant-loop-sign
+invariant-loop-sign l = Writing l.text l.initial.out l.n l.out (said (drop l.i l.text))
 
-abbrev pub decreases-loop-i : goal.decreases-loop-i
-decreases-loop-i l = length l.text - l.i
+abbrev pub decreases-loop-sign : goal.decreases-loop-sign
+decreases-loop-sign l = length l.text - l.i

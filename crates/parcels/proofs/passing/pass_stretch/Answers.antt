@@ -6,8 +6,8 @@ use Prim.Native.Nat.{ℕ, ◌≤◌}
 use native.Mathlib.Omega.{arith}
 use lib.ListN.{length, replicate, length-replicate}
 use Rattle.laws.specs.Put.{length_put}
-use Rattle.interchange.specs.declared.stretch.Halt.{Halt}
-use Rattle.interchange.specs.declared.stretch.Halt.TheVariants.{Sound, Faulty}
+use Rattle.std.specs.Prelude.{Option, Some, None}
+use Rattle.answers.specs.declared.Refusal.{Refusal}
 use Rattle.interchange.specs.Reader.{numbers}
 use Rattle.interchange.specs.Room.{room_size, room_rows}
 use Rattle.interchange.specs.Stretch.{Stretched, stretch_on, stretch_of, halt_verdict}
@@ -49,7 +49,7 @@ module _ (r : After-read_stretch-stretch) where
   room_long : length r.read_stretch-stretch.new.room ≡ room_size
   room_long = ap length r.read_stretch-stretch.ensures.left ∙ length_put zeros 0 (numbers read.rows) ∙ length-replicate {A = ℕ} 384 0
 
-  judged : (h : Halt) → r.read_stretch-stretch.result.halt ≡ h → read.verdict ≡ halt_verdict h
+  judged : (h : Option Refusal) → r.read_stretch-stretch.result.halt ≡ h → read.verdict ≡ halt_verdict h
   judged h e = sym r.read_stretch-stretch.ensures.told.3 ∙ ap halt_verdict e
 
 pub put_rows-requires : goal.put_rows-requires
@@ -78,31 +78,31 @@ overflow_add-beyond-3 c =
     let g = c.requires.goes.sized.offset in
     omega arith
 
-pub overflow_add-kept-in-Faulty : goal.overflow_add-kept-in-Faulty
-overflow_add-kept-in-Faulty c =
-    let z = c.in-Faulty.refusal in
-    let i = placed c.args.x c.args.store.now c.args.piece.now c.requires (read (goal.at.overflow_add-kept-in-Faulty c).After-read_stretch-stretch) (whole (goal.at.overflow_add-kept-in-Faulty c).After-read_stretch-stretch) z (judged (goal.at.overflow_add-kept-in-Faulty c).After-read_stretch-stretch (Faulty z) c.in-Faulty.is) in
+pub overflow_add-kept-in-Some : goal.overflow_add-kept-in-Some
+overflow_add-kept-in-Some c =
+    let z = c.in-Some.refusal in
+    let i = placed c.args.x c.args.store.now c.args.piece.now c.requires (read (goal.at.overflow_add-kept-in-Some c).After-read_stretch-stretch) (whole (goal.at.overflow_add-kept-in-Some c).After-read_stretch-stretch) z (judged (goal.at.overflow_add-kept-in-Some c).After-read_stretch-stretch (Some z) c.in-Some.is) in
     let o = c.requires.within in
     omega arith
 
-pub shape_of-rows-in-Sound : goal.shape_of-rows-in-Sound
-shape_of-rows-in-Sound c = c.put_rows.auto.rows
+pub shape_of-rows-in-None : goal.shape_of-rows-in-None
+shape_of-rows-in-None c = c.put_rows.auto.rows
 
-pub returns-in-Sound : goal.returns-in-Sound
-returns-in-Sound c =
+pub returns-in-None : goal.returns-in-None
+returns-in-None c =
     let t = c.read_stretch-stretch.ensures.told in
-    stretch_sound c.args.x c.args.store.now c.args.piece.now c.requires (read (goal.at.returns-in-Sound c).After-read_stretch-stretch) (whole (goal.at.returns-in-Sound c).After-read_stretch-stretch) c.read_stretch-stretch.result.state c.read_stretch-stretch.result.at c.read_stretch-stretch.result.numbers c.counted.result
-    c.args.rows.now (zeros (goal.at.returns-in-Sound c).After-read_stretch-stretch) c.read_stretch-stretch.new.room c.put_rows.new.rows t.0 t.1 t.2 c.counted.ensures (length-replicate {A = ℕ} 384 0)
-    c.read_stretch-stretch.ensures.left c.put_rows.ensures (judged (goal.at.returns-in-Sound c).After-read_stretch-stretch Sound c.in-Sound.is)
+    stretch_sound c.args.x c.args.store.now c.args.piece.now c.requires (read (goal.at.returns-in-None c).After-read_stretch-stretch) (whole (goal.at.returns-in-None c).After-read_stretch-stretch) c.read_stretch-stretch.result.state c.read_stretch-stretch.result.at c.read_stretch-stretch.result.numbers c.counted.result
+    c.args.rows.now (zeros (goal.at.returns-in-None c).After-read_stretch-stretch) c.read_stretch-stretch.new.room c.put_rows.new.rows t.0 t.1 t.2 c.counted.ensures (length-replicate {A = ℕ} 384 0)
+    c.read_stretch-stretch.ensures.left c.put_rows.ensures (judged (goal.at.returns-in-None c).After-read_stretch-stretch None c.in-None.is)
 
-pub shape_of-rows-in-Faulty : goal.shape_of-rows-in-Faulty
-shape_of-rows-in-Faulty c = c.put_rows.auto.rows
+pub shape_of-rows-in-Some : goal.shape_of-rows-in-Some
+shape_of-rows-in-Some c = c.put_rows.auto.rows
 
-pub returns-in-Faulty : goal.returns-in-Faulty
-returns-in-Faulty c =
+pub returns-in-Some : goal.returns-in-Some
+returns-in-Some c =
     let t = c.read_stretch-stretch.ensures.told in
-    let z = c.in-Faulty.refusal in
+    let z = c.in-Some.refusal in
     subst (λ (y : Progress). Onward c.args.piece.now c.args.x c.args.store.now c.args.rows.now y c.args.store.now c.put_rows.new.rows × Faster c.args.x y) (sym c.named.ensures)
-    (stretch_faulted c.args.x c.args.store.now c.args.piece.now c.requires (read (goal.at.returns-in-Faulty c).After-read_stretch-stretch) (whole (goal.at.returns-in-Faulty c).After-read_stretch-stretch) c.read_stretch-stretch.result.state c.read_stretch-stretch.result.at c.read_stretch-stretch.result.numbers c.counted.result
-    c.args.rows.now (zeros (goal.at.returns-in-Faulty c).After-read_stretch-stretch) c.read_stretch-stretch.new.room c.put_rows.new.rows t.0 t.1 t.2 c.counted.ensures (length-replicate {A = ℕ} 384 0)
-    c.read_stretch-stretch.ensures.left c.put_rows.ensures z (judged (goal.at.returns-in-Faulty c).After-read_stretch-stretch (Faulty z) c.in-Faulty.is))
+    (stretch_faulted c.args.x c.args.store.now c.args.piece.now c.requires (read (goal.at.returns-in-Some c).After-read_stretch-stretch) (whole (goal.at.returns-in-Some c).After-read_stretch-stretch) c.read_stretch-stretch.result.state c.read_stretch-stretch.result.at c.read_stretch-stretch.result.numbers c.counted.result
+    c.args.rows.now (zeros (goal.at.returns-in-Some c).After-read_stretch-stretch) c.read_stretch-stretch.new.room c.put_rows.new.rows t.0 t.1 t.2 c.counted.ensures (length-replicate {A = ℕ} 384 0)
+    c.read_stretch-stretch.ensures.left c.put_rows.ensures z (judged (goal.at.returns-in-Some c).After-read_stretch-stretch (Some z) c.in-Some.is))

@@ -21,22 +21,6 @@ returns-then-kept-gt0 c =
     let r = c.pass_cut in
     (onward_front (a.end + 1) a.piece.now a.x a.store.now a.rows.now r.result r.new.store r.new.rows r.ensures.0, r.ensures.1)
 
-pub slice_bounds-pass_cut-end-then-kept : goal.slice_bounds-pass_cut-end-then-kept
-slice_bounds-pass_cut-end-then-kept c =
-    let a = c.args in
-    piece_long a.x a.store.now a.piece.now a.end c.requires
-
-pub pass_cut-requires-then-kept : goal.pass_cut-requires-then-kept
-pass_cut-requires-then-kept c =
-    let a = c.args in
-    piece_ready a.x a.store.now a.piece.now a.end c.requires
-
-pub returns-then-kept : goal.returns-then-kept
-returns-then-kept c =
-    let a = c.args in
-    let r = c.pass_cut-then-kept in
-    (onward_front (a.end + 1) a.piece.now a.x a.store.now a.rows.now r.result r.new.store r.new.rows r.ensures.0, r.ensures.1)
-
 pub pass_stretch-requires : goal.pass_stretch-requires
 pass_stretch-requires c =
     let a = c.args in

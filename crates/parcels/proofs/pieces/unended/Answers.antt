@@ -13,9 +13,9 @@ returns-then-left-n c =
 pub returns-then-kept-n-ge-INTERCHANGE : goal.returns-then-kept-n-ge-INTERCHANGE
 returns-then-kept-n-ge-INTERCHANGE c =
     let a = c.args in
-    c.named.ensures ∙ ap (named_at a.x) c.fault.ensures ∙ sym (unended_three a.x a.n a.left c.if-left-n.false c.if-kept-n-ge-INTERCHANGE.true)
+    c.named.ensures ∙ ap (named_at a.x) c.at.ensures ∙ sym (unended_three a.x a.n a.left c.if-left-n.false c.if-kept-n-ge-INTERCHANGE.true)
 
 pub returns : goal.returns
 returns c =
     let a = c.args in
-    c.named-2.ensures ∙ ap (named_at a.x) c.fault-2.ensures ∙ sym (unended_long a.x a.n a.left c.if-left-n.false c.if-kept-n-ge-INTERCHANGE.false)
+    c.named-2.ensures ∙ ap (named_at a.x) c.at-2.ensures ∙ sym (unended_long a.x a.n a.left c.if-left-n.false c.if-kept-n-ge-INTERCHANGE.false)

@@ -11,11 +11,11 @@ pub returns-then-end-from : goal.returns-then-end-from
 returns-then-end-from c = let a = c.args in cut_none a.s.now a.from a.end a.mark c.if-end-from.true
 
 pub overflow_add-stop : goal.overflow_add-stop
-overflow_add-stop c = omega (arith, c.least.ensures)
+overflow_add-stop c = omega (arith, c.min.ensures)
 
 pub loop-i-init : goal.loop-i-init
 loop-i-init c =
-    let l = c.least.ensures in
+    let l = c.min.ensures in
     (omega (arith, l), omega (arith, l), omega arith, c.requires, refl)
 
 -- what is known where a byte is read

@@ -17,5 +17,5 @@ returns-in_default-eight_at-2 c e = absurd (false≢true e)
 pub returns : goal.returns
 returns c e =
     let s = c.args.g.now in
-    dates_told s (eights_known s 8 c.eight_at.ensures c.in-Word.is) (eights_known s 16 c.eight_at-2.ensures c.in-Word-eight_at.is) (eights_known s 21 c.eight_at-3.ensures c.in-Word-eight_at-2.is)
+    dates_told s (eights_known s 8 c.eight_at.ensures c.in-Some.is) (eights_known s 16 c.eight_at-2.ensures c.in-Some-eight_at.is) (eights_known s 21 c.eight_at-3.ensures c.in-Some-eight_at-2.is)
     c.differing.ensures c.differing-2.ensures c.differing-3.ensures e

@@ -1,14 +1,9 @@
--- `is_rising` meets its contract.
+-- The weekdays that are left rise from the last one as the whole does from `0`.
 -- Assumes nothing.
-use mathlib.Core.Path.{◌≡◌}
-use Prim.Native.Nat.{◌-◌}
-use lib.ListN.{length, drop}
+use Rattle.std.proofs.Common.{◌≡◌}
 use Rattle.syntax.specs.Bytes.{plain}
 use Rattle.period.specs.Period.{rising_days}
 use Rattle.period.proofs.forms.is_rising.Given as goal
 
-abbrev pub invariant-loop-i : goal.invariant-loop-i
-invariant-loop-i l = rising_days l.low (plain (drop l.i l.part)) ≡ rising_days 48 (plain l.part)
-
-abbrev pub decreases-loop-i : goal.decreases-loop-i
-decreases-loop-i l = length l.part - l.i
+abbrev pub invariant-loop-b : goal.invariant-loop-b
+invariant-loop-b l = rising_days l.low (plain l.b-iterator.rest.now) ≡ rising_days 48 (plain l.part)

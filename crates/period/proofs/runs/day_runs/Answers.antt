@@ -1,20 +1,22 @@
 -- `day_runs` meets its contract.
 -- Assumes nothing.
+use mathlib.Core.Path.{◌∙◌}
+use borrow.Author.Tests.{le-ltb}
 use Rattle.parts.specs.Places.{bytes_of}
 use Rattle.period.specs.Tests.{runs_past, runs_inside, runs_wrong}
 use Rattle.period.proofs.runs.day_runs.Goals as goal
 
-pub returns-then-count-k : goal.returns-then-count-k
-returns-then-count-k c =
+pub returns-then-k-period : goal.returns-then-k-period
+returns-then-k-period c =
     let a = c.args in
-    runs_past (bytes_of a.s.now a.segment) c.in-Good.is c.if-count-k.true
+    runs_inside (bytes_of a.s.now a.segment) c.in-Ok.is c.if-k-period.true c.form_runs.ensures
 
-pub returns-else-count-k : goal.returns-else-count-k
-returns-else-count-k c =
+pub returns-else-k-period : goal.returns-else-k-period
+returns-else-k-period c =
     let a = c.args in
-    runs_inside (bytes_of a.s.now a.segment) c.in-Good.is c.if-count-k.false c.form_runs.ensures
+    le-ltb a.k c.in-Ok.period.days.count c.if-k-period.false ∙ runs_past (bytes_of a.s.now a.segment) c.in-Ok.is c.if-k-period.false
 
-pub returns-in-Wrong : goal.returns-in-Wrong
-returns-in-Wrong c =
+pub returns-in-Err : goal.returns-in-Err
+returns-in-Err c =
     let a = c.args in
-    runs_wrong (bytes_of a.s.now a.segment) a.k c.in-Wrong.is
+    runs_wrong (bytes_of a.s.now a.segment) a.k c.in-Err.is

@@ -12,18 +12,6 @@ use Rattle.period.specs.Written.{word_same}
 use Rattle.period.proofs.written.full_end.Goals.{Else-count-eq0, Else-g-count, Else-word}
 use Rattle.period.proofs.written.full_end.Goals as goal
 
-pub returns-then-g-lt32 : goal.returns-then-g-lt32
-returns-then-g-lt32 c = λ h. absurd (omega arith)
-
-pub returns-then-g-count : goal.returns-then-g-count
-returns-then-g-count c = λ h. absurd (omega arith)
-
-pub returns-then-count-eq0 : goal.returns-then-count-eq0
-returns-then-count-eq0 c = λ h. absurd (omega arith)
-
-pub returns-then-word : goal.returns-then-word
-returns-then-word c = λ h. absurd (omega arith)
-
 -- where the marks and the terminator stand
 module _ (w : Else-word) where
   within : 31 + w.args.count < length w.args.g.now
@@ -36,19 +24,15 @@ module _ (w : Else-word) where
 pub slice_bounds-are_days-end : goal.slice_bounds-are_days-end
 slice_bounds-are_days-end c = front (goal.at.slice_bounds-are_days-end c).Else-word
 
-pub returns-then-are_days : goal.returns-then-are_days
-returns-then-are_days c =
+pub returns : goal.returns
+returns c =
     let m = word_same c.word.ensures c.word-2.ensures c.if-word.false in
-    λ h.
     record {
       some = let n = c.if-count-eq0.false in omega arith;
       few = omega arith;
-      inside = within (goal.at.returns-then-are_days c).Else-word;
+      inside = within (goal.at.returns c).Else-word;
       colon = m.one;
       second_colon = m.two;
       quote = m.three;
-      days = ap (all zero_or_one) (sym (drop_take 31 (31 + c.args.count) c.args.g.now)) ∙ sym c.are_days.ensures ∙ c.if-are_days.true;
+      days = ap (all zero_or_one) (sym (drop_take 31 (31 + c.args.count) c.args.g.now)) ∙ sym c.are_days.ensures ∙ (c.if-not-are_days.false);
     }
-
-pub returns : goal.returns
-returns c = λ h. absurd (omega arith)

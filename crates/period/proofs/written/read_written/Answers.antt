@@ -16,4 +16,4 @@ read_behind-requires c =
     let r = rest_is a.s.now a.at in
     let d = length-drop a.at a.s.now in
     let e = ap length r in
-    (r, span_known (take (length a.s.now - a.at) (drop a.at a.s.now)) c.written_span.ensures c.in-Days.is, h, omega arith)
+    (r, span_known (take (length a.s.now - a.at) (drop a.at a.s.now)) c.written_span.ensures c.in_ok-days.was, h, omega arith)

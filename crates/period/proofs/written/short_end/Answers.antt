@@ -5,20 +5,10 @@ use Rattle.period.specs.Strings.{run_between}
 use Rattle.period.specs.Written.{word_same}
 use Rattle.period.proofs.written.short_end.Goals as goal
 
-pub returns-then-g-end : goal.returns-then-g-end
-returns-then-g-end c = λ h. absurd (omega arith)
-
-pub returns-then-end-le31 : goal.returns-then-end-le31
-returns-then-end-le31 c = λ h. absurd (omega arith)
-
-pub returns-then-count-end : goal.returns-then-count-end
-returns-then-count-end c = λ h. absurd (omega arith)
-
 -- where the marks and the terminator stand
-pub returns-then-word : goal.returns-then-word
-returns-then-word c =
-    let m = word_same c.word.ensures c.word-2.ensures c.if-word.true in
-    λ h.
+pub returns : goal.returns
+returns c =
+    let m = word_same c.word.ensures c.word-2.ensures c.if-word.false in
     record {
       some = c.if-end-le31.false;
       few = let l = c.if-count-end.false in omega arith;
@@ -28,6 +18,3 @@ returns-then-word c =
       quote = m.three;
       days = run_between c.args.g.now 31 c.days_end-end.result c.days_end-end.ensures;
     }
-
-pub returns : goal.returns
-returns c = λ h. absurd (omega arith)

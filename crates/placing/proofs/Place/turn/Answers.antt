@@ -1,33 +1,30 @@
 -- `placing::Place::turn` meets its contract. Assumes nothing.
-use mathlib.Core.Path.{sym, ap, ◌∙◌}
-use Rattle.placing.specs.declared.Reading.TheVariants.{Found, Barred, Past}
-use Rattle.placing.specs.declared.Turn.TheVariants.{Here}
-use Rattle.placing.specs.Place.{reached_of}
+use mathlib.Core.Path.{◌≡◌, sym, ap, ◌∙◌}
+use Rattle.std.proofs.Common.{Some, None, Break, Continue}
+use Rattle.placing.specs.Reading.{Reading, turn_by, turn_of}
 use Rattle.placing.proofs.Walks.{turn_again, turn_later}
+use Rattle.placing.proofs.Place.turn.Goals.{After-in_group}
 use Rattle.placing.proofs.Place.turn.Goals as goal
 
-pub returns-in-Placed : goal.returns-in-Placed
-returns-in-Placed c =
-    let a = c.args in
-    sym (turn_again a.table.now a.self a.tag a.level a.row c.in-Placed.q (sym c.once_more-s.ensures ∙ c.in-Placed.is))
+-- what the later places come to is what the level comes to
+later_is : (o : After-in_group) (g : Reading) → o.in_group.result ≡ g → turn_by o.args.self o.args.level None g ≡ turn_of o.args.table.now o.args.self o.args.tag o.args.level o.args.row
+later_is o g e =
+    let a = o.args in
+    turn_later a.table.now a.self a.tag a.level a.row o.once_more-again.result o.depth_below.result o.after-next.result o.end-last.result g
+    o.once_more-again.ensures (sym o.is_some.ensures ∙ o.if-is_some.false) o.depth_below.ensures o.after-next.ensures o.end-last.ensures (sym o.in_group.ensures ∙ e)
 
-pub returns-in-Found : goal.returns-in-Found
-returns-in-Found c =
+pub returns-then-is_some : goal.returns-then-is_some
+returns-then-is_some c =
     let a = c.args in
-    let r = c.in-Found.r in
-    let d = c.in-Found.d in
-    ap Here (c.reached.ensures ∙ ap (λ z. reached_of a.self a.level 1 r z) c.depth_below-in-Found.ensures)
-    ∙ sym (turn_later a.table.now a.self a.tag a.level a.row c.depth_below.result c.after-next.result c.end-last.result (Found r d)
-    (sym c.once_more-s.ensures ∙ c.in_default.is) c.depth_below.ensures c.after-next.ensures c.end-last.ensures (sym c.in-Found.is ∙ c.in_group-g.ensures))
+    sym (turn_again a.table.now a.self a.tag a.level a.row c.once_more-again.result c.once_more-again.ensures (sym c.is_some.ensures ∙ c.if-is_some.true))
 
-pub returns-in-Barred : goal.returns-in-Barred
-returns-in-Barred c =
-    let a = c.args in
-    sym (turn_later a.table.now a.self a.tag a.level a.row c.depth_below.result c.after-next.result c.end-last.result Barred
-    (sym c.once_more-s.ensures ∙ c.in_default.is) c.depth_below.ensures c.after-next.ensures c.end-last.ensures (sym c.in-Barred.is ∙ c.in_group-g.ensures))
+pub returns-in-Break-Some : goal.returns-in-Break-Some
+returns-in-Break-Some c =
+    rw c.placed.ensures (later_is (goal.at.returns-in-Break-Some c).After-in_group (Break (Some c.in-Break-Some.fit)) (c.in-Break-Some.is ∙ ap Break c.in-Break-Some.field-0-is))
 
-pub returns-in-Past : goal.returns-in-Past
-returns-in-Past c =
-    let a = c.args in
-    sym (turn_later a.table.now a.self a.tag a.level a.row c.depth_below.result c.after-next.result c.end-last.result Past
-    (sym c.once_more-s.ensures ∙ c.in_default.is) c.depth_below.ensures c.after-next.ensures c.end-last.ensures (sym c.in-Past.is ∙ c.in_group-g.ensures))
+pub returns-in-Break-None : goal.returns-in-Break-None
+returns-in-Break-None c =
+    later_is (goal.at.returns-in-Break-None c).After-in_group (Break None) (c.in-Break-None.is ∙ ap Break c.in-Break-None.field-0-is)
+
+pub returns-in-Continue : goal.returns-in-Continue
+returns-in-Continue c = later_is (goal.at.returns-in-Continue c).After-in_group (Continue tt) c.in-Continue.is

@@ -10,6 +10,3 @@ use Rattle.service_entries.proofs.orders.put_orders.Given as goal
 abbrev pub invariant-loop-k : goal.invariant-loop-k
 invariant-loop-k l =
     (put_orders l.orders l.k (l.count - l.k) l.room ≡ put_orders l.orders 0 l.count l.initial.room) × (length l.room ≡ length l.initial.room) × Ends l.room l.end
-
-abbrev pub decreases-loop-k : goal.decreases-loop-k
-decreases-loop-k l = l.count - l.k

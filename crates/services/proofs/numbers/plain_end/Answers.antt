@@ -1,7 +1,6 @@
 -- `services::numbers::plain_end` meets its contract: the number ends where what is left of it does.
 -- Assumes nothing.
 use mathlib.Core.Path.{sym, ◌∙◌}
-use native.Mathlib.Omega.{arith}
 use Rattle.services.specs.Numbers.{number_on, number_stops}
 use Rattle.services.proofs.numbers.plain_end.Goals as goal
 
@@ -11,15 +10,9 @@ loop-i-init c = sym c.past_plain-i.ensures
 pub returns-then-is_closing : goal.returns-then-is_closing
 returns-then-is_closing c =
     let a = c.args in
-    λ h. sym (number_stops a.s.now c.loop-i.i c.loop-i-test.true (c.is_closing.ensures c.if-is_closing.true)) ∙ c.loop-i.invariant
-
-pub returns-then-not-is_plain : goal.returns-then-not-is_plain
-returns-then-not-is_plain c = λ h. absurd (omega arith)
+    sym (number_stops a.s.now c.loop-i.i c.loop-i-test.true (c.is_closing.ensures c.if-is_closing.true)) ∙ c.loop-i.invariant
 
 pub loop-i-preserved : goal.loop-i-preserved
 loop-i-preserved c =
     let a = c.args in
     sym (number_on a.s.now c.loop-i.i c.loop-i-test.true (c.is_plain.ensures (c.if-not-is_plain.false))) ∙ c.loop-i.invariant
-
-pub returns : goal.returns
-returns c = λ h. absurd (omega arith)

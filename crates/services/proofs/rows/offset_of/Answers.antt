@@ -1,13 +1,12 @@
 -- `services::rows::offset_of` meets its contract.
 -- Assumes nothing.
-use mathlib.Core.Path.{◌∙◌}
 use Rattle.services.specs.Search.{offset_some, offset_none}
 use Rattle.services.proofs.rows.offset_of.Goals as goal
 
 pub returns-then-i-rows : goal.returns-then-i-rows
 returns-then-i-rows c =
     let a = c.args in
-    c.wide.ensures ∙ offset_some a.rows.now a.i c.if-i-rows.true
+    offset_some a.rows.now a.i c.if-i-rows.true
 
 pub returns : goal.returns
 returns c =

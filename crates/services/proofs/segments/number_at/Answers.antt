@@ -10,10 +10,10 @@ overflow_add-from c =
     let h = (c.is_product.ensures c.if-is_product.true).fits in
     omega arith
 
-pub returns-then-to-s : goal.returns-then-to-s
-returns-then-to-s c =
+pub returns-in-Some : goal.returns-in-Some
+returns-in-Some c =
     let a = c.args in
-    number_quick a.s.now a.at (c.is_product.ensures c.if-is_product.true) c.plain_end-to.result (c.plain_end-to.ensures c.if-to-s.true)
+    number_quick a.s.now a.at (c.is_product.ensures c.if-is_product.true) c.in-Some.to c.in-Some.ensures
 
 pub returns : goal.returns
 returns c =

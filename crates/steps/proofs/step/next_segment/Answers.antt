@@ -14,14 +14,14 @@ module _ (u : After-step) where
       let a = u.args in
       u.step.ensures.step ∙ ap (step_of a.table.now a.st.place) u.tag_at.ensures
 
-pub returns-in-Placed : goal.returns-in-Placed
-returns-in-Placed c =
+pub returns-in-Some : goal.returns-in-Some
+returns-in-Some c =
     let a = c.args in
     c.take_segment.ensures
-    ∙ ap (λ (x : ℕ). placed a.st a.at a.segment.now a.reference.now x c.in-Placed.p) c.group.ensures
-    ∙ inside_placed a.st a.at a.segment.now a.table.now a.reference.now c.in-Placed.p (sym (told (goal.at.returns-in-Placed c).After-step) ∙ c.in-Placed.is)
+    ∙ ap (λ (x : ℕ). placed a.st a.at a.segment.now a.reference.now x c.in-Some.p) c.group.ensures
+    ∙ inside_placed a.st a.at a.segment.now a.table.now a.reference.now c.in-Some.p (sym (told (goal.at.returns-in-Some c).After-step) ∙ c.in-Some.is)
 
-pub returns-in-OutOfPlace : goal.returns-in-OutOfPlace
-returns-in-OutOfPlace c =
+pub returns-in-None : goal.returns-in-None
+returns-in-None c =
     let a = c.args in
-    c.refused.ensures ∙ inside_out a.st a.at a.segment.now a.table.now a.reference.now (sym (told (goal.at.returns-in-OutOfPlace c).After-step) ∙ c.in-OutOfPlace.is)
+    c.refused.ensures ∙ inside_out a.st a.at a.segment.now a.table.now a.reference.now (sym (told (goal.at.returns-in-None c).After-step) ∙ c.in-None.is)

@@ -1,11 +1,13 @@
 -- `find_end` meets its contract.
 -- Assumes nothing.
-use mathlib.Core.Path.{◌≡◌, sym, ◌∙◌}
+use mathlib.Core.Path.{◌≡◌, sym, ap, ◌∙◌}
 use mathlib.Core.List.{List}
-use Prim.Native.Nat.{ℕ}
+use Prim.Native.Nat.{ℕ, ◌<◌}
 use native.Mathlib.Omega.{arith}
-use Rattle.syntax.specs.Found.{end_from, end_past, end_quote}
-use Rattle.syntax.proofs.ends.find_end.Goals.{After-common_end-j, At-loop-i}
+use lib.ListN.{length}
+use Rattle.std.specs.Prelude.{Option, Some, None}
+use Rattle.syntax.specs.Found.{end_from, end_past, end_quote, told_of, told_some, told_none}
+use Rattle.syntax.proofs.ends.find_end.Goals.{After-common_end-j}
 use Rattle.syntax.proofs.ends.find_end.Goals as goal
 
 -- where eight bytes at a time come to
@@ -18,23 +20,27 @@ module _ (t : After-common_end-j) where
 
 pub returns-then-s-j : goal.returns-then-s-j
 returns-then-s-j c =
-    sym (end_past (list (goal.at.returns-then-s-j c).After-common_end-j) c.common_end-j.result c.if-s-j.true) ∙ on (goal.at.returns-then-s-j c).After-common_end-j
+    let s = c.args.s.now in
+    let e = on (goal.at.returns-then-s-j c).After-common_end-j in
+    let p = end_past s c.common_end-j.result c.if-s-j.true in
+    told_none (length s) (end_from s c.args.from) (omega arith)
 
 pub returns-then-s-j-eq39 : goal.returns-then-s-j-eq39
 returns-then-s-j-eq39 c =
-    sym (end_quote (list (goal.at.returns-then-s-j-eq39 c).After-common_end-j) c.common_end-j.result c.if-s-j.false c.if-s-j-eq39.true) ∙ on (goal.at.returns-then-s-j-eq39 c).After-common_end-j
+    let s = c.args.s.now in
+    let e = sym (end_quote s c.common_end-j.result c.if-s-j.false c.if-s-j-eq39.true) ∙ on (goal.at.returns-then-s-j-eq39 c).After-common_end-j in
+    told_some (length s) c.common_end-j.result c.if-s-j.false ∙ ap (told_of (length s)) e
 
-pub past_byte-i-requires : goal.past_byte-i-requires
-past_byte-i-requires c = (c.if-s-j.false, c.if-s-j-eq39.false)
-
-pub loop-i-smaller : goal.loop-i-smaller
-loop-i-smaller c =
-    let p = c.common_end-j.ensures.0 in
-    let q = c.past_byte-i.ensures.0 in
-    omega arith
-
-pub loop-i-preserved : goal.loop-i-preserved
-loop-i-preserved c = c.past_byte-i.ensures.1 ∙ on (goal.at.loop-i-preserved c).After-common_end-j
+pub returns-in_err-i : goal.returns-in_err-i
+returns-in_err-i c =
+    let s = c.args.s.now in
+    let e = on (goal.at.returns-in_err-i c).After-common_end-j in
+    let p : end_from s c.common_end-j.result ≡ length s = c.in_err-i.ensures in
+    c.from_residual.ensures ∙ told_none (length s) (end_from s c.args.from) (omega arith)
 
 pub returns : goal.returns
-returns c = sym (end_past c.args.s.now c.loop-i.i c.loop-i-test.false) ∙ c.loop-i.invariant
+returns c =
+    let s = c.args.s.now in
+    let e = c.loop-i.invariant in
+    let p = end_past s c.loop-i.i c.loop-i-test.false in
+    told_none (length s) (end_from s c.args.from) (omega arith)

@@ -1,13 +1,10 @@
 -- `marks_in` meets its contract.
 -- Assumes nothing.
 use mathlib.Core.Path.{◌≡◌}
-use Prim.Native.Nat.{◌+◌, ◌-◌, ◌≤◌}
+use Prim.Native.Nat.{◌+◌, ◌≤◌}
 use lib.ListN.{length, drop}
 use Rattle.syntax.specs.Few.{marks_in}
 use Rattle.syntax.proofs.marks.marks_in.Given as goal
 
-abbrev pub invariant-loop-i : goal.invariant-loop-i
-invariant-loop-i l = (l.marks ≤ l.i) × (l.i ≤ length l.p) × (l.marks + marks_in (drop l.i l.p) ≡ marks_in l.p) × (length l.p ≤ 128)
-
-abbrev pub decreases-loop-i : goal.decreases-loop-i
-decreases-loop-i l = length l.p - l.i
+abbrev pub invariant-loop-b : goal.invariant-loop-b
+invariant-loop-b l = (l.marks ≤ l.b-index) × (l.marks + marks_in (drop l.b-index l.p) ≡ marks_in l.p) × (length l.p ≤ 128)

@@ -7,9 +7,9 @@ use borrow.Author.Tests.{eqb-true, leb-true}
 use lib.Dec.{eqb, leb}
 use lib.ListN.{length, get_or}
 use Rattle.laws.specs.Choice.{both_parts}
-use Rattle.syntax.specs.Found.{end_from, end_quote}
-use Rattle.syntax.specs.Ran.{stops_known, left_known}
-use Rattle.syntax.specs.Quick.{quick_past, quick_short, told_ends, told_unsure, quick_told}
+use Rattle.syntax.specs.Found.{end_from, end_quote, told_some, told_none}
+use Rattle.syntax.specs.Ran.{stops_known}
+use Rattle.syntax.specs.Quick.{quick_past, quick_short, quick_told}
 use Rattle.syntax.proofs.segment.quick_end.Goals.{In-Stops}
 use Rattle.syntax.proofs.segment.quick_end.Goals as goal
 
@@ -17,13 +17,13 @@ pub returns-then-s-lt4 : goal.returns-then-s-lt4
 returns-then-s-lt4 c =
     let a = c.args in
     let s = a.s.now in
-    told_unsure (length s) (length s) (omega arith) ∙ quick_told s a.at (length s) (quick_past s a.at (omega arith))
+    told_none (length s) (length s) (omega arith) ∙ quick_told s a.at (length s) (quick_past s a.at (omega arith))
 
 pub returns-then-s-at : goal.returns-then-s-at
 returns-then-s-at c =
     let a = c.args in
     let s = a.s.now in
-    told_unsure (length s) (length s) (omega arith) ∙ quick_told s a.at (length s) (quick_past s a.at (omega arith))
+    told_none (length s) (length s) (omega arith) ∙ quick_told s a.at (length s) (quick_past s a.at (omega arith))
 
 -- the run stopped at a byte
 module _ (e : In-Stops) where
@@ -33,34 +33,8 @@ module _ (e : In-Stops) where
   here : get_or e.args.s.now e.in-Stops.j 0 ≡ 39 → e.in-Stops.j ≡ end_from e.args.s.now (e.args.at + 4)
   here q = sym (end_quote e.args.s.now e.in-Stops.j stopped.1 q) ∙ stopped.2
 
-pub bounds-s-j : goal.bounds-s-j
-bounds-s-j c = (stopped (goal.at.bounds-s-j c).In-Stops).1
-
-pub overflow_sub-j : goal.overflow_sub-j
-overflow_sub-j c = let h = (stopped (goal.at.overflow_sub-j c).In-Stops).0 in omega arith
-
 pub returns-then-closes : goal.returns-then-closes
 returns-then-closes c =
     let k = both_parts (eqb (get_or c.args.s.now c.in-Stops.j 0) 39) (leb (c.in-Stops.j - c.args.at) 34) (sym c.closes.ensures ∙ c.if-closes.true) in
-    told_ends (length c.args.s.now) c.in-Stops.j (stopped (goal.at.returns-then-closes c).In-Stops).1
+    told_some (length c.args.s.now) c.in-Stops.j (stopped (goal.at.returns-then-closes c).In-Stops).1
     ∙ quick_told c.args.s.now c.args.at c.in-Stops.j (quick_short c.args.s.now c.args.at c.in-Stops.j (here (goal.at.returns-then-closes c).In-Stops (eqb-true _ 39 k.0)) (leb-true _ 34 k.1))
-
-pub small_end-requires : goal.small_end-requires
-small_end-requires c =
-    let q = stopped (goal.at.small_end-requires c).In-Stops in
-    (omega (arith, q.0, q.1), q.2, omega (arith, q.0))
-
-pub small_end-requires-in-Left : goal.small_end-requires-in-Left
-small_end-requires-in-Left c =
-    let a = c.args in
-    let k = left_known a.s.now (a.at + 4) c.run_end.ensures c.in-Left.is in
-    (omega arith, k.1, omega (arith, k.0))
-
-pub returns-else-closes : goal.returns-else-closes
-returns-else-closes c =
-    c.told.ensures ∙ quick_told c.args.s.now c.args.at c.small_end.result c.small_end.ensures
-
-pub returns-in-Left : goal.returns-in-Left
-returns-in-Left c =
-    let a = c.args in
-    c.told-in-Left.ensures ∙ quick_told a.s.now a.at c.small_end-in-Left.result c.small_end-in-Left.ensures

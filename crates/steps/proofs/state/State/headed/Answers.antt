@@ -2,4 +2,4 @@ use borrow.Author.Rules.{rules}
 use Rattle.steps.proofs.state.State.headed.Goals as goal
 
 pub returns : goal.returns
-returns c = rw c.start-start.ensures
+returns c = rw c.start.ensures
