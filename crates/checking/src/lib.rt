@@ -31,6 +31,7 @@ fn is_room(room: &[u8]) -> bool
     let mut high = 0;
     let mut low = 0;
     let mut at = 0;
+    // The index moves by a slot, as far as its number rises; what is left of the room then is looked at from there.
     while at < room.len() {
         let next = at + SLOT;
         let next_high = words::high(&room[at..next]);
@@ -54,8 +55,7 @@ fn are_rooms(b: &[u8]) -> bool
     ensures { result ≡ rooms_fit (numbers_in 8 (drop 2 b.now)) (drop 18 b.now) }
 {
     let mut at = HEAD;
-    let mut k = 0;
-    while k < 8 {
+    for k in 0..8 {
         let room = number_at(b, 2 + k * 2) * SLOT;
         if b.len() - at < room {
             return false;
@@ -65,7 +65,6 @@ fn are_rooms(b: &[u8]) -> bool
             return false;
         }
         at = end;
-        k += 1;
     }
     gaps::is_zero(&b[at..LENGTH])
 }

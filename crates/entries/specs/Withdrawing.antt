@@ -1,13 +1,12 @@
 -- The laws of a withdrawal for the code.
 -- Assumes nothing.
-use Rattle.std.specs.Prelude.{◌≡◌, Bool, true, false, List, ◌++◌, ℕ, zero, suc, ◌+◌, ◌-◌, ◌*◌, ◌/◌, ◌≤◌, ◌<◌, length, get_or, drop, replicate, Result, Ok, Err}
+use Rattle.std.specs.Prelude.{◌≡◌, true, false, List, ◌++◌, ℕ, zero, suc, ◌+◌, ◌-◌, ◌*◌, ◌/◌, ◌≤◌, ◌<◌, length, get_or, drop, replicate, Result, Ok, Err}
 use Rattle.std.proofs.Math.Path.{sym}
 use Rattle.std.proofs.Common.{◌∙◌, ap, subst, arith}
 use Rattle.std.proofs.Math.Nat.{sub-zero, zero-sub}
 use borrow.Author.Tests.{eq-eqb, ne_eqb, le-leb, lt-leb}
 use Rattle.std.proofs.Math.ListN.{length-replicate}
 use Rattle.laws.specs.Choice.{all}
-use Rattle.laws.specs.Lists.{drop_here, drop_past}
 use Rattle.laws.specs.Put.{put_at, put_room, put_front}
 use Rattle.laws.specs.Filled.{filled_up}
 use Rattle.gaps.specs.Move.{closed_in, closed_fits}
@@ -16,17 +15,7 @@ use Rattle.syntax.specs.Bytes.{permitted_of}
 use Rattle.contents.specs.Contents.{good_number}
 use Rattle.entries.specs.Withdraw.{slot_found, withdraws_at, left_at, withdraws, withdrawn_room}
 
--- ---- for `all_permitted`, at an index, and `is_number`
-
-module _ (x : List ℕ) (i : ℕ) where
-  pub permitted_not : (b : Bool) → b ≡ permitted_of (get_or x i 0) → i < length x → b ≡ false → false ≡ all permitted_of (drop i x)
-  permitted_not b q h e = sym (rw (drop_here x i h, ← q, e))
-
-  pub permitted_on : (b : Bool) → b ≡ permitted_of (get_or x i 0) → i < length x → b ≡ true → all permitted_of (drop (i + 1) x) ≡ all permitted_of (drop i x)
-  permitted_on b q h e = sym (rw (drop_here x i h, ← q, e))
-
-  pub permitted_end : length x ≤ i → true ≡ all permitted_of (drop i x)
-  permitted_end h = sym (rw (drop_past x i h))
+-- ---- for `is_number`
 
 module _ (x : List ℕ) where
   pub number_none : length x < 1 → false ≡ good_number x

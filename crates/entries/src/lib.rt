@@ -91,21 +91,19 @@ fn settle_front(room: &mut [u8]) -> Front
     ensures { SoFar room.old room.new result.slots (result.slots * 140) result.pending }
 {
     let n = room.len() / SLOT;
-    let mut k = 0;
     let mut count = 0;
-    while k < n {
-        if room[k * SLOT] == 0 {
-            break;
-        }
-        if 1 < room[k * SLOT + PENDING] {
-            break;
+    for k in 0..n {
+        if room[k * SLOT] == 0 || 1 < room[k * SLOT + PENDING] {
+            return Front {
+                slots: k,
+                pending: count,
+            };
         }
         count += pending_at(room, k * SLOT);
         make_live(room, k * SLOT);
-        k += 1;
     }
     Front {
-        slots: k,
+        slots: n,
         pending: count,
     }
 }
@@ -117,16 +115,14 @@ pub fn release_room(room: &mut [u8]) -> usize
 {
     let front = settle_front(room);
     let n = room.len() / SLOT;
-    let mut k = front.slots;
     let mut to = front.slots * SLOT;
     let mut count = front.pending;
-    while k < n {
+    for k in front.slots..n {
         if room[k * SLOT] == 0 {
             break;
         }
         count += pending_at(room, k * SLOT);
         to = settle(room, k * SLOT, to);
-        k += 1;
     }
     gaps::clear_from(room, to);
     count
@@ -135,14 +131,7 @@ pub fn release_room(room: &mut [u8]) -> usize
 fn all_permitted(text: &[u8]) -> bool
     ensures { result ≡ all permitted_of text.now }
 {
-    let mut i = 0;
-    while i < text.len() {
-        if !syntax::bytes::permitted(text[i]) {
-            return false;
-        }
-        i += 1;
-    }
-    true
+    text.iter().all(|&byte| syntax::bytes::permitted(byte))
 }
 
 // Whether a text is a service number: 1 to 10 permitted characters.

@@ -1,6 +1,6 @@
 -- The laws of opening for the code.
 -- Assumes nothing.
-use Rattle.std.specs.Prelude.{◌≡◌, refl, true, false, get_or, drop}
+use Rattle.std.specs.Prelude.{◌≡◌, refl, true, false, get_or, sum}
 use Rattle.std.proofs.Math.Path.{sym, ap}
 use Rattle.std.proofs.Common.{◌∙◌, add-one, take_all}
 use mathlib.Core.List.{List, [], ◌∷◌, ◌++◌, map, map-append}
@@ -10,7 +10,7 @@ use borrow.Author.Tests.{eq-eqb, ne_eqb, le-leb, lt-leb}
 use Rattle.std.proofs.Math.ListN.{length, take, replicate}
 use Rattle.std.proofs.lemmas.List.{replicate-append-replicate}
 use Rattle.std.proofs.Math.Seq.{take-suc, length-take-le}
-use Rattle.laws.specs.Lists.{drop_here, drop_past}
+use Rattle.std.proofs.lemmas.List.Sums.{sum_by-cons}
 use Rattle.laws.specs.Joined.{joined, total, joined_append}
 use Rattle.answers.specs.Answers.{done, not_register, bad_opening}
 use Rattle.dates.specs.Dates.{valid, number}
@@ -22,20 +22,12 @@ use Rattle.contents.specs.Written.{two_bytes, head_of, room_bytes, rooms_bytes, 
 use Rattle.contents.specs.Calls.{opened, may_open, open_answer, open_bytes}
 use Rattle.rooms.specs.Registers.{length_numbers}
 
--- ---- for `total_of`, at an index
+-- ---- for `total_of`
 
-module _ (qs : List ℕ) (k sum : ℕ) where
-  pub total_turn : k < length qs → (n : ℕ) → n ≡ get_or qs k 0 → sum + total (drop k qs) ≡ total qs → sum + n + total (drop (k + 1) qs) ≡ total qs
-  unfolding total
-  total_turn h n e v =
-      let w : sum + (get_or qs k 0 + total (drop (k + 1) qs)) ≡ total qs = (rw (drop_here qs k h) at v) in
-      omega arith
-
-  pub total_end : length qs ≤ k → sum + total (drop k qs) ≡ total qs → sum ≡ total qs
-  unfolding total
-  total_end h v =
-      let w : sum + 0 ≡ total qs = (rw (drop_past qs k h) at v) in
-      omega arith
+pub sum_is : (qs : List ℕ) → sum qs ≡ total qs
+unfolding total
+sum_is [] = refl
+sum_is (q ∷ qs) = sum_by-cons (λ x. x) q qs ∙ ap (λ n. q + n) (sum_is qs)
 
 -- ---- for `put_quotas`
 

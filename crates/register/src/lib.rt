@@ -85,13 +85,7 @@ fn total_of(quotas: &[u32]) -> usize
     requires { length quotas.now ≤ 8 }
     ensures { result ≡ total quotas.now }
 {
-    let mut sum = 0;
-    let mut k = 0;
-    while k < quotas.len() {
-        sum += wide(quotas[k]);
-        k += 1;
-    }
-    sum
+    quotas.iter().map(|&quota| wide(quota)).sum()
 }
 
 // A number in two bytes, the lower first.
@@ -108,10 +102,8 @@ fn put_quotas(b: &mut [u8], quotas: &[u32])
     requires { (2 + length quotas.now * 2 ≤ length b.old) × (total quotas.now ≤ 256) }
     ensures { b.new ≡ put_at b.old 2 (joined (map two_bytes quotas.now)) }
 {
-    let mut k = 0;
-    while k < quotas.len() {
-        put_number(b, 2 + k * 2, wide(quotas[k]));
-        k += 1;
+    for (k, &quota) in quotas.iter().enumerate() {
+        put_number(b, 2 + k * 2, wide(quota));
     }
 }
 

@@ -36,13 +36,11 @@ pub fn room_end(b: &[u8], account: usize) -> usize
     ensures { result ≡ room_end b.now account }
 {
     let mut at = HEAD;
-    let mut k = 0;
-    while k < ACCOUNTS {
+    for k in 0..ACCOUNTS {
         if account <= k {
             return at;
         }
         at += number_at(b, 2 + k * 2) * SLOT;
-        k += 1;
     }
     at
 }

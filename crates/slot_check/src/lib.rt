@@ -18,14 +18,12 @@ const NUMBER: usize = 10;
 fn permitted_run(x: &[u8]) -> usize
     ensures { result ≡ permitted_run x.now }
 {
-    let mut i = 0;
-    while i < x.len() {
-        if !syntax::bytes::permitted(x[i]) {
+    for (i, &b) in x.iter().enumerate() {
+        if !syntax::bytes::permitted(b) {
             return i;
         }
-        i += 1;
     }
-    i
+    x.len()
 }
 
 // Whether a slot's number is one, filled up with zeros: byte by byte.
@@ -56,6 +54,7 @@ fn is_number(slot: &[u8]) -> bool
     if left == 0 {
         return false;
     }
+    // The bytes are shifted out of a word: there is no index, and the loop ends once all that are left are 0.
     while left != 0 {
         if left >> 60 != 3 {
             if !syntax::bytes::permitted((left >> 56) as u8) {

@@ -55,6 +55,7 @@ fn find_words(room: &[u8], number: &[u8], high: usize, low: usize) -> Result<usi
 {
     let mut lo = 0;
     let mut hi = room.len() / SLOT;
+    // The slot in the middle tells which end moves, and how far: there is no index to step.
     while lo < hi {
         let mid = lo + (hi - lo) / 2;
         match number_order(room, mid * SLOT, number, high, low) {
@@ -91,14 +92,12 @@ pub fn used(room: &[u8]) -> usize
     ensures { result ≡ leading (slots_of room.now) }
 {
     let n = room.len() / SLOT;
-    let mut k = 0;
-    while k < n {
+    for k in 0..n {
         if room[k * SLOT] == 0 {
             return k;
         }
-        k += 1;
     }
-    k
+    n
 }
 
 // Whether the number of the slot at an index comes before that of the next slot.
@@ -117,12 +116,10 @@ pub fn is_rising(room: &[u8]) -> bool
     ensures { result ≡ rising (slots_of room.now) }
 {
     let n = room.len() / SLOT;
-    let mut k = 0;
-    while k + 1 < n {
-        if !rises_at(room, k * SLOT) {
+    for k in 1..n {
+        if !rises_at(room, (k - 1) * SLOT) {
             return false;
         }
-        k += 1;
     }
     true
 }

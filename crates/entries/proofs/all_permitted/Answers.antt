@@ -1,14 +1,18 @@
--- `entries::all_permitted` meets its contract. Invariant: the rest is permitted exactly when all is.
+-- `entries::all_permitted` meets its contract.
 -- Assumes nothing.
-use mathlib.Core.Path.{◌∙◌}
-use Rattle.entries.specs.Withdrawing.{permitted_not, permitted_on, permitted_end}
+use Rattle.std.proofs.Common.{◌≡◌, refl, ap, ◌∙◌, ℕ, List, [], ◌∷◌, rules}
+use Rattle.std.specs.List.{list_all}
+use Rattle.std.proofs.lemmas.Iterator.{YieldsList-from_slice}
+use Rattle.std.proofs.lemmas.Iterator.Search.{all_from_yields_List}
+use Rattle.laws.specs.Choice.{all, both}
+use Rattle.syntax.specs.Bytes.{permitted_of}
 use Rattle.entries.proofs.all_permitted.Goals as goal
 
-pub returns-then-not-permitted : goal.returns-then-not-permitted
-returns-then-not-permitted c = permitted_not c.args.text.now c.loop-i.i c.permitted.result c.permitted.ensures c.loop-i-test.true (c.if-not-permitted.true) ∙ c.loop-i.invariant
-
-pub loop-i-preserved : goal.loop-i-preserved
-loop-i-preserved c = permitted_on c.args.text.now c.loop-i.i c.permitted.result c.permitted.ensures c.loop-i-test.true (c.if-not-permitted.false) ∙ c.loop-i.invariant
+all_is : (l : List ℕ) → list_all permitted_of l ≡ all permitted_of l
+all_is [] = refl
+all_is (x ∷ l) = ap (both (permitted_of x)) (all_is l)
 
 pub returns : goal.returns
-returns c = permitted_end c.args.text.now c.loop-i.i c.loop-i-test.false ∙ c.loop-i.invariant
+returns c =
+    all_from_yields_List permitted_of _ _ _ c.all.ensures.ran (YieldsList-from_slice c.args.text.now c.iter.ensures.rest) (λ x b q k. search rules)
+    ∙ all_is c.args.text.now

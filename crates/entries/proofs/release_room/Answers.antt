@@ -19,14 +19,8 @@ overflow_mul-to c =
     let w = used_within room (leading (slots_of room)) refl in
     omega arith
 
-pub loop-k-init : goal.loop-k-init
-loop-k-init c = let v = c.settle_front-front.ensures in (refl, v.2, v.3, λ s u. u)
-
 pub overflow_add-count : goal.overflow_add-count
 overflow_add-count c = let o = one_le (take 140 (drop (c.loop-k.k * 140) c.loop-k.room)) in omega arith
-
-pub settle-to-requires : goal.settle-to-requires
-settle-to-requires c = (omega arith, omega arith)
 
 pub loop-k-preserved : goal.loop-k-preserved
 loop-k-preserved c =

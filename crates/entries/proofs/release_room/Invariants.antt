@@ -2,7 +2,7 @@
 -- Assumes nothing.
 use mathlib.Core.Path.{◌≡◌}
 use mathlib.Core.List.{List}
-use Prim.Native.Nat.{ℕ, ◌-◌, ◌*◌, ◌≤◌}
+use Prim.Native.Nat.{ℕ, ◌*◌, ◌≤◌}
 use lib.ListN.{length}
 use Rattle.entries.specs.Released.{SoFar}
 use Rattle.entries.proofs.release_room.Given as goal
@@ -13,6 +13,3 @@ invariant-loop-k l =
     × (l.to ≤ l.k * 140)
     × (l.count ≤ l.k)
     × ((s : List ℕ) → SoFar s l.initial.room l.initial.k l.initial.to l.initial.count → SoFar s l.room l.k l.to l.count)
-
-abbrev pub decreases-loop-k : goal.decreases-loop-k
-decreases-loop-k l = l.n - l.k

@@ -1,16 +1,15 @@
--- `register::total_of` meets its contract. Invariant: the sum and what is left of the quotas make up the total.
+-- `register::total_of` meets its contract.
 -- Assumes nothing.
-use native.Mathlib.Nat.{zero-add}
-use native.Mathlib.Omega.{arith}
-use Rattle.laws.specs.Joined.{total}
-use Rattle.register.specs.Opening.{total_turn, total_end}
+use Rattle.std.proofs.Common.{ap, ◌∙◌, rules}
+use Rattle.std.specs.Slice.Iter.{iter_rest}
+use Rattle.std.proofs.lemmas.Iterator.{YieldsList-from_slice, YieldsList-from_map}
+use Rattle.std.proofs.lemmas.Iterator.Consumers.{sum_by_from_yields_List}
+use Rattle.register.specs.Opening.{sum_is}
 use Rattle.register.proofs.total_of.Goals as goal
 
-pub loop-k-init : goal.loop-k-init
-loop-k-init c = (omega arith, omega arith, zero-add (total c.args.quotas.now))
-
-pub loop-k-preserved : goal.loop-k-preserved
-loop-k-preserved c = (omega arith, omega arith, total_turn c.args.quotas.now c.loop-k.k c.loop-k.sum c.loop-k-test.true c.wide-sum.result c.wide-sum.ensures.0 c.loop-k.invariant.2)
-
 pub returns : goal.returns
-returns c = total_end c.args.quotas.now c.loop-k.k c.loop-k.sum c.loop-k-test.false c.loop-k.invariant.2
+returns c =
+    let q = c.args.quotas.now in
+    let source = YieldsList-from_slice q (ap iter_rest c.map.ensures.source ∙ c.iter.ensures.rest) in
+    sum_by_from_yields_List (λ x. x) q _ c.sum.result c.sum.ensures.ran (YieldsList-from_map _ (λ x. x) source c.map.ensures.closure (λ x r f k. search rules))
+    ∙ sum_is q

@@ -1,12 +1,9 @@
 -- `slots::used` meets its contract. Invariant: those passed and those that still lead are all that lead.
 -- Assumes nothing.
-use Rattle.std.proofs.Common.{◌≡◌, ◌+◌, ◌-◌, ◌/◌, ◌≤◌, length, drop}
+use Rattle.std.proofs.Common.{◌≡◌, ◌+◌, drop}
 use Rattle.slots.specs.Slots.{slots_of}
 use Rattle.slots.specs.Rising.{leading}
 use Rattle.slots.proofs.used.Given as goal
 
 abbrev pub invariant-loop-k : goal.invariant-loop-k
-invariant-loop-k l = (l.k ≤ length l.room / 140) × (l.k + leading (drop l.k (slots_of l.room)) ≡ leading (slots_of l.room))
-
-abbrev pub decreases-loop-k : goal.decreases-loop-k
-decreases-loop-k l = l.n - l.k
+invariant-loop-k l = l.k + leading (drop l.k (slots_of l.room)) ≡ leading (slots_of l.room)
