@@ -17,7 +17,8 @@ use Rattle.services.specs.declared.Service.{Service}
 use Rattle.parts.specs.Segments.{segment_body}
 use Rattle.services.specs.Rows.{offset_at, row_count, first_from}
 use Rattle.services.specs.Search.{list_none, list_some}
-use Rattle.services.specs.Walks.{First, first_is}
+use Rattle.services.specs.Walks.{First}
+use Rattle.services.proofs.Walks.{first_is}
 use Rattle.services.specs.Services.{is_period_row, services_from, services_of, periods_from, periods_of, has_period, number_fits, periods_fit, is_wrong, is_twice, tested_of}
 use Rattle.service_tests.specs.declared.Totals.{Totals}
 use Rattle.service_entries.specs.declared.Known.{Known}

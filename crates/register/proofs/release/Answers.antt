@@ -4,7 +4,8 @@ use Rattle.std.proofs.Common.{◌≡◌, Err, rules}
 use Rattle.contents.specs.Calls.{release_of}
 use Rattle.register.specs.Register.{released_answer}
 use Rattle.register.specs.Laws.{release_answer, release_bytes}
-use Rattle.register.specs.Room.{Room, NoRoom, answer_refused, bytes_refused}
+use Rattle.register.specs.Room.{Room, NoRoom}
+use Rattle.register.proofs.Rooms.{answer_refused, bytes_refused}
 use Rattle.register.proofs.release.Goals as goal
 
 pub returns-in_err-from-clause-told : goal.returns-in_err-from-clause-told

@@ -1,7 +1,7 @@
 -- `register::room` meets its contract.
 -- Assumes nothing.
 use Rattle.std.proofs.Common.{sym, ◌∙◌}
-use Rattle.register.specs.Room.{room_is}
+use Rattle.register.proofs.Rooms.{room_is}
 use Rattle.register.proofs.room.Goals as goal
 
 pub returns-clause-ok : goal.returns-clause-ok

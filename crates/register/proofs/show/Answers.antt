@@ -6,7 +6,8 @@ use Rattle.contents.specs.Calls.{show_answer, show_bytes}
 use Rattle.shown.specs.Shown.{lines_answer}
 use Rattle.register.specs.Register.{record_answer}
 use Rattle.register.specs.Laws.{show_answer_lem, show_output}
-use Rattle.register.specs.Room.{Room, NoRoom, answer_refused, output_refused}
+use Rattle.register.specs.Room.{Room, NoRoom}
+use Rattle.register.proofs.Rooms.{answer_refused, output_refused}
 use Rattle.register.proofs.show.Goals as goal
 
 pub returns-in_err-from-clause-told : goal.returns-in_err-from-clause-told

@@ -5,7 +5,8 @@ use Rattle.register.specs.declared.WithdrawError.TheVariants as withdrawal
 use Rattle.contents.specs.Calls.{withdraw_of}
 use Rattle.register.specs.Register.{withdrawn_answer}
 use Rattle.register.specs.Laws.{withdraw_done, withdraw_none, withdraw_bytes}
-use Rattle.register.specs.Room.{Room, NoRoom, answer_refused, bytes_refused}
+use Rattle.register.specs.Room.{Room, NoRoom}
+use Rattle.register.proofs.Rooms.{answer_refused, bytes_refused}
 use Rattle.register.proofs.withdraw.Goals as goal
 
 pub returns-in_err-from-clause-told : goal.returns-in_err-from-clause-told

@@ -7,7 +7,8 @@ use Rattle.std.proofs.lemmas.Result.{err_from_is_err_and}
 use Rattle.answers.specs.Answers.{refused}
 use Rattle.services.specs.Services.{count_on, tested_answer, counted_answer}
 use Rattle.services.specs.Ways.{count_start, count_none, count_good, count_stop}
-use Rattle.services.specs.Walks.{services_left, services_few}
+use Rattle.services.specs.Walks.{services_left}
+use Rattle.services.proofs.Walks.{services_few}
 use Rattle.services.proofs.test_services.Goals as goal
 
 pub loop-service-init : goal.loop-service-init

@@ -3,7 +3,7 @@
 use mathlib.Core.Path.{sym, ap, ◌∙◌}
 use Rattle.std.proofs.Common.{rules, length, arith}
 use Rattle.services.specs.Ways.{period_found}
-use Rattle.services.specs.Walks.{period_first, period_last}
+use Rattle.services.proofs.Walks.{period_first, period_last}
 use Rattle.services.proofs.PeriodsIterator.next.Goals as goal
 
 pub returns-in_err-pop-clause-steps : goal.returns-in_err-pop-clause-steps

@@ -2,7 +2,7 @@
 -- Assumes nothing.
 use mathlib.Core.Path.{sym, ap, ◌∙◌}
 use Rattle.std.proofs.Common.{rules, length, arith}
-use Rattle.services.specs.Walks.{service_first, service_none}
+use Rattle.services.proofs.Walks.{service_first, service_none}
 use Rattle.services.proofs.ServicesIterator.next.Goals as goal
 
 pub returns-in_err-service-clause-steps : goal.returns-in_err-service-clause-steps
