@@ -68,7 +68,7 @@ pub extern "C" fn drumcallisto_stage(
     staged(staging::stage(b, account, interchange, wish))
 }
 
-// A register, but no account of it, or no register.
+// The reply of a call that finds no register, or no such account in it.
 #[tactic(auto, unfolding(register::specs::Register::account_answer))]
 fn no_account(reason: AccountError) -> Reply
     ensures { result ≡ reply_of (account_answer reason) }

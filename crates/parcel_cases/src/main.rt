@@ -111,7 +111,8 @@ struct Course {
     named: Option<usize>,
 }
 
-// A refusal that no reading names: what the last call tells is not what the parcels told.
+// A refusal that no reading names: the last call tells of another fault than the parcels did (0), accepts where they named one (1), or
+// counts other rows than they brought (2).
 fn differing(position: usize) -> Refusal {
     Refusal {
         number: 255,
