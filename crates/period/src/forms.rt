@@ -6,7 +6,7 @@ ghost use Rattle.parts.specs.Places.{present};
 ghost use Rattle.period.specs.Period.{day_string, fits_days, rising_days, formed_of};
 
 use crate::{Fault, Form};
-use values::{characters, plain_length};
+use values::characters;
 
 // Whether a part says anything.
 fn is_present(part: &[u8]) -> bool
@@ -16,11 +16,18 @@ fn is_present(part: &[u8]) -> bool
 }
 
 // Whether a part is of `0` and `1` alone, at most one for each of n days.
-#[tactic(auto, unfolding(crate::specs::Period::day_string))]
 fn is_day_string(part: &[u8], n: usize) -> bool
     ensures { result ≡ day_string n (plain part.now) }
 {
-    plain_length(part) <= n && characters(part).all(|b| b == b'0' || b == b'1')
+    // One walk, which stops at the first character that is wrong or one too many.
+    let mut left = n;
+    for b in characters(part) {
+        if left == 0 || b < b'0' || b'1' < b {
+            return false;
+        }
+        left -= 1;
+    }
+    true
 }
 
 // A day string that is absent is right too.

@@ -1,19 +1,26 @@
-use Rattle.std.proofs.Common.{◌≡◌, refl, ap, ◌∙◌, ℕ, List, [], ◌∷◌, rules, le-leb, length, arith}
-use Rattle.std.specs.List.{list_all}
-use Rattle.std.proofs.lemmas.Iterator.Search.{all_from_yields_List}
-use Rattle.laws.specs.Choice.{all, both}
+-- `is_day_string` meets its contract: a character that is next is the first of what is left.
+-- Assumes nothing.
+use Rattle.std.proofs.Common.{◌∙◌}
 use Rattle.syntax.specs.Bytes.{plain}
-use Rattle.values.proofs.Yields.{characters_yield}
-use Rattle.period.specs.Period.{day_string, zero_or_one}
+use Rattle.period.specs.Steps.{string_longer, string_below, string_above, string_goes, string_ends}
+use Rattle.period.proofs.forms.is_day_string.Goals.{then-left-eq0-via-then-left-eq0, then-left-eq0-via-else-left-eq0+then-b-lt48, then-left-eq0-via-else-left-eq0+else-b-lt48+then-b-gt49}
 use Rattle.period.proofs.forms.is_day_string.Goals as goal
 
-all_is : (l : List ℕ) → list_all zero_or_one l ≡ all zero_or_one l
-all_is [] = refl
-all_is (x ∷ l) = ap (both (zero_or_one x)) (all_is l)
+pub returns-then-left-eq0 : goal.returns-then-left-eq0
+returns-then-left-eq0 c =
+    elim c.then-left-eq0.branch [
+      | then-left-eq0-via-then-left-eq0 w ↦
+          string_longer (plain c.loop-b.b-iterator.rest.now) (plain c.next.new.self.rest.now) c.in-Some.b c.in-Some.ensures.steps c.loop-b.left w.if-left-eq0.true ∙ c.loop-b.invariant
+      | then-left-eq0-via-else-left-eq0+then-b-lt48 w ↦
+          string_below (plain c.loop-b.b-iterator.rest.now) (plain c.next.new.self.rest.now) c.in-Some.b c.in-Some.ensures.steps c.loop-b.left w.if-b-lt48.true ∙ c.loop-b.invariant
+      | then-left-eq0-via-else-left-eq0+else-b-lt48+then-b-gt49 w ↦
+          string_above (plain c.loop-b.b-iterator.rest.now) (plain c.next.new.self.rest.now) c.in-Some.b c.in-Some.ensures.steps c.loop-b.left w.if-b-gt49.true ∙ c.loop-b.invariant
+    ]
 
-pub returns-then-plain_length-n : goal.returns-then-plain_length-n
-unfolding day_string
-returns-then-plain_length-n c =
-    rw (le-leb (length (plain c.args.part.now)) c.args.n (let e = c.plain_length.ensures in omega arith))
-    (all_from_yields_List zero_or_one c.all.new.self _ c.all.result c.all.ensures.ran (characters_yield c.characters.ensures) (λ x b q k. search rules)
-    ∙ all_is (plain c.args.part.now))
+pub loop-b-preserved : goal.loop-b-preserved
+loop-b-preserved c =
+    string_goes (plain c.loop-b.b-iterator.rest.now) (plain c.next.new.self.rest.now) c.in-Some.b c.in-Some.ensures.steps c.loop-b.left c.if-left-eq0.false c.if-b-lt48.false c.if-b-gt49.false ∙ c.loop-b.invariant
+
+pub returns : goal.returns
+returns c =
+    string_ends (plain c.loop-b.b-iterator.rest.now) c.in-None.ensures.steps.0 c.loop-b.left ∙ c.loop-b.invariant
