@@ -2,10 +2,11 @@
 -- Assumes nothing.
 use Rattle.std.specs.Prelude.{◌≡◌, true, false, ℕ, ◌+◌, ◌-◌, ◌<◌, ◌≤◌, Option, Some, None}
 use Rattle.std.proofs.Common.{sym, ap, ◌∙◌, arith, lt-ltb, le-ltb}
+use Rattle.std.proofs.Math.Decide.{dec_lt}
 use Rattle.dates.specs.Days.{leap_year, month_length, is_date, month_days, year_days, day_number}
 use Rattle.dates.specs.Dates.{date, made_of, date_of, dated}
 use Rattle.dates.specs.Facts.{facts_date}
-use Rattle.dates.specs.Laws.{month_more, year_more, same_number, numbered}
+use Rattle.dates.specs.Laws.{month_more, year_more, all_days, same_number, numbered}
 use Rattle.dates.specs.declared.Date.{Date}
 
 -- day n stands in the year y, after d days of it
@@ -31,12 +32,32 @@ unfolding month_days month_length
 year_leap y e = rw e
 
 -- one whole year more
-pub next_year : (y d n : ℕ) {r : ℕ} → 1990 ≤ y → year_days (y - 1990) + d ≡ n → r ≡ month_days y 12 → r ≤ d → year_days (y + 1 - 1990) + (d - r) ≡ n
-next_year y d n f e g m = let s : y + 1 - 1990 ≡ y - 1990 + 1 = omega arith in rw s (omega (arith, year_more y f))
+pub next_year : (y d n : ℕ) {r : ℕ} → n < 40177 → 1990 ≤ y → y ≤ 2099 → year_days (y - 1990) + d ≡ n → r ≡ month_days y 12 → r ≤ d
+    → (1990 ≤ y + 1) × (y + 1 ≤ 2099) × (year_days (y + 1 - 1990) + (d - r) ≡ n)
+next_year y d n h f l e g m =
+    let s : y + 1 - 1990 ≡ y - 1990 + 1 = omega arith in
+    let t = year_more y f in
+    elim (dec_lt y 2099) [
+      | yes u ↦ (omega arith, omega arith, rw s (omega arith))
+      | no u ↦
+          let q : y - 1990 + 1 ≡ 110 = omega arith in
+          let r : year_days (y - 1990 + 1) ≡ 40177 = ap year_days q ∙ all_days in
+          absurd (omega arith)
+    ]
 
 -- one whole month more
-pub next_month : (y m e d : ℕ) {r : ℕ} → 1 ≤ m → month_days y (m - 1) + e ≡ d → r ≡ month_length y m → r ≤ e → month_days y (m + 1 - 1) + (e - r) ≡ d
-next_month y m e d f c g k = let s : m + 1 - 1 ≡ m = omega arith in rw s (omega (arith, month_more y m f))
+pub next_month : (y m e d : ℕ) {r : ℕ} → d < month_days y 12 → 1 ≤ m → m ≤ 12 → month_days y (m - 1) + e ≡ d → r ≡ month_length y m → r ≤ e
+    → (1 ≤ m + 1) × (m + 1 ≤ 12) × (month_days y (m + 1 - 1) + (e - r) ≡ d)
+next_month y m e d h f l c g k =
+    let s : m + 1 - 1 ≡ m = omega arith in
+    let t = month_more y m f in
+    elim (dec_lt m 12) [
+      | yes u ↦ (omega arith, omega arith, rw s (omega arith))
+      | no u ↦
+          let q : m ≡ 12 = omega arith in
+          let r : month_days y m ≡ month_days y 12 = ap (month_days y) q in
+          absurd (omega arith)
+    ]
 
 -- where the counting starts
 pub no_years : (n : ℕ) → year_days 0 + n ≡ n

@@ -1,6 +1,6 @@
 -- A segment, its end, its tag and its limits (document 01, "Bytes and segments"; numbers 4, 5 and 6).
 -- Assumes nothing.
-use Rattle.std.specs.Prelude.{ℕ, suc, ◌+◌, ◌*◌, Bool, false, List, [], ◌∷◌, leb, ltb, length, drop, Result, Ok, Err}
+use Rattle.std.specs.Prelude.{ℕ, suc, ◌+◌, ◌*◌, Bool, false, List, [], ◌∷◌, leb, ltb, length, drop, Option, Some, None, Result, Ok, Err}
 use Rattle.laws.specs.Choice.{pick, both, all}
 use Rattle.answers.specs.declared.Refusal.{Refusal}
 use Rattle.answers.specs.Answers.{Answer, done, naming, byte_not_permitted, input_ends, wrong_segment, number, position}
@@ -72,6 +72,11 @@ scanned_answer at (Err error) = error_answer at error
 -- and as the reader hands on what is wrong
 abbrev pub refusal_of : ℕ → ScanError → Refusal
 refusal_of at error = naming (number (error_answer at error)) (position (error_answer at error))
+
+-- the same of any outcome: none where the segment is whole
+abbrev pub scanned_refusal : ℕ → Result ℕ ScanError → Option Refusal
+scanned_refusal at (Ok e) = None
+scanned_refusal at (Err error) = Some (refusal_of at error)
 
 -- "in it 4, 5, 6": what is answered of the body g of a segment at an offset, in an input of n bytes
 unfoldable pub body_answer : ℕ → ℕ → List ℕ → Answer ℕ

@@ -2,7 +2,7 @@
 
 ghost use Rattle.std.specs.Prelude.{◌≡◌, not, Ok, Err, ◌+◌, ◌≤◌, ◌<◌, min, eqb, leb, length, drop};
 ghost use Rattle.laws.specs.Choice.{pick, both};
-ghost use Rattle.syntax.specs.Segment.{capital, segment_at, scanned_answer, refusal_of, segment_answer, tag_number};
+ghost use Rattle.syntax.specs.Segment.{capital, segment_at, scanned_answer, refusal_of, scanned_refusal, segment_answer, tag_number};
 ghost use Rattle.syntax.specs.Tags.{tag_closes, tag_ahead};
 ghost use Rattle.syntax.specs.Found.{end_from, told_of};
 ghost use Rattle.syntax.specs.Quick.{quick_of};
@@ -35,6 +35,16 @@ impl ScanError {
             ScanError::Unended => Reason::InputEnds.at(at),
             ScanError::Malformed => Reason::WrongSegment.at(at),
         }
+    }
+}
+
+/// The refusal of a scan at an offset; none where the segment is whole.
+pub fn refusal_of_scan(scanned: Result<usize, ScanError>, at: usize) -> Option<Refusal>
+    ensures { result ≡ scanned_refusal at scanned }
+{
+    match scanned {
+        Ok(_) => None,
+        Err(error) => Some(error.refusal(at)),
     }
 }
 

@@ -5,7 +5,7 @@
 ghost use Rattle.std.specs.Prelude.{◌≡◌, ◌≤◌, length};
 ghost use Rattle.laws.specs.Put.{put_at};
 ghost use Rattle.syntax.specs.Bytes.{plain};
-ghost use Rattle.values.specs.Values.{same_text, copied_of};
+ghost use Rattle.values.specs.Values.{next_at, same_text, copied_of};
 
 /// The characters of a part: its bytes after release.
 #[derive(Drop)]
@@ -39,6 +39,34 @@ pub fn characters(part: &[u8]) -> AfterRelease<'_>
     ensures { result.rest.now ≡ part.now }
 {
     AfterRelease { rest: part }
+}
+
+/// A byte after release, and the index past it.
+#[derive(Clone, Copy, PartialEq, Eq, Debug)]
+pub struct Next {
+    pub byte: u8,
+    pub past: usize,
+}
+
+/// The byte after release at an index that is not released itself.
+pub fn next_byte(part: &[u8], i: usize) -> Option<Next>
+    ensures { result ≡ next_at part.now i }
+{
+    if part.len() <= i {
+        return None;
+    }
+    let byte = part[i];
+    if byte != b'?' {
+        return Some(Next { byte, past: i + 1 });
+    }
+    let k = i + 1;
+    if part.len() <= k {
+        return None;
+    }
+    Some(Next {
+        byte: part[k],
+        past: k + 1,
+    })
 }
 
 /// The number of characters after release.

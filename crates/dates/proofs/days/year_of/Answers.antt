@@ -14,7 +14,7 @@ loop-year-init c = no_years c.args.number
 pub loop-year-preserved : goal.loop-year-preserved
 loop-year-preserved c =
     let l = c.loop-year in
-    next_year l.year l.left c.args.number l.auto.year l.invariant c.year_length-length.ensures c.if-left-length.false
+    (next_year l.year l.left c.args.number c.requires l.auto.year (omega (arith, l.auto.year-end)) l.invariant c.year_length-length.ensures c.if-left-length.false).2
 
 pub unreachable-requires : goal.unreachable-requires
 unreachable-requires c =
