@@ -3,7 +3,7 @@
 -- Assumes nothing.
 use Rattle.std.specs.Prelude.{ℕ, ◌+◌, ◌*◌, ◌%◌, ◌<◌, ◌≡◌, Bool, false, not, eqb, length, get_or, set, replicate}
 use Rattle.std.proofs.Common.{sym, subst, ◌∙◌, arith, eqb-true, length-set, get_or-set_same, get_or-set_other}
-use Rattle.std.proofs.Math.Path.{ap}
+use Rattle.std.proofs.Math.Path.{refl, ap}
 use Rattle.std.proofs.Math.Bool.{true}
 use mathlib.Core.List.{List}
 use Rattle.std.proofs.Math.Decide.{dec_lt}
@@ -17,8 +17,9 @@ use Rattle.values.specs.Values.{same_text}
 use Rattle.services.specs.declared.Service.{Service}
 use Rattle.services.specs.Rows.{offset_at, row_count}
 use Rattle.services.specs.Search.{none_holds}
-use Rattle.services.specs.Services.{is_service, service_number, says_number, is_same_service, is_twice, service_at, is_wrong, tested_of}
+use Rattle.services.specs.Services.{is_service, service_number, says_number, is_same_service, is_twice, service_at, services_from, is_wrong, tested_of}
 use Rattle.services.specs.Walks.{First}
+use Rattle.services.specs.Ways.{Next}
 use Rattle.slots.specs.Words.{high_of, low_of}
 use Rattle.service_entries.specs.Room.{number_bytes}
 use Rattle.rooms.specs.Order.{same_told}
@@ -119,6 +120,23 @@ module _ (marks s rows : List ℕ) (i : ℕ) (w : Marked marks s rows i) where
                 let e : v.from ≡ j = omega arith in
                 subst (λ (x : ℕ). is_marked (set marks (mark_of (number_in s v)) 1) (mark_of (plain (bytes_of s (service_number s (offset_at rows x))))) ≡ true) e
                 (ap (λ (y : List ℕ). is_marked (set marks (mark_of (number_in s v)) 1) (mark_of y)) (sym (number_of_row s rows n v.from v f.own)) ∙ marked_there marks (mark_of (number_in s v)) below)
+          ]
+
+  -- and past the rows of that service, in which none begins
+  pub marked_past : (m : ℕ) (v : Service) → Next s rows m i v → Marked (set marks (mark_of (number_in s v)) 1) s rows v.to
+  marked_past m v n = record { size = on.size; seen = seen_past }
+    where
+      first : First s rows (row_count rows m) i v (services_from s rows (row_count rows m) (v.from + 1))
+      first = record { others = refl; further = n.further; inside = omega (arith, n.some, n.inside); own = n.own; before = n.before }
+
+      on : Marked (set marks (mark_of (number_in s v)) 1) s rows (v.from + 1)
+      on = marked_on (row_count rows m) v (services_from s rows (row_count rows m) (v.from + 1)) first
+
+      seen_past : (j : ℕ) → j < v.to → is_service rows j ≡ true → is_marked (set marks (mark_of (number_in s v)) 1) (mark_of (plain (bytes_of s (service_number s (offset_at rows j))))) ≡ true
+      seen_past j h q =
+          elim (dec_lt j (v.from + 1)) [
+            | yes a ↦ on.seen j a q
+            | no a ↦ absurd (false≢true (sym (n.behind j (omega arith) h) ∙ q))
           ]
 
 -- ---- 11 and 12 by the marks
