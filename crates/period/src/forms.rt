@@ -15,7 +15,9 @@ fn is_present(part: &[u8]) -> bool
     characters(part).next().is_some()
 }
 
-// Whether a part is of `0` and `1` alone, at most one for each of n days.
+// Whether a part is of `0` and `1` alone, at most one for each of n days. In a function of its own, so that the count stays out of memory: among all
+// the values of the callers there is no register left for it.
+#[inline(never)]
 fn is_day_string(part: &[u8], n: usize) -> bool
     ensures { result ≡ day_string n (plain part.now) }
 {
